@@ -7,7 +7,6 @@ use Rattle.staat_vec.specs.declared.vector.Sign.TheVariants.{Neg, Zero, Pos}
 use Rattle.staat_vec.specs.Vectors.{dot, cross, minus, negative, origin, sign}
 use Rattle.staat_vec.proofs.Ring.{at, num, ◌⊖◌, ◌⊗◌, opp, ring, ring_by, ring_by_two, zero-mul_ℤ}
 use Rattle.staat_vec.proofs.VecRing.{dotE, crossE, minusE, timesE, values, v0, v1, v2, scale, cross_self, dot_scale, dot_negative, dot_cross_left}
-use Rattle.staat_vec.proofs.Order.{pos_mul, negative_mul}
 use Rattle.staat_model.specs.declared.tree.Kind.TheVariants.{Edge}
 use Rattle.staat_model.specs.Cells.{signs_of, kind_of, IsBorder, IsCell}
 use Rattle.staat_model.proofs.CellLemmas.{zeros, edge_zeros, kind_edge}
@@ -22,7 +21,7 @@ use Rattle.staat_cells.proofs.Zeros.{one_zero}
 use Rattle.staat_vec.proofs.Integers.{mul-zero_ℤ, other_factor_zero, opposite_zero_back, opposite_zero, products_zero, products_swapped}
 use Rattle.staat_vec.proofs.Divisors.{neg-neg}
 use Rattle.staat_vec.proofs.VectorLaws.{dot_cross_about, some_square, dot_origin}
-use Rattle.staat_vec.proofs.Signs.{sign_some, positive_sign, negative_sign, zero_sign}
+use Rattle.staat_vec.proofs.Signs.{sign_some, sign_times, zero_sign}
 
 -- ---- numbers
 
@@ -34,15 +33,6 @@ mul_some (pos (suc a)) (negsuc b) n m e = omega (arith, ints)
 mul_some (negsuc a) (pos zero) n m e = m refl
 mul_some (negsuc a) (pos (suc b)) n m e = omega (arith, ints)
 mul_some (negsuc a) (negsuc b) n m e = omega (arith, ints)
-
--- a positive factor keeps the sign
-pub sign_times : (a : ℕ) (x : ℤ) → sign (pos (suc a) *ℤ x) ≡ sign x
-sign_times a (pos zero) = ap sign (none a)
-  where
-    none : (a : ℕ) → pos (suc a) *ℤ pos 0 ≡ pos 0
-    none a = omega (arith, ints)
-sign_times a (pos (suc n)) = positive_sign (pos (suc a) *ℤ pos (suc n)) (pos_mul (pos (suc a)) (pos (suc n)) (omega (arith, ints)) (omega (arith, ints)))
-sign_times a (negsuc n) = negative_sign (pos (suc a) *ℤ negsuc n) (negative_mul (pos (suc a)) (negsuc n) (omega (arith, ints)) (omega (arith, ints)))
 
 same_sign : (a b : ℕ) (x y : ℤ) → pos (suc a) *ℤ x ≡ pos (suc b) *ℤ y → sign x ≡ sign y
 same_sign a b x y e = sym (sign_times a x) ∙ ap sign e ∙ sign_times b y

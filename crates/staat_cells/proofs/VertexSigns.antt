@@ -1,5 +1,5 @@
 -- The vertices of planes and their signs.
-use Rattle.std.proofs.Common.{◌≡◌, ◌≢◌, ℕ, zero, suc, ◌≤◌, refl, sym, ap, subst, ◌∙◌, arith, ℤ, pos, negsuc, neg_ℤ, ◌*ℤ◌, inl, inr, ⊎_elim, List, [], ◌∷◌, Contains}
+use Rattle.std.proofs.Common.{◌≡◌, ◌≢◌, zero, suc, refl, sym, ap, subst, ◌∙◌, ℤ, pos, negsuc, neg_ℤ, inl, inr, ⊎_elim, List, [], ◌∷◌, Contains}
 use Rattle.staat_vec.specs.declared.vector.V3.{V3}
 use Rattle.staat_vec.specs.declared.vector.Sign.{Sign}
 use Rattle.staat_vec.specs.declared.vector.Sign.TheVariants.{Neg, Zero, Pos}
@@ -20,10 +20,10 @@ use Rattle.staat_model.proofs.FacetLemmas.{across_crosses}
 use Rattle.staat_model.proofs.PlaneLemmas.{NoneParallel}
 use Rattle.staat_model.proofs.VertexLemmas.{in_vertices}
 use Rattle.staat_cells.proofs.Beside.{at_plane, from_planes}
-use Rattle.staat_cells.proofs.EdgeIncidences.{IsCrossed, sign_times, dot_same}
+use Rattle.staat_cells.proofs.EdgeIncidences.{IsCrossed, dot_same}
 use Rattle.staat_cells.proofs.Zeros.{two_zeros, point_kind, two_planes}
 use Rattle.staat_model.proofs.ListedVertices.{vertex_some}
-use Rattle.staat_vec.proofs.Signs.{zero_sign}
+use Rattle.staat_vec.proofs.Signs.{times_sign, zero_sign}
 use Rattle.staat_model.proofs.PointLemmas.{point_zeros}
 
 -- ---- the planes of a vertex
@@ -47,10 +47,6 @@ vertex_point planes v apart has =
     point_kind (signs_of planes v) (two_zeros (λ n. sign (dot n v)) planes x.g x.h x.g_in x.h_in x.independent (ap sign x.on_g) (ap sign x.on_h))
 
 -- ---- a direction on two planes
-
-times_sign : (k : ℕ) (a : ℤ) → 1 ≤ k → sign (pos k *ℤ a) ≡ sign a
-times_sign zero a h = absurd (omega arith)
-times_sign (suc k) a h = sign_times k a
 
 -- a direction and the primitive vector on its ray have the same signs
 pub primitive_signs : (planes : List V3) (d : V3) → d ≢ origin → signs_of planes (primitive d) ≡ signs_of planes d

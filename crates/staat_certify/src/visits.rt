@@ -35,7 +35,7 @@ use indexmap::IndexSet;
 use staat_model::{Sound, Witness};
 use staat_planes::{PlaneTable, Steps};
 use staat_ring::{Rings, Walk};
-use staat_vec::{OutOfMemory, V3, first_nonzero};
+use staat_vec::{OutOfMemory, V3};
 use std::alloc::Global;
 use std::sync::ledger::{Blank, Ledger};
 
@@ -76,10 +76,10 @@ impl Found {
 }
 
 // whether the vertex is one of the directions of the version, which has one of two opposite ones or both
-fn is_listed(version: u32, d: V3) -> bool
-    ensures { IsTrue result ↔ (version ≡ 2 → IsCanon d) }
+fn is_listed(version: u32, walk: &Walk) -> bool
+    ensures { IsTrue result ↔ (version ≡ 2 → IsCanon walk.now.vertex) }
 {
-    version != 2 || first_nonzero(d) > 0
+    version != 2 || walk.is_canon()
 }
 
 // whether the witness at the vertex is the one at the vertex that was visited last
@@ -170,11 +170,11 @@ fn keep_visit(
     ensures here { OnOk result (IsVisitedDirection version found.new.visited.items walk.now.vertex) }
     ensures kept { OnOk result (AreStillVisited found.old.visited.items found.new.visited.items) }
 {
-    let d = walk.at();
-    if !is_listed(version, d) {
+    if !is_listed(version, walk) {
         return Ok(());
     }
     let number = number_here(alloc, sound, table, walk, found)?;
+    let d = walk.at();
     found.visited.push(Visit { d, number })?;
     Ok(())
 }

@@ -1,6 +1,6 @@
 // The vertex in which two planes cross.
-ghost use Rattle.std.specs.Prelude.{◌≡◌, ◌≢◌, ◌<◌, length};
-ghost use Rattle.staat_vec.specs.Primitives.{primitive};
+ghost use Rattle.std.specs.Prelude.{◌≡◌, ◌≢◌, ◌<◌, ◌↔◌, IsTrue, length};
+ghost use Rattle.staat_vec.specs.Primitives.{IsCanon, primitive};
 ghost use Rattle.staat_vec.specs.Vectors.{IsWithin, cross};
 ghost use Rattle.staat_ring.specs.Rings.{crossing, facet_by};
 ghost use Rattle.staat_ring.specs.Walked.{DoCross};
@@ -8,7 +8,7 @@ ghost use Rattle.staat_ring.specs.Walked.{DoCross};
 use crate::Entry;
 use staat_pairs::crossing;
 use staat_planes::PlaneTable;
-use staat_vec::{DIRECTION, V3, neg};
+use staat_vec::{DIRECTION, V3, cross_normal, first_nonzero, neg};
 use std::marker::Model;
 
 /// The crossing of two planes, seen as its direction. It is computed only when it is asked for.
@@ -51,6 +51,14 @@ impl Vertex {
     {
         let _set = table.set();
         Vertex::new(table.plane(c), table.plane(entry.plane), entry.turned)
+    }
+
+    /// Whether the first component of the direction other than zero is positive. The primitive vector is not computed.
+    pub fn is_canon(&self) -> bool
+        ensures { IsTrue result ↔ IsCanon self.now }
+    {
+        let first = first_nonzero(cross_normal(self.own, self.other));
+        if self.turned { first < 0 } else { first > 0 }
     }
 
     /// The direction.

@@ -17,6 +17,7 @@ ghost use Rattle.std.specs.Prelude.{
   ◌≤◌,
 };
 ghost use Rattle.staat_vec.specs.Lists.{IsFirst};
+ghost use Rattle.staat_vec.specs.Primitives.{IsCanon};
 ghost use Rattle.staat_vec.specs.Vectors.{IsWithin, dot};
 ghost use Rattle.staat_model.specs.declared.assembly.Part.{Part as PartValue};
 ghost use Rattle.staat_model.specs.declared.set.PartSet.{PartSet as PartSetValue};
@@ -204,12 +205,19 @@ impl Walk {
         })
     }
 
-    /// The vertex at which the walk stands. Only this call forms a product.
+    /// The vertex at which the walk stands. This call and `is_canon` alone form products.
     pub fn at(&self) -> V3
         ensures is { result ≡ self.now.vertex }
         ensures within { IsWithin DIRECTION result }
     {
         self.vertex.direction()
+    }
+
+    /// Whether the first component of the vertex other than zero is positive.
+    pub fn is_canon(&self) -> bool
+        ensures { IsTrue result ↔ IsCanon self.now.vertex }
+    {
+        self.vertex.is_canon()
     }
 
     /// The blocking graph at the vertex, among parts of which all planes are linked.

@@ -1,13 +1,14 @@
 -- Of two opposite vectors exactly one is canonical.
-use Rattle.std.proofs.Common.{◌≡◌, ◌≢◌, ◌⊎◌, inl, inr, ℕ, zero, suc, true, false, if◌then◌else◌, refl, sym, ap, subst, ◌∙◌, arith, ℤ, pos, negsuc, neg_ℤ, ◌<ℤ◌}
+use Rattle.std.proofs.Common.{◌≡◌, ◌≢◌, ◌⊎◌, inl, inr, ℕ, zero, suc, true, false, if◌then◌else◌, refl, sym, ap, subst, ◌∙◌, arith, ℤ, pos, negsuc, neg_ℤ, ◌<ℤ◌, ◌*ℤ◌}
 use Rattle.std.specs.Prelude.{int_lt}
 use Rattle.std.proofs.lemmas.Int.{ints}
 use Rattle.staat_vec.specs.declared.vector.V3.{V3}
-use Rattle.staat_vec.specs.Vectors.{IsWithin, origin, negative, cross}
-use Rattle.staat_vec.specs.Primitives.{IsPrimitive, or_next, first_nonzero, IsCanon, canon}
+use Rattle.staat_vec.specs.Vectors.{IsWithin, origin, negative, cross, sign}
+use Rattle.staat_vec.specs.Primitives.{IsPrimitive, IsPrimitiveOf, or_next, first_nonzero, IsCanon, canon}
 use Rattle.staat_vec.proofs.Bounds.{IsWithin-negative}
 use Rattle.staat_vec.proofs.Divisors.{neg-neg}
 use Rattle.staat_vec.proofs.Primitives.{IsPrimitive-some, IsPrimitive-negative, parallel_primitives}
+use Rattle.staat_vec.proofs.Signs.{times_sign}
 use Rattle.staat_vec.proofs.VecRing.{same_vector}
 
 pub negative-negative : (v : V3) → negative (negative v) ≡ v
@@ -32,6 +33,24 @@ first_nonzero-zero v e =
     let (x, rest) = or_next-zero v.x (or_next v.y v.z) e in
     let (y, z) = or_next-zero v.y v.z rest in
     same_vector v origin x y z
+
+or_next-sign : (a b c d : ℤ) → sign a ≡ sign c → sign b ≡ sign d → sign (or_next a b) ≡ sign (or_next c d)
+or_next-sign (pos zero) b (pos zero) d e f = f
+or_next-sign (pos zero) b (pos (suc n)) d e f = cc
+or_next-sign (pos zero) b (negsuc n) d e f = cc
+or_next-sign (pos (suc m)) b (pos zero) d e f = cc
+or_next-sign (pos (suc m)) b (pos (suc n)) d e f = refl
+or_next-sign (pos (suc m)) b (negsuc n) d e f = cc
+or_next-sign (negsuc m) b (pos zero) d e f = cc
+or_next-sign (negsuc m) b (pos (suc n)) d e f = cc
+or_next-sign (negsuc m) b (negsuc n) d e f = refl
+
+-- the first component that is not 0 has the same sign in a vector and in the primitive one on its ray
+pub first_nonzero-sign : (v p : V3) → IsPrimitiveOf v p → sign (first_nonzero v) ≡ sign (first_nonzero p)
+first_nonzero-sign v p of =
+    let same : (a b : ℤ) → a ≡ pos of.factor *ℤ b → sign a ≡ sign b = λ a b e. ap sign e ∙ times_sign of.factor b of.positive in
+    or_next-sign v.x (or_next v.y v.z) p.x (or_next p.y p.z) (same v.x p.x (ap (λ (u : V3). u.x) of.multiple))
+    (or_next-sign v.y v.z p.y p.z (same v.y p.y (ap (λ (u : V3). u.y) of.multiple)) (same v.z p.z (ap (λ (u : V3). u.z) of.multiple)))
 
 -- ---- the choice, by the sign of the first component that is not 0
 

@@ -12,13 +12,6 @@ read_back w z n h k = to_z-of_z w z (fits_signed_from_abs w z (omega arith))
 pub within_back : (w : Width) (z : ℤ) (m n : ℕ) → unsigned_abs z ≤ m → m < 2 ^ hbits w → m ≤ n → unsigned_abs (to_z w (of_z w z)) ≤ n
 within_back w z m n h k l = rw (read_back w z m h k) (omega arith)
 
--- for a number r that was read from z
-pub within_twice : (v w : Width) (r z : ℤ) (m n : ℕ) → r ≡ to_z v (of_z v z) → unsigned_abs z ≤ m → m < 2 ^ hbits v → m < 2 ^ hbits w → m ≤ n → unsigned_abs (to_z w (of_z w r)) ≤ n
-within_twice v w r z m n e h k l le = rw (e, read_back v z m h k, read_back w z m h l) (omega arith)
-
-pub read_twice : (v w : Width) (r z : ℤ) (m : ℕ) → r ≡ to_z v (of_z v z) → unsigned_abs z ≤ m → m < 2 ^ hbits v → m < 2 ^ hbits w → to_z w (of_z w r) ≡ z
-read_twice v w r z m e h k l = rw (e, read_back v z m h k, read_back w z m h l)
-
 pub plus_fits : (w : Width) (a b : ℤ) (m n : ℕ) → unsigned_abs a ≤ m → unsigned_abs b ≤ n → m + n < 2 ^ hbits w → FitsSigned w (to_z w (of_z w a) +ℤ to_z w (of_z w b))
 plus_fits w a b m n h k l =
     rw (read_back w a m h (omega arith), read_back w b n k (omega arith))

@@ -1,9 +1,10 @@
 -- The sign of a number, and the number of a sign.
 use Rattle.staat_vec.specs.declared.vector.Sign.TheVariants.{Zero, Pos, Neg}
-use Rattle.std.proofs.Common.{negsuc, pos, refl, suc, zero, ℤ, ◌≡◌, arith, ◌<ℤ◌, ◌≢◌, inl, inr, ◌⊎◌}
+use Rattle.std.proofs.Common.{negsuc, pos, refl, suc, zero, ℕ, ℤ, ◌≡◌, ◌≤◌, ap, arith, ◌<ℤ◌, ◌*ℤ◌, ◌≢◌, inl, inr, ◌⊎◌}
 use Rattle.staat_vec.specs.Vectors.{sign}
 use Rattle.std.proofs.lemmas.Int.{ints}
 use Rattle.staat_vec.specs.declared.vector.Sign.{Sign}
+use Rattle.staat_vec.proofs.Order.{negative_mul, pos_mul}
 
 pub zero_sign : (z : ℤ) → sign z ≡ Zero → z ≡ pos 0
 zero_sign (pos zero) e = refl
@@ -38,3 +39,16 @@ pub sign_zero_or : (t : Sign) → (t ≡ Zero) ⊎ (t ≢ Zero)
 sign_zero_or Neg = inr (λ e. cc)
 sign_zero_or Zero = inl refl
 sign_zero_or Pos = inr (λ e. cc)
+
+-- a positive factor keeps the sign
+pub sign_times : (a : ℕ) (x : ℤ) → sign (pos (suc a) *ℤ x) ≡ sign x
+sign_times a (pos zero) = ap sign (none a)
+  where
+    none : (a : ℕ) → pos (suc a) *ℤ pos 0 ≡ pos 0
+    none a = omega (arith, ints)
+sign_times a (pos (suc n)) = positive_sign (pos (suc a) *ℤ pos (suc n)) (pos_mul (pos (suc a)) (pos (suc n)) (omega (arith, ints)) (omega (arith, ints)))
+sign_times a (negsuc n) = negative_sign (pos (suc a) *ℤ negsuc n) (negative_mul (pos (suc a)) (negsuc n) (omega (arith, ints)) (omega (arith, ints)))
+
+pub times_sign : (k : ℕ) (a : ℤ) → 1 ≤ k → sign (pos k *ℤ a) ≡ sign a
+times_sign zero a h = absurd (omega arith)
+times_sign (suc k) a h = sign_times k a

@@ -1,5 +1,6 @@
 use Rattle.std.proofs.Common.{◌≡◌, ◌∙◌, ◌++◌, ◌∷◌, [], Contains, ap, rules, subst, sym}
 use Rattle.staat_vec.specs.declared.vector.V3.{V3}
+use Rattle.staat_vec.specs.Primitives.{IsCanon}
 use Rattle.staat_model.specs.Certify.{IsDirection, NamesWitness}
 use Rattle.staat_model.specs.Planes.{vertices}
 use Rattle.staat_certify.specs.declared.visits.Visit.{Visit}
@@ -23,7 +24,7 @@ returns-clause-found c =
       keys_are = here.keys_are;
       each = all_more old new visit is (λ v. IsDirection c.args.version table.planes v.d) c.requires.found.each (record {
         vertex = subst (Contains (vertices table.planes)) (sym c.at-d.ensures.is) c.requires.vertex;
-        canonical = c.is_listed.ensures.0 (search rules);
+        canonical = λ two. subst IsCanon (sym c.at-d.ensures.is) (c.is_listed.ensures.0 (search rules) two);
       });
       named = all_more old new visit is (IsNamed parts table.of after) (named_still parts table.of before after old here.kept c.requires.found.named)
           (subst (λ (u : V3). NamesWitness parts table.of after (record { d = u; witness = c.in_ok-number.number })) (sym c.at-d.ensures.is) here.names);
