@@ -50,8 +50,8 @@ use Rattle.staat_vec.proofs.ListLaws.{Contains-from_map, Contains-map, place_of}
 use Rattle.staat_vec.proofs.Naturals.{lt_one_more_cases}
 
 -- all planes of the table's set are linked
-pub whole : (t : Table) (w : Walked) (stands : StandsAmong t w) (parts : List Part) → HasAll parts t.of t.planes (linked_of stands.rings)
-whole t w stands parts k n at is = stands.all k (slice_get_within t.planes k n at)
+pub whole : (parts : List Part) (t : Table) (w : Walked) (stands : StandsAmong parts t w) → HasAll parts t.of t.planes (linked_of stands.rings)
+whole parts t w stands k n at is = stands.all k (slice_get_within t.planes k n at)
 
 -- where no plane is unlinked, the circles are those of all planes
 pub whole_rings : (planes : List V3) (a : Arrangement) → WereMadeFrom planes a → a.unlinked ≡ [] → AreRings planes a.rings []

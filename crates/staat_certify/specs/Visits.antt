@@ -1,6 +1,6 @@
 -- What a walk over the vertices of a table's planes has found: the directions that it has visited, and their
 -- witnesses.
-use Rattle.std.specs.Prelude.{◌≡◌, ℕ, ◌<◌, List, All, Contains, Some, length, map, slice_get, true}
+use Rattle.std.specs.Prelude.{◌≡◌, ℕ, ◌<◌, List, [], All, Contains, Some, length, map, slice_get, true}
 use Rattle.std.specs.List.Sorted.{IsStrictlySortedBy}
 use Rattle.staat_vec.specs.declared.vector.V3.{V3}
 use Rattle.staat_vec.specs.Primitives.{IsCanon}
@@ -9,6 +9,7 @@ use Rattle.staat_model.specs.declared.assembly.Part.{Part}
 use Rattle.staat_model.specs.declared.certificate.Witness.{Witness}
 use Rattle.staat_model.specs.declared.set.PartSet.{PartSet}
 use Rattle.staat_model.specs.Certify.{IsDirection, NamesWitness}
+use Rattle.staat_model.specs.Plans.{IsStuck}
 use Rattle.staat_graph.specs.Graphs.{AreTrees, HasArc}
 use Rattle.staat_pairs.specs.Tables.{Table, WasMadeFrom}
 use Rattle.staat_certify.specs.declared.visits.Found.{Found}
@@ -16,18 +17,24 @@ use Rattle.staat_certify.specs.declared.visits.Visit.{Visit}
 use Rattle.staat_certify.specs.declared.witnesses.GraphTrees.{GraphTrees}
 use Rattle.staat_certify.specs.WitnessListings.{AreKeys}
 use Rattle.staat_ring.specs.Places.{IsStopAt}
-use Rattle.staat_ring.specs.Rings.{Ring, RingStop, linked_of, vertex_of}
+use Rattle.staat_ring.specs.Rings.{Arrangement, Ring, RingStop, WereMadeFrom, linked_of, vertex_of}
 use Rattle.staat_ring.specs.Walked.{IsEntered, WalkWasMadeFrom, Walked}
 
--- the walk was made from the table, which was made from some parts, and stands at a vertex of circles on which all
+-- the table was made from the parts and the walk from the table, and it stands at a vertex of circles on which all
 -- planes of the table are linked
-pub record StandsAmong (t : Table) (w : Walked) : Type 0 where
+pub record StandsAmong (parts : List Part) (t : Table) (w : Walked) : Type 0 where
+  pub from : WasMadeFrom parts t
   pub made : WalkWasMadeFrom t w
   pub rings : List Ring
   pub entered : IsEntered t.planes rings w
   pub all : (k : ℕ) → k < length t.planes → Contains (linked_of rings) k
-  pub parts : List Part
-  pub from : WasMadeFrom parts t
+
+-- the parts, some of which are stuck, the table of these, and the circles of all its planes
+pub record IsSurvey (parts : List Part) (t : Table) (circles : Arrangement) : Type 0 where
+  pub made : WasMadeFrom parts t
+  pub stuck : IsStuck parts t.of
+  pub rings : WereMadeFrom t.planes circles
+  pub all : circles.unlinked ≡ []
 
 -- the trees are those of the graph, if any graph was looked at
 pub record KeepsTrees (w : PartSet) (kept : GraphTrees) : Type 0 where

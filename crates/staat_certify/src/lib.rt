@@ -1,11 +1,11 @@
 //! The certificate of a plan or of a refusal.
 #![tactic(auto)]
 
-mod arcs;
 mod certificate;
 pub mod laws;
 mod listing;
 mod nodes;
+mod vantage;
 mod visits;
 mod walls;
 mod witnesses;

@@ -8,7 +8,7 @@ ghost use Rattle.staat_model.specs.Sets.{below};
 ghost use Rattle.staat_certify.specs.Plans.{AreWithin};
 ghost use Rattle.staat_certify.specs.Plans.{AddsNodes, HasPartNumbers};
 
-use crate::walls::push_split;
+use crate::walls::Parting;
 use staat_cone::FacetSource;
 use staat_model::{Assembly, Body, Node, Nodes, PartSet, Tree};
 use staat_vec::{DIRECTION, OutOfMemory};
@@ -44,15 +44,15 @@ fn push_nodes<F: FacetSource>(
             Ok(())
         }
         Tree::Split { d, moved, rest } => {
-            push_split(
+            let parting = Parting {
                 alloc,
                 source,
                 assembly,
-                leaves_of(moved),
-                leaves_of(rest),
-                *d,
-                nodes,
-            )?;
+                side: leaves_of(moved),
+                rest: leaves_of(rest),
+                d: *d,
+            };
+            parting.push_split(nodes)?;
             push_nodes(alloc, source, assembly, moved, nodes)?;
             push_nodes(alloc, source, assembly, rest, nodes)
         }

@@ -39,157 +39,123 @@ fn first_away(facets: &[V3], d: V3) -> Option<V3>
     None
 }
 
-// the least facet of two pieces that d does not lead ahead of
-fn least_wall<F: FacetSource>(
-    alloc: Global,
-    source: &F,
-    p: &Piece,
-    q: &Piece,
-    d: V3,
-) -> Result<V3, OutOfMemory>
-    requires direction { IsWithin DIRECTION d }
-    requires apart { Meets p.now q.now d → ⊥ }
-    ensures { IfOk result (IsLeastWall p.now q.now d) }
-{
-    // pieces are solid
-    let _first = p.points();
-    let _second = q.points();
-    let facets = source.facets(alloc, p, q)?;
-    match first_away(facets.as_slice(), d) {
-        Some(n) => Ok(n),
-        None => unreachable!(),
-    }
+/// A side that moves along a direction away from the rest, and a source of the facets of two pieces.
+#[derive(Drop)]
+pub(crate) struct Parting<'a, F: FacetSource> {
+    pub alloc: Global,
+    pub source: &'a F,
+    pub assembly: &'a Assembly,
+    pub side: PartSet,
+    pub rest: PartSet,
+    pub d: V3,
 }
 
-// adds the wall of an arc
-fn push_wall<F: FacetSource>(
-    alloc: Global,
-    source: &F,
-    assembly: &Assembly,
-    arc: Arc,
-    d: V3,
-    seps: &mut Vec<Sep>,
-) -> Result<(), OutOfMemory>
-    requires direction { IsWithin DIRECTION d }
-    requires pieces { HasPieces assembly.now arc }
-    requires apart { MeetsAlong assembly.now d arc → ⊥ }
-    ensures { OnOk result (AddsWalls assembly.now d (λ other. other ≡ arc) seps.old.items seps.new.items) }
-{
-    let p = assembly.piece(arc.a, arc.i);
-    let q = assembly.piece(arc.b, arc.j);
-    let n = least_wall(alloc, source, p, q, d)?;
-    seps.push(Sep { arc, n })?;
-    Ok(())
-}
+impl<'a, F: FacetSource> Parting<'a, F> {
+    // the least facet of two pieces that the direction does not lead ahead of
+    fn least_wall(&self, p: &Piece, q: &Piece) -> Result<V3, OutOfMemory>
+        requires direction { IsWithin DIRECTION self.now.d }
+        requires apart { Meets p.now q.now self.now.d → ⊥ }
+        ensures { IfOk result (IsLeastWall p.now q.now self.now.d) }
+    {
+        // pieces are solid
+        let _first = p.points();
+        let _second = q.points();
+        let facets = self.source.facets(self.alloc, p, q)?;
+        match first_away(facets.as_slice(), self.d) {
+            Some(n) => Ok(n),
+            None => unreachable!(),
+        }
+    }
 
-// adds the walls for piece i of part a and the pieces of part b, where that is a part of r
-fn walls_to<F: FacetSource>(
-    alloc: Global,
-    source: &F,
-    assembly: &Assembly,
-    s: PartSet,
-    r: PartSet,
-    d: V3,
-    a: u32,
-    i: u32,
-    b: u32,
-    seps: &mut Vec<Sep>,
-) -> Result<(), OutOfMemory>
-    requires direction { IsWithin DIRECTION d }
-    requires free { IsFree assembly.now s r d }
-    requires first { Has s a }
-    requires part { a < length assembly.now }
-    requires piece { i < piece_count assembly.now a }
-    requires second { b < length assembly.now }
-    ensures { OnOk result (AddsWalls assembly.now d (IsAcrossTo assembly.now s r a i b) seps.old.items
-        seps.new.items) }
-{
-    // an assembly has few parts
-    let _parts = assembly.parts();
-    if !r.has(b) {
-        return Ok(());
+    // adds the wall of an arc
+    fn push_wall(&self, arc: Arc, seps: &mut Vec<Sep>) -> Result<(), OutOfMemory>
+        requires direction { IsWithin DIRECTION self.now.d }
+        requires pieces { HasPieces self.now.assembly.now arc }
+        requires apart { MeetsAlong self.now.assembly.now self.now.d arc → ⊥ }
+        ensures { OnOk result (AddsWalls self.now.assembly.now self.now.d (λ other. other ≡ arc) seps.old.items
+            seps.new.items) }
+    {
+        let p = self.assembly.piece(arc.a, arc.i);
+        let q = self.assembly.piece(arc.b, arc.j);
+        let n = self.least_wall(p, q)?;
+        seps.push(Sep { arc, n })?;
+        Ok(())
     }
-    for j in 0..assembly.pieces(b) {
-        push_wall(alloc, source, assembly, Arc { a, i, b, j }, d, seps)?;
-    }
-    Ok(())
-}
 
-// adds those for piece i of part a
-fn walls_of_piece<F: FacetSource>(
-    alloc: Global,
-    source: &F,
-    assembly: &Assembly,
-    s: PartSet,
-    r: PartSet,
-    d: V3,
-    a: u32,
-    i: u32,
-    seps: &mut Vec<Sep>,
-) -> Result<(), OutOfMemory>
-    requires direction { IsWithin DIRECTION d }
-    requires free { IsFree assembly.now s r d }
-    requires first { Has s a }
-    requires part { a < length assembly.now }
-    requires piece { i < piece_count assembly.now a }
-    ensures { OnOk result (AddsWalls assembly.now d (IsAcrossFromPiece assembly.now s r a i) seps.old.items
-        seps.new.items) }
-{
-    for b in 0..assembly.parts() {
-        walls_to(alloc, source, assembly, s, r, d, a, i, b, seps)?;
+    // adds the walls for piece i of part a and the pieces of part b, where that is a part of the rest
+    fn walls_to(&self, a: u32, i: u32, b: u32, seps: &mut Vec<Sep>) -> Result<(), OutOfMemory>
+        requires direction { IsWithin DIRECTION self.now.d }
+        requires free { IsFree self.now.assembly.now self.now.side self.now.rest self.now.d }
+        requires first { Has self.now.side a }
+        requires part { a < length self.now.assembly.now }
+        requires piece { i < piece_count self.now.assembly.now a }
+        requires second { b < length self.now.assembly.now }
+        ensures { OnOk result (AddsWalls self.now.assembly.now self.now.d
+            (IsAcrossTo self.now.assembly.now self.now.side self.now.rest a i b) seps.old.items seps.new.items) }
+    {
+        // an assembly has few parts
+        let _parts = self.assembly.parts();
+        if !self.rest.has(b) {
+            return Ok(());
+        }
+        for j in 0..self.assembly.pieces(b) {
+            self.push_wall(Arc { a, i, b, j }, seps)?;
+        }
+        Ok(())
     }
-    Ok(())
-}
 
-// adds those for part a, where it is a part of s
-fn walls_of_part<F: FacetSource>(
-    alloc: Global,
-    source: &F,
-    assembly: &Assembly,
-    s: PartSet,
-    r: PartSet,
-    d: V3,
-    a: u32,
-    seps: &mut Vec<Sep>,
-) -> Result<(), OutOfMemory>
-    requires direction { IsWithin DIRECTION d }
-    requires free { IsFree assembly.now s r d }
-    requires part { a < length assembly.now }
-    ensures { OnOk result (AddsWalls assembly.now d (IsAcrossFrom assembly.now s r a) seps.old.items seps.new.items) }
-{
-    // an assembly has few parts
-    let _parts = assembly.parts();
-    if !s.has(a) {
-        return Ok(());
+    // adds those for piece i of part a
+    fn walls_of_piece(&self, a: u32, i: u32, seps: &mut Vec<Sep>) -> Result<(), OutOfMemory>
+        requires direction { IsWithin DIRECTION self.now.d }
+        requires free { IsFree self.now.assembly.now self.now.side self.now.rest self.now.d }
+        requires first { Has self.now.side a }
+        requires part { a < length self.now.assembly.now }
+        requires piece { i < piece_count self.now.assembly.now a }
+        ensures { OnOk result (AddsWalls self.now.assembly.now self.now.d
+            (IsAcrossFromPiece self.now.assembly.now self.now.side self.now.rest a i) seps.old.items
+            seps.new.items) }
+    {
+        for b in 0..self.assembly.parts() {
+            self.walls_to(a, i, b, seps)?;
+        }
+        Ok(())
     }
-    for i in 0..assembly.pieces(a) {
-        walls_of_piece(alloc, source, assembly, s, r, d, a, i, seps)?;
-    }
-    Ok(())
-}
 
-/// Adds the node of a split at which `s` moves along `d` away from `r`, with its walls: for each piece of a part of `s`
-/// and each of a part of `r` the least facet that `d` does not lead ahead of.
-pub fn push_split<F: FacetSource>(
-    alloc: Global,
-    source: &F,
-    assembly: &Assembly,
-    s: PartSet,
-    r: PartSet,
-    d: V3,
-    nodes: &mut Vec<Node>,
-) -> Result<(), OutOfMemory>
-    requires direction { IsWithin DIRECTION d }
-    requires free { IsFree assembly.now s r d }
-    ensures { OnOk result (AddsSplit assembly.now s r d nodes.old.items nodes.new.items) }
-{
-    let mut seps = Vec::new(alloc);
-    for a in 0..assembly.parts() {
-        walls_of_part(alloc, source, assembly, s, r, d, a, &mut seps)?;
+    // adds those for part a, where it is a part of the side
+    fn walls_of_part(&self, a: u32, seps: &mut Vec<Sep>) -> Result<(), OutOfMemory>
+        requires direction { IsWithin DIRECTION self.now.d }
+        requires free { IsFree self.now.assembly.now self.now.side self.now.rest self.now.d }
+        requires part { a < length self.now.assembly.now }
+        ensures { OnOk result (AddsWalls self.now.assembly.now self.now.d
+            (IsAcrossFrom self.now.assembly.now self.now.side self.now.rest a) seps.old.items seps.new.items) }
+    {
+        // an assembly has few parts
+        let _parts = self.assembly.parts();
+        if !self.side.has(a) {
+            return Ok(());
+        }
+        for i in 0..self.assembly.pieces(a) {
+            self.walls_of_piece(a, i, seps)?;
+        }
+        Ok(())
     }
-    nodes.push(Node::Split {
-        d,
-        seps: Seps::from_vec(seps),
-    })?;
-    Ok(())
+
+    /// Adds the node of the split, with its walls: for each piece of a part of the side and each of a part of the rest
+    /// the least facet that the direction does not lead ahead of.
+    pub(crate) fn push_split(&self, nodes: &mut Vec<Node>) -> Result<(), OutOfMemory>
+        requires direction { IsWithin DIRECTION self.now.d }
+        requires free { IsFree self.now.assembly.now self.now.side self.now.rest self.now.d }
+        ensures { OnOk result (AddsSplit self.now.assembly.now self.now.side self.now.rest self.now.d nodes.old.items
+            nodes.new.items) }
+    {
+        let mut seps = Vec::new(self.alloc);
+        for a in 0..self.assembly.parts() {
+            self.walls_of_part(a, &mut seps)?;
+        }
+        nodes.push(Node::Split {
+            d: self.d,
+            seps: Seps::from_vec(seps),
+        })?;
+        Ok(())
+    }
 }

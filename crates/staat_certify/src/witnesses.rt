@@ -6,16 +6,13 @@ ghost use Rattle.staat_model.specs.Certify.{IsLeastArc, IsWitnessAt};
 ghost use Rattle.staat_model.specs.Plans.{IsStuck};
 ghost use Rattle.staat_graph.specs.Blocking.{ShowsBlocking};
 ghost use Rattle.staat_graph.specs.Graphs.{AreTrees, HasArc};
-ghost use Rattle.staat_pairs.specs.Tables.{WasMadeFrom};
 ghost use Rattle.staat_certify.specs.Witnesses.{AreEndsAhead, AreEndsAndLeast, AreTreesAlong};
 ghost use Rattle.staat_certify.specs.Visits.{KeepsTrees, StandsAmong};
 
-use crate::arcs::least_arc;
+use crate::vantage::Vantage;
 use staat_graph::{Graph, Trees, trees_of};
 use staat_limits::MOST_PARTS;
-use staat_model::{Arc, Arcs, Sound, Witness};
-use staat_planes::PlaneTable;
-use staat_ring::Walk;
+use staat_model::{Arc, Arcs, Witness};
 use staat_vec::OutOfMemory;
 use std::alloc::Global;
 
@@ -44,25 +41,15 @@ impl GraphTrees {
     }
 }
 
-// the blocking graph at the vertex
-fn graph_here(sound: &Sound, table: &PlaneTable, walk: &Walk) -> Graph
-    requires made { WasMadeFrom sound.now table.now }
-    requires stands { StandsAmong table.now walk.now }
-    ensures { ShowsBlocking sound.now walk.now.vertex table.now.of result.rows }
-{
-    let _set = table.set();
-    walk.graph()
-}
-
 // the trees of the graph at the vertex, which is strong because the set is stuck
-fn trees_here(sound: &Sound, table: &PlaneTable, walk: &Walk, graph: &Graph) -> Trees
-    requires made { WasMadeFrom sound.now table.now }
-    requires stuck { IsStuck sound.now table.now.of }
-    requires some { walk.now.vertex ≢ origin }
-    requires shows { ShowsBlocking sound.now walk.now.vertex table.now.of graph.now.rows }
-    ensures { AreTrees (HasArc graph.now.rows) table.now.of result }
+fn trees_here(at: &Vantage, graph: &Graph) -> Trees
+    requires at { StandsAmong at.now.sound.now at.now.table.now at.now.walk.now }
+    requires stuck { IsStuck at.now.sound.now at.now.table.now.of }
+    requires some { at.now.walk.now.vertex ≢ origin }
+    requires shows { ShowsBlocking at.now.sound.now at.now.walk.now.vertex at.now.table.now.of graph.now.rows }
+    ensures { AreTrees (HasArc graph.now.rows) at.now.table.now.of result }
 {
-    let w = table.set();
+    let w = at.table.set();
     match trees_of(graph, w) {
         Some(trees) => trees,
         None => unreachable!(),
@@ -70,80 +57,64 @@ fn trees_here(sound: &Sound, table: &PlaneTable, walk: &Walk, graph: &Graph) -> 
 }
 
 /// Makes the trees those of the graph at the vertex, anew only where that is another graph.
-pub fn renew_trees(kept: &mut GraphTrees, sound: &Sound, table: &PlaneTable, walk: &Walk)
-    requires made { WasMadeFrom sound.now table.now }
-    requires stuck { IsStuck sound.now table.now.of }
-    requires stands { StandsAmong table.now walk.now }
-    requires some { walk.now.vertex ≢ origin }
-    requires kept { KeepsTrees table.now.of kept.old }
-    ensures kept { KeepsTrees table.now.of kept.new }
-    ensures along { AreTreesAlong sound.now table.now walk.now.vertex kept.new.trees }
+pub(crate) fn renew_trees(kept: &mut GraphTrees, at: &Vantage)
+    requires at { StandsAmong at.now.sound.now at.now.table.now at.now.walk.now }
+    requires stuck { IsStuck at.now.sound.now at.now.table.now.of }
+    requires some { at.now.walk.now.vertex ≢ origin }
+    requires kept { KeepsTrees at.now.table.now.of kept.old }
+    ensures kept { KeepsTrees at.now.table.now.of kept.new }
+    ensures along { AreTreesAlong at.now.sound.now at.now.table.now at.now.walk.now.vertex kept.new.trees }
 {
-    let w = table.set();
+    let w = at.table.set();
     let _root = w.least();
-    let graph = graph_here(sound, table, walk);
+    let graph = at.graph();
     if kept.known && kept.graph == graph {
         return;
     }
     *kept = GraphTrees {
         known: true,
         graph,
-        trees: trees_here(sound, table, walk, &graph),
+        trees: trees_here(at, &graph),
     };
 }
 
 // the first pieces with which the one part blocks the other
-fn arc_between(sound: &Sound, table: &PlaneTable, walk: &Walk, ends: (u32, u32)) -> Arc
-    requires made { WasMadeFrom sound.now table.now }
-    requires stands { StandsAmong table.now walk.now }
-    requires ahead { AreEndsAhead table.now walk.now.vertex ends }
+fn arc_between(at: &Vantage, ends: (u32, u32)) -> Arc
+    requires at { StandsAmong at.now.sound.now at.now.table.now at.now.walk.now }
+    requires ahead { AreEndsAhead at.now.table.now at.now.walk.now.vertex ends }
     ensures ends { outward result ≡ ends }
-    ensures least { IsLeastArc sound.now walk.now.vertex result }
+    ensures least { IsLeastArc at.now.sound.now at.now.walk.now.vertex result }
 {
-    match least_arc(table, walk, ends.0, ends.1) {
+    match at.least_arc(ends.0, ends.1) {
         Some(arc) => arc,
         None => unreachable!(),
     }
 }
 
 // those of each pair of parts
-fn arcs_between(
-    alloc: Global,
-    sound: &Sound,
-    table: &PlaneTable,
-    walk: &Walk,
-    pairs: &[(u32, u32)],
-) -> Result<Vec<Arc>, OutOfMemory>
-    requires made { WasMadeFrom sound.now table.now }
-    requires stands { StandsAmong table.now walk.now }
-    requires ahead { All (AreEndsAhead table.now walk.now.vertex) pairs.now }
-    ensures { IfOk result (λ arcs. AreEndsAndLeast sound.now walk.now.vertex pairs.now arcs.items) }
+fn arcs_between(alloc: Global, at: &Vantage, pairs: &[(u32, u32)]) -> Result<Vec<Arc>, OutOfMemory>
+    requires at { StandsAmong at.now.sound.now at.now.table.now at.now.walk.now }
+    requires ahead { All (AreEndsAhead at.now.table.now at.now.walk.now.vertex) pairs.now }
+    ensures { IfOk result (λ arcs. AreEndsAndLeast at.now.sound.now at.now.walk.now.vertex pairs.now arcs.items) }
 {
     let mut arcs = Vec::new(alloc);
     for ends in pairs {
-        arcs.push(arc_between(sound, table, walk, *ends))?;
+        arcs.push(arc_between(at, *ends))?;
     }
     Ok(arcs)
 }
 
 // whether the arcs are those of these pairs of parts
-fn are_between(
-    sound: &Sound,
-    table: &PlaneTable,
-    walk: &Walk,
-    pairs: &[(u32, u32)],
-    arcs: &[Arc],
-) -> bool
-    requires made { WasMadeFrom sound.now table.now }
-    requires stands { StandsAmong table.now walk.now }
-    requires ahead { All (AreEndsAhead table.now walk.now.vertex) pairs.now }
-    ensures { IsTrue result → AreEndsAndLeast sound.now walk.now.vertex pairs.now arcs.now }
+fn are_between(at: &Vantage, pairs: &[(u32, u32)], arcs: &[Arc]) -> bool
+    requires at { StandsAmong at.now.sound.now at.now.table.now at.now.walk.now }
+    requires ahead { All (AreEndsAhead at.now.table.now at.now.walk.now.vertex) pairs.now }
+    ensures { IsTrue result → AreEndsAndLeast at.now.sound.now at.now.walk.now.vertex pairs.now arcs.now }
 {
     if arcs.len() != pairs.len() {
         return false;
     }
     for k in 0..pairs.len() {
-        let arc = arc_between(sound, table, walk, pairs[k]);
+        let arc = arc_between(at, pairs[k]);
         if arc != arcs[k] {
             return false;
         }
@@ -152,52 +123,31 @@ fn are_between(
 }
 
 /// Whether the witness is the one at the vertex, which has these trees.
-pub fn is_witness(
-    sound: &Sound,
-    table: &PlaneTable,
-    walk: &Walk,
-    trees: &Trees,
-    witness: &Witness,
-) -> bool
-    requires made { WasMadeFrom sound.now table.now }
-    requires stands { StandsAmong table.now walk.now }
-    requires along { AreTreesAlong sound.now table.now walk.now.vertex trees.now }
-    ensures { IsTrue result → IsWitnessAt sound.now table.now.of walk.now.vertex witness.now }
+pub(crate) fn is_witness(at: &Vantage, trees: &Trees, witness: &Witness) -> bool
+    requires at { StandsAmong at.now.sound.now at.now.table.now at.now.walk.now }
+    requires along { AreTreesAlong at.now.sound.now at.now.table.now at.now.walk.now.vertex trees.now }
+    ensures { IsTrue result → IsWitnessAt at.now.sound.now at.now.table.now.of at.now.walk.now.vertex witness.now }
 {
-    let _set = table.set();
+    let _set = at.table.set();
     let count = trees.count as usize;
-    are_between(
-        sound,
-        table,
-        walk,
-        &trees.outs[..count],
-        witness.outs.as_slice(),
-    ) && are_between(
-        sound,
-        table,
-        walk,
-        &trees.ins[..count],
-        witness.ins.as_slice(),
-    )
+    are_between(at, &trees.outs[..count], witness.outs.as_slice())
+        && are_between(at, &trees.ins[..count], witness.ins.as_slice())
 }
 
 /// The witness that along the vertex, which has these trees, no side of the table's set is free of its rest.
-pub fn witness_here(
+pub(crate) fn witness_here(
     alloc: Global,
-    sound: &Sound,
-    table: &PlaneTable,
-    walk: &Walk,
+    at: &Vantage,
     trees: &Trees,
 ) -> Result<Witness, OutOfMemory>
-    requires made { WasMadeFrom sound.now table.now }
-    requires stands { StandsAmong table.now walk.now }
-    requires along { AreTreesAlong sound.now table.now walk.now.vertex trees.now }
-    ensures { IfOk result (IsWitnessAt sound.now table.now.of walk.now.vertex) }
+    requires at { StandsAmong at.now.sound.now at.now.table.now at.now.walk.now }
+    requires along { AreTreesAlong at.now.sound.now at.now.table.now at.now.walk.now.vertex trees.now }
+    ensures { IfOk result (IsWitnessAt at.now.sound.now at.now.table.now.of at.now.walk.now.vertex) }
 {
-    let _set = table.set();
+    let _set = at.table.set();
     let count = trees.count as usize;
-    let outs = arcs_between(alloc, sound, table, walk, &trees.outs[..count])?;
-    let ins = arcs_between(alloc, sound, table, walk, &trees.ins[..count])?;
+    let outs = arcs_between(alloc, at, &trees.outs[..count])?;
+    let ins = arcs_between(alloc, at, &trees.ins[..count])?;
     Ok(Witness {
         outs: Arcs::from_vec(outs),
         ins: Arcs::from_vec(ins),

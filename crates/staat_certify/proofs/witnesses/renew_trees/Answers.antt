@@ -7,11 +7,11 @@ use Rattle.staat_certify.proofs.witnesses.renew_trees.Goals as goal
 
 pub returns-then-eq-clause-along : goal.returns-then-eq-clause-along
 returns-then-eq-clause-along c =
-    let same = pointwise_same c.args.kept.now.graph.rows c.graph_here-graph.result.rows (sym c.if-eq.ensures) in
+    let same = pointwise_same c.args.kept.now.graph.rows c.graph-graph.result.rows (sym c.if-eq.ensures) in
     record {
       root = c.least-root.result;
       root_is = subst (λ (s : PartSet). IsLeastOf s c.least-root.result) c.set-w.ensures.is c.least-root.ensures.least;
       rows = c.args.kept.now.graph.rows;
-      shows = subst (λ (rows : List ℕ). ShowsBlocking c.args.sound.now c.args.walk.now.vertex c.args.table.now.of rows) (sym same) c.graph_here-graph.ensures;
+      shows = subst (λ (rows : List ℕ). ShowsBlocking c.args.at.now.sound.now c.args.at.now.walk.now.vertex c.args.at.now.table.now.of rows) (sym same) c.graph-graph.ensures;
       trees_are = c.requires.kept.trees c.if-kept.true;
     }

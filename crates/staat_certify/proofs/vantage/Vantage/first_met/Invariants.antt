@@ -1,0 +1,5 @@
+use Rattle.staat_certify.proofs.ArcLemmas.{NoneBelow}
+use Rattle.staat_certify.proofs.vantage.Vantage.first_met.Given as goal
+
+abbrev pub invariant-loop-j : goal.invariant-loop-j
+invariant-loop-j l = NoneBelow l.self.table.now l.self.walk.now.vertex l.a l.i l.b l.j
