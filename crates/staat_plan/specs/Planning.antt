@@ -1,11 +1,12 @@
 -- What the planner finds for a set of parts.
-use Rattle.std.specs.Prelude.{◌++◌, ℕ, List, Option, Bool, MatchOption, IfSome}
+use Rattle.std.specs.Prelude.{◌≡◌, ◌≤◌, ◌++◌, ℕ, List, Option, Bool, MatchOption, IfSome, length, true}
 use Rattle.std.specs.Option.{option_to_list}
 use Rattle.staat_vec.specs.declared.vector.TheConstants.{DIRECTION}
 use Rattle.staat_vec.specs.Vectors.{IsWithin}
 use Rattle.staat_model.specs.declared.assembly.Part.{Part}
 use Rattle.staat_model.specs.declared.set.PartSet.{PartSet}
 use Rattle.staat_model.specs.declared.tree.Outcome.{Outcome}
+use Rattle.staat_limits.specs.declared.limits.TheConstants.{LEAST_PLANES, MOST_CELL_PLANES, MOST_PLANES}
 use Rattle.staat_model.specs.Outcomes.{Finding, HasNoStep, IsOutcome, IsStep, Try, finding_of, planned, stuck}
 use Rattle.staat_model.specs.Plans.{IsGood, IsStuck, split}
 use Rattle.staat_model.specs.Sets.{IsSide, IsSubset}
@@ -13,6 +14,15 @@ use Rattle.staat_pairs.specs.Tables.{Table, WasMadeFrom}
 use Rattle.staat_certify.specs.Certifying.{HasFewPlanes}
 use Rattle.staat_certify.specs.Plans.{AreWithin}
 use Rattle.staat_plan.specs.declared.marked.Marked.{Marked}
+use Rattle.staat_plan.specs.declared.planner.Options.{Options}
+
+-- the table was made from the parts and has no more planes than are allowed, and so many are within the limits
+pub record IsPlanner (parts : List Part) (t : Table) (options : Options) : Type 0 where
+  pub made : WasMadeFrom parts t
+  pub few : length t.planes ≤ options.planes
+  pub least : LEAST_PLANES ≤ options.planes
+  pub most : options.planes ≤ MOST_PLANES
+  pub cells : options.robust ≡ true → options.planes ≤ MOST_CELL_PLANES
 
 -- each direction of a plan that is found is within the bound
 abbrev pub IsSized : Finding → Type 0

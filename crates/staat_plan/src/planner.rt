@@ -11,7 +11,7 @@ ghost use Rattle.staat_planes.specs.declared.refusal.PlanesRefusal.TheVariants.{
 ghost use Rattle.staat_planes.specs.Refusals.{IsPlanesRefusal};
 ghost use Rattle.staat_certify.specs.Certifying.{CanBeCertified, HasFewPlanes};
 ghost use Rattle.staat_plan.specs.Marks.{AreMarksRight};
-ghost use Rattle.staat_plan.specs.Planning.{IsOutcomeOf, Settles, IsSetStep, IsSized, IsStepOf, joined_finding};
+ghost use Rattle.staat_plan.specs.Planning.{IsOutcomeOf, IsPlanner, IsSetStep, IsSized, IsStepOf, Settles, joined_finding};
 ghost use Rattle.staat_plan.specs.RingSets.{IsReadyFor};
 
 use crate::cell_steps::{cell_step, first_open_step};
@@ -90,92 +90,6 @@ fn vertex_step(
     match early_step(table, w) {
         Some(found) => Ok(found),
         None => walked_step(alloc, table, w, walker),
-    }
-}
-
-// the step of a set of parts by all cells of its planes, which are those of a table of its own: its facets are those of
-// the table
-fn own_step<F: FacetSource>(
-    alloc: Global,
-    source: &F,
-    sound: &Sound,
-    table: &PlaneTable,
-    w: PartSet,
-    limit: u32,
-) -> Result<Option<Marked>, PlanRefusal>
-    requires some { IsNonempty w }
-    requires parts { (p : ℕ) → Has w p → p < length sound.now }
-    requires made { WasMadeFrom sound.now table.now }
-    requires least { LEAST_PLANES ≤ limit }
-    requires most { limit ≤ MOST_CELL_PLANES }
-    ensures { MatchResult result (IsStepOf true sound.now w limit) (IsPlanesRefusal sound.now w limit) }
-{
-    let own = tabulate(alloc, &Tabulated::of(source, sound, table), sound, w, limit)?;
-    Ok(cell_step(alloc, &own)?)
-}
-
-// The step of a set of parts of the table in a robust plan. Most sets that come apart do so in their first open cell;
-// where no vertex serves a set, no cell does, by the law `tries_decide`; and where it comes apart along one line alone,
-// no other vertex is looked at. For all three the one table is enough. Only where none of them decides are all cells
-// made.
-fn robust_step<F: FacetSource>(
-    alloc: Global,
-    source: &F,
-    sound: &Sound,
-    table: &PlaneTable,
-    w: PartSet,
-    limit: u32,
-) -> Result<Option<Marked>, PlanRefusal>
-    requires two { 2 ≤ set.len w }
-    requires parts { (p : ℕ) → Has w p → p < length sound.now }
-    requires made { WasMadeFrom sound.now table.now }
-    requires within { IsSubset w table.now.of }
-    requires few { length table.now.planes ≤ limit }
-    requires least { LEAST_PLANES ≤ limit }
-    requires most { limit ≤ MOST_CELL_PLANES }
-    ensures { MatchResult result (IsStepOf true sound.now w limit) (IsPlanesRefusal sound.now w limit) }
-{
-    if let Some(found) = first_open_step(alloc, table, w)? {
-        return Ok(Some(found));
-    }
-    let Some(first) = step_of(table, w) else {
-        return Ok(None);
-    };
-    if let Some(found) = lone_step(alloc, table, w, first)? {
-        return Ok(Some(found));
-    }
-    if table.set().within(w) {
-        return Ok(cell_step(alloc, table)?);
-    }
-    own_step(alloc, source, sound, table, w, limit)
-}
-
-// the step of a set of two parts or more of the table, if it has one
-fn next_step<F: FacetSource>(
-    alloc: Global,
-    source: &F,
-    sound: &Sound,
-    table: &PlaneTable,
-    walker: &mut Option<Walker>,
-    w: PartSet,
-    options: Options,
-) -> Result<Option<Marked>, PlanRefusal>
-    requires ready { IsReadyFor table.now walker.old }
-    requires two { 2 ≤ set.len w }
-    requires parts { (p : ℕ) → Has w p → p < length sound.now }
-    requires made { WasMadeFrom sound.now table.now }
-    requires within { IsSubset w table.now.of }
-    requires few { length table.now.planes ≤ options.planes }
-    requires least { LEAST_PLANES ≤ options.planes }
-    requires cells { options.robust ≡ true → options.planes ≤ MOST_CELL_PLANES }
-    ensures ready { IsReadyFor table.now walker.new }
-    ensures step { MatchResult result (IsStepOf options.robust sound.now w options.planes)
-        (IsPlanesRefusal sound.now w options.planes) }
-{
-    if options.robust {
-        robust_step(alloc, source, sound, table, w, options.planes)
-    } else {
-        Ok(vertex_step(alloc, table, w, walker)?)
     }
 }
 
@@ -269,67 +183,114 @@ fn join_sides(
     }
 }
 
-// the outcome of a set of parts of the table: the moved side is planned first, and then the rest
-fn outcome_of_set<F: FacetSource>(
+// An assembly that is planned, the table of all its parts, and a source of the facets of two pieces.
+#[derive(Drop)]
+struct Planner<'a, F: FacetSource> {
     alloc: Global,
-    source: &F,
-    sound: &Sound,
-    table: &PlaneTable,
-    walker: &mut Option<Walker>,
-    w: PartSet,
+    source: &'a F,
+    sound: &'a Sound,
+    table: &'a PlaneTable,
     options: Options,
-) -> Result<Outcome, PlanRefusal>
-    requires ready { IsReadyFor table.now walker.old }
-    requires some { IsNonempty w }
-    requires parts { (p : ℕ) → Has w p → p < length sound.now }
-    requires made { WasMadeFrom sound.now table.now }
-    requires within { IsSubset w table.now.of }
-    requires few { length table.now.planes ≤ options.planes }
-    requires least { LEAST_PLANES ≤ options.planes }
-    requires most { options.planes ≤ MOST_PLANES }
-    requires cells { options.robust ≡ true → options.planes ≤ MOST_CELL_PLANES }
-    ensures ready { IsReadyFor table.now walker.new }
-    ensures outcome { MatchResult result (IsOutcomeOf options.robust sound.now w options.planes)
-        (IsPlanesRefusal sound.now w options.planes) }
-{
-    if w.count() == 1 {
-        return Ok(leaf(alloc, w.least()));
-    }
-    let Some(found) = next_step(alloc, source, sound, table, walker, w, options)? else {
-        return Ok(Outcome::Stuck(w));
-    };
-    let step = found.step;
-    let moved = outcome_of_set(alloc, source, sound, table, walker, step.moved, options)?;
-    if let Outcome::Stuck(a) = &moved {
-        return Ok(Outcome::Stuck(*a));
-    }
-    let other = w.without(step.moved);
-    let rest = outcome_of_set(alloc, source, sound, table, walker, other, options)?;
-    join_sides(alloc, found, moved, rest)
 }
 
-// the outcome of a set of parts, with no walk begun
-fn outcome_at_first<F: FacetSource>(
-    alloc: Global,
-    source: &F,
-    sound: &Sound,
-    table: &PlaneTable,
-    w: PartSet,
-    options: Options,
-) -> Result<Outcome, PlanRefusal>
-    requires some { IsNonempty w }
-    requires parts { (p : ℕ) → Has w p → p < length sound.now }
-    requires made { WasMadeFrom sound.now table.now }
-    requires within { IsSubset w table.now.of }
-    requires few { length table.now.planes ≤ options.planes }
-    requires least { LEAST_PLANES ≤ options.planes }
-    requires most { options.planes ≤ MOST_PLANES }
-    requires cells { options.robust ≡ true → options.planes ≤ MOST_CELL_PLANES }
-    ensures outcome { MatchResult result (IsOutcomeOf options.robust sound.now w options.planes)
-        (IsPlanesRefusal sound.now w options.planes) }
-{
-    let mut walker = None;
-    outcome_of_set(alloc, source, sound, table, &mut walker, w, options)
+impl<'a, F: FacetSource> Planner<'a, F> {
+    // the step of a set of parts by all cells of its planes, which are those of a table of its own: its facets are
+    // those of the table
+    fn own_step(&self, w: PartSet) -> Result<Option<Marked>, PlanRefusal>
+        requires planner { IsPlanner self.now.sound.now self.now.table.now self.now.options }
+        requires robust { self.now.options.robust ≡ true }
+        requires some { IsNonempty w }
+        requires parts { (p : ℕ) → Has w p → p < length self.now.sound.now }
+        ensures { MatchResult result (IsStepOf true self.now.sound.now w self.now.options.planes)
+            (IsPlanesRefusal self.now.sound.now w self.now.options.planes) }
+    {
+        let source = Tabulated::of(self.source, self.sound, self.table);
+        let own = tabulate(self.alloc, &source, self.sound, w, self.options.planes)?;
+        Ok(cell_step(self.alloc, &own)?)
+    }
+
+    // The step of a set of parts of the table in a robust plan. Most sets that come apart do so in their first open
+    // cell; where no vertex serves a set, no cell does, by the law `tries_decide`; and where it comes apart along one
+    // line alone, no other vertex is looked at. For all three the one table is enough. Only where none of them decides
+    // are all cells made.
+    fn robust_step(&self, w: PartSet) -> Result<Option<Marked>, PlanRefusal>
+        requires planner { IsPlanner self.now.sound.now self.now.table.now self.now.options }
+        requires robust { self.now.options.robust ≡ true }
+        requires two { 2 ≤ set.len w }
+        requires parts { (p : ℕ) → Has w p → p < length self.now.sound.now }
+        requires within { IsSubset w self.now.table.now.of }
+        ensures { MatchResult result (IsStepOf true self.now.sound.now w self.now.options.planes)
+            (IsPlanesRefusal self.now.sound.now w self.now.options.planes) }
+    {
+        if let Some(found) = first_open_step(self.alloc, self.table, w)? {
+            return Ok(Some(found));
+        }
+        let Some(first) = step_of(self.table, w) else {
+            return Ok(None);
+        };
+        if let Some(found) = lone_step(self.alloc, self.table, w, first)? {
+            return Ok(Some(found));
+        }
+        if self.table.set().within(w) {
+            return Ok(cell_step(self.alloc, self.table)?);
+        }
+        self.own_step(w)
+    }
+
+    // the step of a set of two parts or more of the table, if it has one
+    fn next_step(
+        &self,
+        walker: &mut Option<Walker>,
+        w: PartSet,
+    ) -> Result<Option<Marked>, PlanRefusal>
+        requires planner { IsPlanner self.now.sound.now self.now.table.now self.now.options }
+        requires ready { IsReadyFor self.now.table.now walker.old }
+        requires two { 2 ≤ set.len w }
+        requires parts { (p : ℕ) → Has w p → p < length self.now.sound.now }
+        requires within { IsSubset w self.now.table.now.of }
+        ensures ready { IsReadyFor self.now.table.now walker.new }
+        ensures step { MatchResult result
+            (IsStepOf self.now.options.robust self.now.sound.now w self.now.options.planes)
+            (IsPlanesRefusal self.now.sound.now w self.now.options.planes) }
+    {
+        if self.options.robust {
+            self.robust_step(w)
+        } else {
+            Ok(vertex_step(self.alloc, self.table, w, walker)?)
+        }
+    }
+
+    // the outcome of a set of parts of the table: the moved side is planned first, and then the rest
+    fn outcome_of_set(
+        &self,
+        walker: &mut Option<Walker>,
+        w: PartSet,
+    ) -> Result<Outcome, PlanRefusal>
+        requires planner { IsPlanner self.now.sound.now self.now.table.now self.now.options }
+        requires ready { IsReadyFor self.now.table.now walker.old }
+        requires some { IsNonempty w }
+        requires parts { (p : ℕ) → Has w p → p < length self.now.sound.now }
+        requires within { IsSubset w self.now.table.now.of }
+        ensures ready { IsReadyFor self.now.table.now walker.new }
+        ensures outcome { MatchResult result
+            (IsOutcomeOf self.now.options.robust self.now.sound.now w self.now.options.planes)
+            (IsPlanesRefusal self.now.sound.now w self.now.options.planes) }
+    {
+        if w.count() == 1 {
+            return Ok(leaf(self.alloc, w.least()));
+        }
+        let Some(found) = self.next_step(walker, w)? else {
+            return Ok(Outcome::Stuck(w));
+        };
+        let step = found.step;
+        let moved = self.outcome_of_set(walker, step.moved)?;
+        if let Outcome::Stuck(a) = &moved {
+            return Ok(Outcome::Stuck(*a));
+        }
+        let other = w.without(step.moved);
+        let rest = self.outcome_of_set(walker, other)?;
+        join_sides(self.alloc, found, moved, rest)
+    }
 }
 
 /// The outcome of an assembly, as [`plan`] answers it, and the table of all parts that it is found by.
@@ -353,7 +314,15 @@ pub fn plan_with_table<F: FacetSource>(
 {
     let all = PartSet::first(sound.assembly().parts());
     let table = tabulate(alloc, source, sound, all, options.planes)?;
-    let outcome = outcome_at_first(alloc, source, sound, &table, all, options)?;
+    let planner = Planner {
+        alloc,
+        source,
+        sound,
+        table: &table,
+        options,
+    };
+    let mut walker = None;
+    let outcome = planner.outcome_of_set(&mut walker, all)?;
     Ok((outcome, table))
 }
 

@@ -1,6 +1,6 @@
 use Rattle.std.proofs.lemmas.Result.{err_from_is_err_and}
 use Rattle.staat_plan.proofs.OutcomeLemmas.{own_found}
-use Rattle.staat_plan.proofs.planner.own_step.Goals as goal
+use Rattle.staat_plan.proofs.planner.Planner.own_step.Goals as goal
 
 pub returns-in_err-own : goal.returns-in_err-own
 returns-in_err-own g c =
@@ -12,5 +12,5 @@ returns-in_err-cell_step g c =
 
 pub returns : goal.returns
 returns g c =
-    own_found c.args.sound.now c.args.w c.args.limit c.in_ok-own.own c.in_ok-cell_step.field-0 c.in_ok-own.ensures
+    own_found c.args.self.now.sound.now c.args.w c.args.self.now.options.planes c.in_ok-own.own c.in_ok-cell_step.field-0 c.in_ok-own.ensures
     c.in_ok-cell_step.ensures
