@@ -10,7 +10,7 @@ ghost use Rattle.staat_confirm.specs.Owners.{AreDirectionsWithin, AreFitNodes, A
 ghost use Rattle.staat_confirm.specs.Splits.{AreClearSplits, IsClearAt, IsUnclearAt, IsUnclearSplit, MeetsAcross};
 
 use crate::ends::ends_of;
-use crate::meeting::first_meeting;
+use crate::meeting::View;
 use crate::sides::parts_within;
 use crate::verdict::ShortReason;
 use staat_cone::FacetSource;
@@ -72,14 +72,13 @@ fn meeting_at<F: FacetSource>(
     let end = judged.ends[middle];
     let moved = parts_within(alloc, judged.owners, k + 1, middle)?;
     let rest = parts_within(alloc, judged.owners, middle, end)?;
-    first_meeting(
+    let view = View {
         alloc,
         source,
+        product: judged.product,
         along,
-        judged.product,
-        moved.as_slice(),
-        rest.as_slice(),
-    )
+    };
+    view.first_meeting(moved.as_slice(), rest.as_slice())
 }
 
 // the rule that the split at node k breaks, of which d is the direction

@@ -1,6 +1,0 @@
-use Rattle.staat_confirm.specs.Found.{MeetsFrom}
-use Rattle.staat_confirm.proofs.Least.{NoneBelow}
-use Rattle.staat_confirm.proofs.meeting.first_from.Given as goal
-
-abbrev pub invariant-loop-i : goal.invariant-loop-i
-invariant-loop-i g l = NoneBelow (MeetsFrom l.product l.along.d l.a l.rest) (λ arc. arc.i) l.i
