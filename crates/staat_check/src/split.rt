@@ -12,7 +12,6 @@ ghost use Rattle.staat_model.specs.Walls.{IsShown};
 ghost use Rattle.staat_check.specs.Forests.{ArePartsOf, IsSepInBounds};
 ghost use Rattle.staat_check.specs.Searches.{TellsPlace};
 
-use crate::missing::first_missing;
 use staat_cone::separates;
 use staat_model::{Arc, Assembly, PartSet, Reason, Sep};
 use staat_vec::{DIRECTION, NORMAL, ORIGIN, V3, dot, is_same};
@@ -60,64 +59,76 @@ fn is_shown(assembly: &Assembly, sep: Sep, d: V3) -> bool
     separates(sep.n, p, q) && dot(sep.n, d) <= 0
 }
 
-// whether the wall is for two pieces across, and shows that the first never meets the second along d
-fn is_wall(assembly: &Assembly, s: PartSet, r: PartSet, d: V3, sep: Sep) -> bool
-    requires s { ArePartsOf assembly.now s }
-    requires r { ArePartsOf assembly.now r }
-    requires direction { IsWithin DIRECTION d }
-    requires sep { IsSepInBounds sep }
-    ensures { IsTrue result ↔ IsWall assembly.now s r d sep }
-{
-    is_across(assembly, s, r, sep.arc) && is_shown(assembly, sep, d)
+/// A split that is judged: the side moves along a direction away from the rest, which the walls are to show.
+#[derive(Drop)]
+pub(crate) struct Parting<'a> {
+    pub assembly: &'a Assembly,
+    pub side: PartSet,
+    pub rest: PartSet,
+    pub d: V3,
+    pub seps: &'a [Sep],
 }
 
-// the first wall that breaks its rule
-fn first_bad_wall(assembly: &Assembly, s: PartSet, r: PartSet, d: V3, seps: &[Sep]) -> Option<u32>
-    requires s { ArePartsOf assembly.now s }
-    requires r { ArePartsOf assembly.now r }
-    requires direction { IsWithin DIRECTION d }
-    requires seps { All IsSepInBounds seps.now }
-    requires few { length seps.now < 2 ^ 32 }
-    ensures answer { TellsPlace (IsWall assembly.now s r d) seps.now result }
-    ensures place { IfSome result (λ m. m < length seps.now) }
-{
-    for (m, sep) in seps.iter().enumerate() {
-        if !is_wall(assembly, s, r, d, *sep) {
-            return Some(m as u32);
+impl<'a> Parting<'a> {
+    // whether the wall is for two pieces across, and shows that the first never meets the second along the direction
+    fn is_wall(&self, sep: Sep) -> bool
+        requires side { ArePartsOf self.now.assembly.now self.now.side }
+        requires rest { ArePartsOf self.now.assembly.now self.now.rest }
+        requires direction { IsWithin DIRECTION self.now.d }
+        requires sep { IsSepInBounds sep }
+        ensures { IsTrue result ↔ IsWall self.now.assembly.now self.now.side self.now.rest self.now.d sep }
+    {
+        is_across(self.assembly, self.side, self.rest, sep.arc)
+            && is_shown(self.assembly, sep, self.d)
+    }
+
+    // the first wall that breaks its rule
+    fn first_bad_wall(&self) -> Option<u32>
+        requires side { ArePartsOf self.now.assembly.now self.now.side }
+        requires rest { ArePartsOf self.now.assembly.now self.now.rest }
+        requires direction { IsWithin DIRECTION self.now.d }
+        requires seps { All IsSepInBounds self.now.seps.now }
+        requires few { length self.now.seps.now < 2 ^ 32 }
+        ensures answer { TellsPlace (IsWall self.now.assembly.now self.now.side self.now.rest self.now.d)
+            self.now.seps.now result }
+        ensures place { IfSome result (λ m. m < length self.now.seps.now) }
+    {
+        for (m, sep) in self.seps.iter().enumerate() {
+            if !self.is_wall(*sep) {
+                return Some(m as u32);
+            }
         }
+        None
     }
-    None
-}
 
-/// The first rule that a split breaks: `s` moves along `d` away from `r`, which the walls `seps` are to show. The
-/// split is the node of this number, on this line.
-pub fn split_reason(
-    assembly: &Assembly,
-    s: PartSet,
-    r: PartSet,
-    d: V3,
-    seps: &[Sep],
-    node: u32,
-    line: u32,
-) -> Option<Reason>
-    requires s { ArePartsOf assembly.now s }
-    requires r { ArePartsOf assembly.now r }
-    requires direction { IsWithin DIRECTION d }
-    requires seps { All IsSepInBounds seps.now }
-    requires ascending { IsStrictlySortedBy arc_cmp (map (λ sep. sep.arc) seps.now) }
-    requires few { line + length seps.now < 2 ^ 32 }
-    ensures { MatchOption result (SplitHolds assembly.now s r d seps.now)
-        (IsSplitReason assembly.now
-        (record { node = node; line = line; moved = s; rest = r; d = d; seps = seps.now })) }
-{
-    if is_same(d, ORIGIN) {
-        return Some(Reason::ZeroDirection(node));
-    }
-    match first_bad_wall(assembly, s, r, d, seps) {
-        Some(m) => Some(Reason::BadSeparator(line + 1 + m)),
-        None => match first_missing(assembly, s, r, seps) {
-            Some(arc) => Some(Reason::MissingSeparator(arc.a, arc.i, arc.b, arc.j)),
-            None => None,
-        },
+    /// The first rule that the split breaks, which is the node of this number, on this line.
+    pub(crate) fn reason(&self, node: u32, line: u32) -> Option<Reason>
+        requires side { ArePartsOf self.now.assembly.now self.now.side }
+        requires rest { ArePartsOf self.now.assembly.now self.now.rest }
+        requires direction { IsWithin DIRECTION self.now.d }
+        requires seps { All IsSepInBounds self.now.seps.now }
+        requires ascending { IsStrictlySortedBy arc_cmp (map (λ sep. sep.arc) self.now.seps.now) }
+        requires few { line + length self.now.seps.now < 2 ^ 32 }
+        ensures { MatchOption result
+            (SplitHolds self.now.assembly.now self.now.side self.now.rest self.now.d self.now.seps.now)
+            (IsSplitReason self.now.assembly.now (record {
+              node = node;
+              line = line;
+              moved = self.now.side;
+              rest = self.now.rest;
+              d = self.now.d;
+              seps = self.now.seps.now;
+            })) }
+    {
+        if is_same(self.d, ORIGIN) {
+            return Some(Reason::ZeroDirection(node));
+        }
+        match self.first_bad_wall() {
+            Some(m) => Some(Reason::BadSeparator(line + 1 + m)),
+            None => match self.first_missing() {
+                Some(arc) => Some(Reason::MissingSeparator(arc.a, arc.i, arc.b, arc.j)),
+                None => None,
+            },
+        }
     }
 }

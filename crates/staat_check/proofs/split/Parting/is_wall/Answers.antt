@@ -1,6 +1,6 @@
 use Rattle.std.proofs.Common.{◌∙◌, refl, sym}
 use Rattle.std.proofs.lemmas.Bool.{false≢true}
-use Rattle.staat_check.proofs.split.is_wall.Goals as goal
+use Rattle.staat_check.proofs.split.Parting.is_wall.Goals as goal
 
 pub returns-then-is_across : goal.returns-then-is_across
 returns-then-is_across c = (
