@@ -55,6 +55,8 @@ impl TextReader for ShortReader {
 
 // Feeds the reader the file of that name to its end, or until it is too long.
 #[tactic(auto, using(crate::proofs::FeedingLemmas::feeding))]
+// what it reads into is large, and is not to be part of its callers' frames
+#[inline(never)]
 fn feed_file<H: Shelf, R: TextReader>(
     shelf: &mut H,
     name: &str,

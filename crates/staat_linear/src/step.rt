@@ -90,6 +90,8 @@ impl Trial for Taking {
 ///
 /// `w` lies in the table's set, and has at least two parts. A part is free where its row of the blocking graph has no
 /// arc to another part of `w`; a direction and its opposite are looked at together. It takes no memory.
+// what it keeps on the stack is large, and is not to be part of its callers' frames
+#[inline(never)]
 pub fn linear_step(table: &PlaneTable, w: PartSet) -> Option<Leave>
     requires set { IsSubset w table.now.of }
     requires two { 2 ≤ set.len w }

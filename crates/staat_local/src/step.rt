@@ -72,6 +72,8 @@ impl<'a> Trial for Contacts<'a> {
 ///
 /// The table was made from this assembly, and its set has at least two parts. Which pieces touch is decided once for
 /// each two. Of a vertex and its negative only the first is looked at. It takes no memory.
+// what it keeps on the stack is large, and is not to be part of its callers' frames
+#[inline(never)]
 pub fn local_step(table: &PlaneTable, sound: &Sound) -> Option<Loose>
     requires made { WasMadeFrom sound.now table.now }
     requires two { 2 ≤ set.len table.now.of }

@@ -49,8 +49,9 @@ const FEW_PAIRS: u32 = 24;
 /// How many pairs of planes are tried, at most, where a core passes over planes.
 const LATE_PAIRS: u32 = 4096;
 
-// the step of the set, if a core decides it: none where it shows that there is none, or the first where it passes over
-// planes
+// The step of the set, if a core decides it: none where it shows that there is none, or the first where it passes over
+// planes. What a core keeps on the stack is large, and is not to be part of the callers' frames.
+#[inline(never)]
 fn late_step(table: &PlaneTable, w: PartSet) -> Option<Option<Marked>>
     requires within { IsSubset w table.now.of }
     requires two { 2 ≤ set.len w }
