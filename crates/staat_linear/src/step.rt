@@ -1,12 +1,13 @@
 // The step of a set of parts: the part that is taken away next, and its direction.
-ghost use Rattle.std.specs.Prelude.{◌≡◌, ◌<◌, ◌≤◌, ◌↔◌, List, IfSome, IsTrue, MatchOption, None};
+ghost use Rattle.std.specs.Prelude.{◌≡◌, ◌≢◌, ◌<◌, ◌≤◌, ◌↔◌, List, IfSome, IsTrue, MatchOption, None};
 ghost use Rattle.std.specs.FinSet as set;
-ghost use Rattle.staat_vec.specs.Vectors.{IsWithin};
+ghost use Rattle.staat_vec.specs.Vectors.{IsWithin, origin};
 ghost use Rattle.staat_model.specs.declared.assembly.Part.{Part as PartValue};
-ghost use Rattle.staat_model.specs.Sets.{Has, IsSubset};
+ghost use Rattle.staat_model.specs.Sets.{Has, IsNonempty, IsSubset};
 ghost use Rattle.staat_pairs.specs.Tables.{WasMadeFrom};
-ghost use Rattle.staat_linear.specs.Holding.{AreHeld, IsHeld, IsLeastFree};
-ghost use Rattle.staat_linear.specs.Orders.{HasNoLeave, IsLeave, IsLocked};
+ghost use Rattle.staat_planes.specs.VertexSearch.{IfFound, IsFirstOfTwo};
+ghost use Rattle.staat_linear.specs.Holding.{AreHeld, IsHeld, IsLeastFree, IsLeastLeaving};
+ghost use Rattle.staat_linear.specs.Orders.{HasNoLeave, IsLeave, IsLocked, LetsLeave};
 
 use crate::order::Leave;
 use staat_core::{Moving, SetCore, served_on_axis};
@@ -39,7 +40,59 @@ fn least_free(graph: &Graph, w: PartSet) -> Option<u32>
     None
 }
 
-// The search for a part that leaves. It keeps a core by which all parts are held.
+// The least part of w that leaves along the direction, or else along its opposite, where the arcs are turned round.
+fn part_along(table: &PlaneTable, w: PartSet, d: V3) -> Tried<u32>
+    requires nonempty { IsNonempty w }
+    requires within { IsSubset w table.now.of }
+    requires size { IsWithin DIRECTION d }
+    requires some { d ≢ origin }
+    ensures among { IfFound result (λ p. Has w p) }
+    ensures tried { (parts : List PartValue) → WasMadeFrom parts table.now
+        → IsFirstOfTwo (λ d. LetsLeave parts w d) (λ d p. IsLeastLeaving parts w d p) d result }
+{
+    let graph = table.graph_in(w, d);
+    if let Some(p) = least_free(&graph, w) {
+        return Tried::Ahead(p);
+    }
+    match least_free(&graph.reversed(), w) {
+        Some(p) => Tried::Opposite(p),
+        None => Tried::Neither,
+    }
+}
+
+// The look for a part that leaves, which keeps nothing.
+#[derive(Drop)]
+struct PartLook;
+
+impl Trial for PartLook {
+    ghost use Rattle.std.specs.Prelude.{⊤};
+
+    type Found = u32;
+
+    ghost fits = { λ s t w. IsNonempty w };
+
+    ghost knows = { λ s parts. ⊤ };
+
+    ghost serves = { λ parts w d. LetsLeave parts w d };
+
+    ghost finds = { λ parts w d p. IsLeastLeaving parts w d p };
+
+    ghost among = { λ w p. Has w p };
+
+    fn ask(&mut self, table: &PlaneTable, w: PartSet, d: V3) -> Tried<u32> {
+        part_along(table, w, d)
+    }
+
+    fn rules_out(&mut self, _table: &PlaneTable, _w: PartSet, _g: V3) -> bool {
+        false
+    }
+
+    fn rules_out_all(&mut self, _table: &PlaneTable, _w: PartSet) -> bool {
+        false
+    }
+}
+
+// The search for a part that leaves. It keeps a core by which all parts are held, which is large.
 #[derive(Drop)]
 struct Taking {
     core: SetCore,
@@ -47,10 +100,7 @@ struct Taking {
 
 impl Trial for Taking {
     ghost use Rattle.std.specs.Prelude.{⊤};
-    ghost use Rattle.staat_model.specs.Sets.{Has, IsNonempty};
     ghost use Rattle.staat_core.specs.TableCores.{IsSetCore};
-    ghost use Rattle.staat_linear.specs.Holding.{IsLeastLeaving};
-    ghost use Rattle.staat_linear.specs.Orders.{LetsLeave};
 
     type Found = u32;
 
@@ -64,16 +114,8 @@ impl Trial for Taking {
 
     ghost among = { λ w p. Has w p };
 
-    // along the opposite direction the arcs are turned round
     fn ask(&mut self, table: &PlaneTable, w: PartSet, d: V3) -> Tried<u32> {
-        let graph = table.graph_in(w, d);
-        if let Some(p) = least_free(&graph, w) {
-            return Tried::Ahead(p);
-        }
-        match least_free(&graph.reversed(), w) {
-            Some(p) => Tried::Opposite(p),
-            None => Tried::Neither,
-        }
+        part_along(table, w, d)
     }
 
     fn rules_out(&mut self, table: &PlaneTable, w: PartSet, g: V3) -> bool {
@@ -85,14 +127,10 @@ impl Trial for Taking {
     }
 }
 
-/// The step of the set `w`: of the vertices of its planes, in pair order, the first along which some part of `w` is
-/// free of all others of `w`, and the least such part. None exactly where `w` is locked.
-///
-/// `w` lies in the table's set, and has at least two parts. A part is free where its row of the blocking graph has no
-/// arc to another part of `w`; a direction and its opposite are looked at together. It takes no memory.
-// what it keeps on the stack is large, and is not to be part of its callers' frames
+// The step of the set by a search with a core. What that keeps on the stack is large, and is not to be part of the
+// callers' frames.
 #[inline(never)]
-pub fn linear_step(table: &PlaneTable, w: PartSet) -> Option<Leave>
+fn searched_step(table: &PlaneTable, w: PartSet) -> Option<Leave>
     requires set { IsSubset w table.now.of }
     requires two { 2 ≤ set.len w }
     ensures member { IfSome result (λ leave. Has w leave.part) }
@@ -105,14 +143,33 @@ pub fn linear_step(table: &PlaneTable, w: PartSet) -> Option<Leave>
     let mut taking = Taking {
         core: SetCore::none(),
     };
-    if let Some(served) = served_on_axis(table, w, &mut taking) {
-        return Some(Leave {
-            part: served.found,
-            d: served.d,
-        });
-    }
     match first_vertex(table, w, &mut taking) {
         None => None,
+        Some(served) => Some(Leave {
+            part: served.found,
+            d: served.d,
+        }),
+    }
+}
+
+/// The step of the set `w`: of the vertices of its planes, in pair order, the first along which some part of `w` is
+/// free of all others of `w`, and the least such part. None exactly where `w` is locked.
+///
+/// `w` lies in the table's set, and has at least two parts. A part is free where its row of the blocking graph has no
+/// arc to another part of `w`; a direction and its opposite are looked at together. It takes no memory.
+pub fn linear_step(table: &PlaneTable, w: PartSet) -> Option<Leave>
+    requires set { IsSubset w table.now.of }
+    requires two { 2 ≤ set.len w }
+    ensures member { IfSome result (λ leave. Has w leave.part) }
+    ensures size { IfSome result (λ leave. IsWithin DIRECTION leave.d) }
+    ensures step { (parts : List PartValue) → WasMadeFrom parts table.now
+        → MatchOption result (HasNoLeave parts w) (IsLeave parts w) }
+    ensures locked { (parts : List PartValue) → WasMadeFrom parts table.now
+        → (result ≡ None) ↔ IsLocked parts w }
+{
+    let mut look = PartLook;
+    match served_on_axis(table, w, &mut look) {
+        None => searched_step(table, w),
         Some(served) => Some(Leave {
             part: served.found,
             d: served.d,

@@ -11,7 +11,8 @@ ghost use Rattle.staat_planes.specs.declared.refusal.PlanesRefusal.TheVariants.{
 ghost use Rattle.staat_planes.specs.Refusals.{IsPlanesRefusal};
 ghost use Rattle.staat_certify.specs.Certifying.{CanBeCertified, HasFewPlanes};
 ghost use Rattle.staat_plan.specs.Marks.{AreMarksRight};
-ghost use Rattle.staat_plan.specs.Planning.{IsOutcomeOf, IsPlanner, IsSetStep, IsSized, IsStepOf, Settles, joined_finding};
+ghost use Rattle.staat_plan.specs.Planning.{IsOutcomeOf, IsPlanner, IsSetStep, IsSized, IsStepOf};
+ghost use Rattle.staat_plan.specs.Planning.{Settles, joined_finding};
 ghost use Rattle.staat_plan.specs.RingSets.{IsReadyFor};
 
 use crate::cell_steps::{cell_step, first_open_step};

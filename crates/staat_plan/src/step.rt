@@ -11,7 +11,7 @@ ghost use Rattle.staat_pairs.specs.Tables.{WasMadeFrom};
 ghost use Rattle.staat_plan.specs.Planning.{IsSetStep};
 
 use crate::marked::Marked;
-use crate::side_trial::SideTrial;
+use crate::side_trial::{SideLook, SideTrial};
 use staat_core::served_on_axis;
 use staat_model::{PartSet, Step};
 use staat_planes::{PlanePairs, PlaneTable, Search, Trial, first_few, first_passing, first_vertex};
@@ -23,6 +23,8 @@ use staat_vec::DIRECTION;
 /// The vertices are taken in the order of the pairs of planes. Of a vertex and its negative only the first is looked
 /// at: by [`opposite_serves`](crate::laws::opposite_serves) the one serves exactly where the other does. It takes no
 /// memory.
+// what a core keeps on the stack is large, and is not to be part of the callers' frames
+#[inline(never)]
 pub(crate) fn step_of(table: &PlaneTable, w: PartSet) -> Option<Step>
     requires within { IsSubset w table.now.of }
     requires two { 2 ≤ set.len w }
@@ -81,8 +83,8 @@ pub(crate) fn early_step(table: &PlaneTable, w: PartSet) -> Option<Option<Marked
     requires two { 2 ≤ set.len w }
     ensures { IfSome result (IsSetStep false table.now w) }
 {
-    let mut trial = SideTrial::new();
-    if let Some(served) = served_on_axis(table, w, &mut trial) {
+    let mut look = SideLook;
+    if let Some(served) = served_on_axis(table, w, &mut look) {
         return Some(Some(Marked {
             step: Step {
                 moved: served.found,
@@ -92,7 +94,7 @@ pub(crate) fn early_step(table: &PlaneTable, w: PartSet) -> Option<Option<Marked
         }));
     }
     let mut pairs = PlanePairs::of(table, w);
-    match first_few(&mut pairs, table, w, &mut trial, FEW_PAIRS) {
+    match first_few(&mut pairs, table, w, &mut look, FEW_PAIRS) {
         Search::Undecided => late_step(table, w),
         Search::Nothing => Some(None),
         Search::First(served) => Some(Some(Marked {

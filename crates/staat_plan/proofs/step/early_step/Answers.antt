@@ -9,7 +9,7 @@ use Rattle.staat_plan.proofs.StepLemmas.{no_step, step_is}
 use Rattle.staat_plan.proofs.step.early_step.Goals as goal
 
 pub served_on_axis-requires-clause-fits : goal.served_on_axis-requires-clause-fits
-served_on_axis-requires-clause-fits c = (some_member c.args.w (let two : 2 ≤ set.len c.args.w = c.requires.two in omega (arith, two)), c.new-trial.ensures c.args.table.now)
+served_on_axis-requires-clause-fits c = some_member c.args.w (let two : 2 ≤ set.len c.args.w = c.requires.two in omega (arith, two))
 
 pub returns-in-Nothing : goal.returns-in-Nothing
 returns-in-Nothing c = record {
