@@ -1,5 +1,5 @@
 -- The first vertex along which some side begins to move, and that none does where the set is tight.
-use Rattle.std.proofs.Common.{◌≡◌, ◌≢◌, ◌↔◌, ◌<◌, ◌≤◌, inl, inr, Option, None, Some, arith, ap, ℕ, refl, sym, subst, Bool, List, [], ◌∷◌, All, Contains}
+use Rattle.std.proofs.Common.{◌≡◌, ◌≢◌, ◌↔◌, ◌≤◌, inl, inr, Option, None, Some, arith, ap, ℕ, refl, subst, Bool, List, All}
 use Rattle.std.specs.FinSet as set
 use Rattle.std.proofs.lemmas.List.Elements.{All-contains}
 use Rattle.staat_vec.specs.declared.vector.V3.{V3}
@@ -9,7 +9,7 @@ use Rattle.staat_vec.proofs.Unique.{IsFirst-in, IsFirst-unique}
 use Rattle.staat_model.specs.declared.assembly.Part.{Part}
 use Rattle.staat_model.specs.declared.set.PartSet.{PartSet}
 use Rattle.staat_model.specs.Outcomes.{IsMovedSideBy}
-use Rattle.staat_model.specs.Planes.{ArePlanes, vertices}
+use Rattle.staat_model.specs.Planes.{vertices}
 use Rattle.staat_model.proofs.FreeSides.{IsMovedSide-unique}
 use Rattle.staat_model.proofs.OneTable.{ArePlanes-unique}
 use Rattle.staat_graph.specs.Graphs.{HasArc, IsFirstSink, IsStrong}

@@ -9,13 +9,13 @@ use Rattle.staat_vec.specs.Vectors.{cross, dot, minus, negative, origin, vector_
 use Rattle.staat_vec.specs.Primitives.{primitive}
 use Rattle.staat_vec.proofs.Order.{cancel_zero}
 use Rattle.staat_vec.proofs.Primitives.{primitive-is}
-use Rattle.staat_vec.proofs.VecRing.{dot_comm, dot_cross_left, dot_cross_right, negative_dot}
+use Rattle.staat_vec.proofs.VecRing.{dot_cross_left, dot_cross_right, negative_dot}
 use Rattle.staat_model.specs.declared.assembly.Part.{Part}
 use Rattle.staat_model.specs.declared.certificate.Arc.{Arc}
 use Rattle.staat_model.specs.Assemblies.{HoldsAt, IsAssembly, piece_at}
 use Rattle.staat_model.proofs.GraphLemmas.{piece_is}
-use Rattle.staat_model.specs.Cones.{IsAbove, IsConeFacet, differences}
-use Rattle.staat_model.specs.Facets.{IsDifference, IsFacet}
+use Rattle.staat_model.specs.Cones.{IsAbove, differences}
+use Rattle.staat_model.specs.Facets.{IsFacet}
 use Rattle.staat_model.specs.Pieces.{IsPiece}
 use Rattle.staat_model.proofs.Alternative.{IsSeparated, alternative}
 use Rattle.staat_model.proofs.CornerLemmas.{above_primitive, dot_multiple}

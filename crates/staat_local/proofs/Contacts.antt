@@ -1,17 +1,17 @@
 -- Points touch, or a vector keeps them strictly apart; and what is kept so does not collide soon.
-use Rattle.std.proofs.Common.{◌≡◌, ◌↔◌, ℕ, zero, suc, ◌+◌, ◌*◌, ◌≤◌, refl, sym, ap, ap₂, ◌∙◌, subst, arith, ℤ, pos, ◌+ℤ◌, ◌*ℤ◌, negsuc, ◌≤ℤ◌, ◌<ℤ◌, unsigned_abs, ◌⊎◌, inl, inr, List, [], ◌∷◌, length, map, All, Contains, sum}
+use Rattle.std.proofs.Common.{◌≡◌, ◌↔◌, ℕ, zero, suc, ◌+◌, ◌*◌, ◌≤◌, sym, ap, ap₂, ◌∙◌, subst, arith, ℤ, pos, ◌+ℤ◌, ◌*ℤ◌, negsuc, ◌≤ℤ◌, ◌<ℤ◌, unsigned_abs, ◌⊎◌, inl, inr, List, [], ◌∷◌, length, map, All, Contains, sum}
 use Rattle.std.proofs.lemmas.Int.{ints, by_lt_z}
 use Rattle.std.proofs.lemmas.List.{length-map}
 use Rattle.std.proofs.lemmas.List.Elements.{All-nil, All-cons, All-head, All-tail, All-contains, All-weaker}
 use Rattle.staat_vec.specs.declared.vector.V3.{V3}
 use Rattle.staat_vec.specs.Vectors.{dot, minus, negative, origin, plus, times}
 use Rattle.staat_vec.proofs.Ring.{at, num, ◌⊕◌, ◌⊗◌, ring}
-use Rattle.staat_vec.proofs.VecRing.{dotE, negativeE, originE, plusE, timesE, values, v0, v1, v2, v3, dot_comm, negative_dot, ring3}
+use Rattle.staat_vec.proofs.VecRing.{dotE, negativeE, originE, plusE, timesE, values, v0, v1, v2, negative_dot, ring3}
 use Rattle.staat_vec.proofs.Order.{nonneg_is, nonneg_pos, nonneg_sum}
 use Rattle.staat_model.specs.Pieces.{IsPiece}
 use Rattle.staat_model.specs.Facets.{IsDifference}
 use Rattle.staat_model.specs.Cones.{IsAbove, IsCombined, differences}
-use Rattle.staat_model.specs.Meeting.{Meets, MeetsAt, mix}
+use Rattle.staat_model.specs.Meeting.{Meets, mix}
 use Rattle.staat_model.proofs.Alternative.{alternative}
 use Rattle.staat_model.proofs.Members.{All-from_members}
 use Rattle.staat_model.proofs.Differences.{in_differences}

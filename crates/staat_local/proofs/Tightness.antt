@@ -1,6 +1,6 @@
 -- Where contacts hold a set of parts together, no side of it begins to move.
-use Rattle.std.proofs.Common.{◌≡◌, inl, inr, sym, subst, map, List, [], Bool, All, Contains}
-use Rattle.std.proofs.lemmas.List.Elements.{All-contains, All-nil, All-weaker, Contains-append_cases}
+use Rattle.std.proofs.Common.{inl, inr, sym, subst, map, List, Bool, All, Contains}
+use Rattle.std.proofs.lemmas.List.Elements.{All-contains, All-weaker, Contains-append_cases}
 use Rattle.staat_vec.specs.declared.vector.V3.{V3}
 use Rattle.staat_model.specs.declared.assembly.Part.{Part}
 use Rattle.staat_model.specs.declared.certificate.Arc.{Arc}
@@ -9,13 +9,12 @@ use Rattle.staat_model.specs.Assemblies.{HoldsAt}
 use Rattle.staat_model.proofs.Differences.{from_map}
 use Rattle.staat_pairs.specs.Tables.{Table, WasMadeFrom, back}
 use Rattle.staat_core.specs.declared.joins.Moving.TheVariants.{AnySide}
-use Rattle.staat_core.specs.declared.table_core.TableCore.{TableCore}
 use Rattle.staat_core.specs.Listed.{IsTablePair}
 use Rattle.staat_core.specs.Moves.{HoldsMoves}
 use Rattle.staat_core.specs.Sources.{both_ways}
 use Rattle.staat_local.specs.Beginnings.{Loosens}
 use Rattle.staat_local.specs.Contacts.{Contact}
-use Rattle.staat_local.specs.Tightness.{IsMarkedCore, IsMarkedPair}
+use Rattle.staat_local.specs.Tightness.{IsMarkedPair}
 use Rattle.staat_local.specs.Touching.{AreMarks}
 use Rattle.staat_local.proofs.Holding.{starts_at}
 use Rattle.staat_local.proofs.TouchMarks.{contact_back}

@@ -1,17 +1,14 @@
 -- Marks for pairs of pieces that touch: a slot stands for one pair, and marks for some arcs and then for others are marks for both.
-use Rattle.std.proofs.Common.{◌≡◌, ◌↔◌, ◌⊎◌, inl, inr, ⊎_elim, ℕ, zero, suc, replicate, ◌/◌, ◌%◌, ◌<◌, ◌≤◌, refl, sym, ap, subst, ◌∙◌, arith, Bool, true, false, IsTrue, List, length, sum}
-use Rattle.std.specs.Prelude.{slice_index, slice_index_or}
-use Rattle.staat_vec.specs.declared.vector.V3.{V3}
+use Rattle.std.proofs.Common.{◌≡◌, ◌↔◌, ◌⊎◌, inl, inr, ⊎_elim, ℕ, zero, suc, replicate, ◌<◌, ◌≤◌, refl, sym, ap, subst, arith, Bool, false, List}
 use Rattle.staat_model.specs.declared.assembly.Part.{Part}
 use Rattle.staat_model.specs.declared.certificate.Arc.{Arc}
 use Rattle.staat_model.specs.Assemblies.{HoldsAt}
-use Rattle.staat_model.specs.Meeting.{mix}
 use Rattle.staat_model.specs.Sets.{Has}
 use Rattle.staat_pairs.specs.Tables.{IsTable, IsTableArc, Table, back, pieces_of, place, slot}
 use Rattle.staat_pairs.specs.Tabulating.{IsPieceAt}
 use Rattle.staat_pairs.proofs.NumberingLemmas.{below_64, one_number, one_part}
 use Rattle.staat_local.specs.Contacts.{Contact}
-use Rattle.staat_local.specs.Touching.{AreMarks, LinksParts, IsFromPiece, IsPairMarked, IsToGreater, IsUpward, MarksTouching}
+use Rattle.staat_local.specs.Touching.{AreMarks, IsPairMarked, IsUpward, MarksTouching}
 use Rattle.staat_vec.proofs.Naturals.{apart_cases, same_parts_of_64}
 use Rattle.staat_pairs.proofs.TableLemmas.{back_across}
 

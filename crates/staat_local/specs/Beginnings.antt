@@ -1,19 +1,5 @@
 -- Moves that begin: the sides of a set of parts that no contact holds, and the one that is chosen.
-use Rattle.std.specs.Prelude.{
-  ◌≡◌,
-  ◌⊎◌,
-  ◌<◌,
-  ◌≤◌,
-  ℕ,
-  pos,
-  ◌<ℤ◌,
-  List,
-  Bool,
-  All,
-  Option,
-  None,
-  Some,
-}
+use Rattle.std.specs.Prelude.{◌⊎◌, ◌<◌, ◌≤◌, ℕ, pos, ◌<ℤ◌, List, Bool, All, Option, None, Some}
 use Rattle.std.specs.FinSet as set
 use Rattle.staat_vec.specs.declared.vector.V3.{V3}
 use Rattle.staat_vec.specs.Lists.{IsFirst}

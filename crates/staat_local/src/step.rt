@@ -1,10 +1,12 @@
 // The side of a set of parts that begins to move.
-ghost use Rattle.std.specs.Prelude.{◌≡◌, ◌≤◌, ◌↔◌, IfSome, None};
+ghost use Rattle.std.specs.Prelude.{◌≡◌, ◌≢◌, ◌≤◌, ◌↔◌, IfSome, List, None};
 ghost use Rattle.std.specs.FinSet as set;
-ghost use Rattle.staat_vec.specs.Vectors.{IsWithin};
+ghost use Rattle.staat_vec.specs.Vectors.{IsWithin, origin};
+ghost use Rattle.staat_model.specs.declared.assembly.Part.{Part as PartValue};
 ghost use Rattle.staat_model.specs.Outcomes.{IsMovedSideBy};
 ghost use Rattle.staat_model.specs.Sets.{IsSide};
 ghost use Rattle.staat_pairs.specs.Tables.{WasMadeFrom};
+ghost use Rattle.staat_planes.specs.VertexSearch.{IfFound, IsFirstOfTwo};
 ghost use Rattle.staat_local.specs.Beginnings.{IsBeginning, IsTight, Loosens};
 ghost use Rattle.staat_local.specs.Contacts.{Starts};
 ghost use Rattle.staat_local.specs.Tightness.{IsMarkedCore};
@@ -14,27 +16,43 @@ use crate::graph::graph_of;
 use crate::side::Loose;
 use crate::tight::marked_core;
 use crate::touching::{TouchMarks, touching};
-use staat_core::{Moving, TableCore};
+use staat_core::{Moving, TableCore, served_on_axis};
 use staat_graph::{is_strong, sink_of};
 use staat_model::{PartSet, Sound};
 use staat_planes::{PlaneTable, Trial, Tried, first_vertex};
 use staat_vec::{DIRECTION, V3};
 
-// The contacts of the parts of a table, and a core of them.
-#[derive(Drop)]
-struct Contacts<'a> {
-    table: &'a PlaneTable,
-    marks: TouchMarks,
-    core: TableCore,
+// the side of the table's set that begins to move along the direction, or else the rest along the opposite one
+fn side_along(marks: &TouchMarks, table: &PlaneTable, d: V3) -> Tried<PartSet>
+    requires size { IsWithin DIRECTION d }
+    requires some { d ≢ origin }
+    ensures among { IfFound result (IsSide table.now.of) }
+    ensures tried { (parts : List PartValue) → WasMadeFrom parts table.now → AreMarks parts table.now marks.now
+        → IsFirstOfTwo (Loosens parts table.now.of) (IsMovedSideBy Starts parts table.now.of) d result }
+{
+    let set = table.set();
+    let graph = graph_of(marks, table, d);
+    if is_strong(&graph, set) {
+        Tried::Neither
+    } else {
+        Tried::Ahead(sink_of(&graph, set))
+    }
 }
 
-impl<'a> Trial for Contacts<'a> {
+// A look at the contacts of the parts of a table, which keeps nothing.
+#[derive(Drop)]
+struct ContactsLook<'a> {
+    table: &'a PlaneTable,
+    marks: &'a TouchMarks,
+}
+
+impl<'a> Trial for ContactsLook<'a> {
     type Found = PartSet;
 
     // it is asked about all parts of its own table
-    ghost fits = { λ self t w. (self.table.now ≡ t) × (w ≡ t.of) × IsMarkedCore t self.marks self.core };
+    ghost fits = { λ self t w. (self.table.now ≡ t) × (w ≡ t.of) };
 
-    ghost knows = { λ self parts. AreMarks parts self.table.now self.marks };
+    ghost knows = { λ self parts. AreMarks parts self.table.now self.marks.now };
 
     ghost serves = { Loosens };
 
@@ -42,16 +60,43 @@ impl<'a> Trial for Contacts<'a> {
 
     ghost among = { IsSide };
 
-    // A side begins to move along the opposite direction exactly where the rest does along this one.
-    fn ask(&mut self, table: &PlaneTable, w: PartSet, d: V3) -> Tried<PartSet> {
-        // the set is not empty
-        let _set = table.set();
-        let graph = graph_of(&self.marks, table, d);
-        if is_strong(&graph, w) {
-            Tried::Neither
-        } else {
-            Tried::Ahead(sink_of(&graph, w))
-        }
+    fn ask(&mut self, table: &PlaneTable, _w: PartSet, d: V3) -> Tried<PartSet> {
+        side_along(self.marks, table, d)
+    }
+
+    fn rules_out(&mut self, _table: &PlaneTable, _w: PartSet, _g: V3) -> bool {
+        false
+    }
+
+    fn rules_out_all(&mut self, _table: &PlaneTable, _w: PartSet) -> bool {
+        false
+    }
+}
+
+// The contacts of the parts of a table, and a core of them, which is large.
+#[derive(Drop)]
+struct Contacts<'a> {
+    table: &'a PlaneTable,
+    marks: &'a TouchMarks,
+    core: TableCore,
+}
+
+impl<'a> Trial for Contacts<'a> {
+    type Found = PartSet;
+
+    // it is asked about all parts of its own table
+    ghost fits = { λ self t w. (self.table.now ≡ t) × (w ≡ t.of) × IsMarkedCore t self.marks.now self.core };
+
+    ghost knows = { λ self parts. AreMarks parts self.table.now self.marks.now };
+
+    ghost serves = { Loosens };
+
+    ghost finds = { IsMovedSideBy Starts };
+
+    ghost among = { IsSide };
+
+    fn ask(&mut self, table: &PlaneTable, _w: PartSet, d: V3) -> Tried<PartSet> {
+        side_along(self.marks, table, d)
     }
 
     fn rules_out(&mut self, table: &PlaneTable, w: PartSet, g: V3) -> bool {
@@ -67,13 +112,34 @@ impl<'a> Trial for Contacts<'a> {
     }
 }
 
+// The side that begins to move, by a search with a core. What that keeps on the stack is large, and is not to be part
+// of the callers' frames.
+#[inline(never)]
+fn searched_step(table: &PlaneTable, sound: &Sound, marks: &TouchMarks) -> Option<Loose>
+    requires made { WasMadeFrom sound.now table.now }
+    requires two { 2 ≤ set.len table.now.of }
+    requires marks { AreMarks sound.now table.now marks.now }
+    ensures side { IfSome result (λ loose. IsSide table.now.of loose.side) }
+    ensures size { IfSome result (λ loose. IsWithin DIRECTION loose.d) }
+    ensures beginning { IfSome result (IsBeginning sound.now table.now.of) }
+    ensures tight { (result ≡ None) ↔ IsTight sound.now table.now.of }
+{
+    let core = marked_core(marks, table);
+    let mut contacts = Contacts { table, marks, core };
+    match first_vertex(table, table.set(), &mut contacts) {
+        Some(served) => Some(Loose {
+            side: served.found,
+            d: served.d,
+        }),
+        None => None,
+    }
+}
+
 /// The side of the table's set of parts that begins to move: along the first of the vertices of its planes along which
 /// some side does, in the order of the pairs of planes. None exactly where no side begins to move along any direction.
 ///
 /// The table was made from this assembly, and its set has at least two parts. Which pieces touch is decided once for
 /// each two. Of a vertex and its negative only the first is looked at. It takes no memory.
-// what it keeps on the stack is large, and is not to be part of its callers' frames
-#[inline(never)]
 pub fn local_step(table: &PlaneTable, sound: &Sound) -> Option<Loose>
     requires made { WasMadeFrom sound.now table.now }
     requires two { 2 ≤ set.len table.now.of }
@@ -83,13 +149,15 @@ pub fn local_step(table: &PlaneTable, sound: &Sound) -> Option<Loose>
     ensures tight { (result ≡ None) ↔ IsTight sound.now table.now.of }
 {
     let marks = touching(table, sound);
-    let core = marked_core(&marks, table);
-    let mut contacts = Contacts { table, marks, core };
-    match first_vertex(table, table.set(), &mut contacts) {
+    let mut look = ContactsLook {
+        table,
+        marks: &marks,
+    };
+    match served_on_axis(table, table.set(), &mut look) {
         Some(served) => Some(Loose {
             side: served.found,
             d: served.d,
         }),
-        None => None,
+        None => searched_step(table, sound, &marks),
     }
 }

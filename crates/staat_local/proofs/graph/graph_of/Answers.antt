@@ -1,4 +1,4 @@
-use Rattle.std.proofs.Common.{rules, ◌<◌}
+use Rattle.std.proofs.Common.{rules}
 use Rattle.staat_local.specs.Beginnings.{HoldsBetween}
 use Rattle.staat_local.proofs.Holding.{row_more, whole_rows}
 use Rattle.staat_local.proofs.graph.graph_of.Goals as goal

@@ -1,8 +1,8 @@
-use Rattle.std.proofs.Common.{refl, subst, sym, All}
+use Rattle.std.proofs.Common.{refl, subst, sym}
 use Rattle.staat_model.specs.declared.set.PartSet.{PartSet}
-use Rattle.staat_model.specs.Planes.{ArePlanes, vertices}
-use Rattle.staat_local.specs.Beginnings.{IsBeginning, Loosens}
-use Rattle.staat_local.proofs.Beginning.{none_loosens, tight_from}
+use Rattle.staat_model.specs.Planes.{ArePlanes}
+use Rattle.staat_local.specs.Beginnings.{IsBeginning}
+use Rattle.staat_local.proofs.Beginning.{none_loosens}
 use Rattle.staat_local.proofs.step.local_step.Goals as goal
 
 pub returns-in-Some-clause-beginning : goal.returns-in-Some-clause-beginning
@@ -20,14 +20,5 @@ returns-in-Some-clause-tight c = (
   λ tight. absurd (none_loosens c.args.sound.now c.args.table.now.of (record { side = c.in-Some.served.found; d = c.in-Some.served.d }) (returns-in-Some-clause-beginning c) tight),
 )
 
-pub returns-in-None-clause-tight : goal.returns-in-None-clause-tight
-returns-in-None-clause-tight c =
-    let parts = c.args.sound.now in
-    let are = subst (λ (u : PartSet). ArePlanes c.args.sound.now u c.args.table.now.planes) (sym c.set.ensures.is) c.requires.made.planes in
-    let none = c.in-None.ensures.first parts c.args.table.now.planes c.requires.made c.touching-marks.ensures are in (
-      λ e. tight_from parts c.args.table.now c.requires.made c.requires.two (subst (λ (u : PartSet). All (λ v. Loosens c.args.sound.now u v → ⊥) (vertices c.args.table.now.planes)) c.set.ensures.is none),
-      λ tight. refl,
-    )
-
-pub first_vertex-requires-clause-fits : goal.first_vertex-requires-clause-fits
-first_vertex-requires-clause-fits c = (refl, c.set.ensures.is, c.marked_core-core.ensures)
+pub served_on_axis-requires-clause-fits : goal.served_on_axis-requires-clause-fits
+served_on_axis-requires-clause-fits c = (refl, c.set.ensures.is)

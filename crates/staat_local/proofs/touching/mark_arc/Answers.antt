@@ -1,7 +1,7 @@
-use Rattle.std.proofs.Common.{subst, sym, true≢false, refl, ℕ, ◌≡◌, ◌↔◌, ◌⊎◌, ◌∙◌, ap}
+use Rattle.std.proofs.Common.{subst, refl, ℕ, ◌≡◌, ◌↔◌, ◌⊎◌, ◌∙◌, ap}
 use Rattle.staat_pairs.specs.Tables.{slot}
 use Rattle.staat_local.specs.Touching.{IsPairMarked}
-use Rattle.staat_local.proofs.TouchMarks.{marked_arc, marked_none}
+use Rattle.staat_local.proofs.TouchMarks.{marked_arc}
 use Rattle.staat_local.proofs.touching.mark_arc.Goals as goal
 
 pub returns-then-touch : goal.returns-then-touch

@@ -1,4 +1,4 @@
-use Rattle.std.proofs.Common.{refl, sym, subst}
+use Rattle.std.proofs.Common.{sym, subst}
 use Rattle.staat_model.specs.declared.set.PartSet.{PartSet}
 use Rattle.staat_model.specs.Sets.{IsNonempty}
 use Rattle.staat_core.specs.Listed.{pairs_in_use}
@@ -11,5 +11,5 @@ holds-requires-clause-some c = subst (λ (u : PartSet). IsNonempty u) (sym c.req
 
 pub returns-clause-none : goal.returns-clause-none
 returns-clause-none c told parts d made are loosens =
-    held_loosens_not parts c.args.table.now c.args.self.now.marks (pairs_in_use c.args.self.now.core.list) made (subst (λ t. AreMarks parts t c.args.self.now.marks) c.requires.fits.0 are) c.requires.fits.2.marked c.args.w d
+    held_loosens_not parts c.args.table.now c.args.self.now.marks.now (pairs_in_use c.args.self.now.core.list) made (subst (λ t. AreMarks parts t c.args.self.now.marks.now) c.requires.fits.0 are) c.requires.fits.2.marked c.args.w d
     (c.holds.ensures.held told parts d made loosens.free.moves) loosens
