@@ -17,7 +17,9 @@ use staat_planes::{PlaneTable, Trial};
 use staat_vec::{DIRECTION, NORMAL, OutOfMemory, Sign, V3, canon, neg, sign_dot};
 use std::alloc::Global;
 
-// whether a core shows that no direction serves on any of the planes that v does not lie on
+// Whether a core shows that no direction serves on any of the planes that v does not lie on. What it keeps on the stack
+// is large, and is not to be part of the callers' frames.
+#[inline(never)]
 fn is_lone(table: &PlaneTable, w: PartSet, planes: &[V3], v: V3) -> bool
     requires within { IsSubset w table.now.of }
     requires some { IsNonempty w }
