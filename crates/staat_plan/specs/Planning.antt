@@ -1,5 +1,6 @@
 -- What the planner finds for a set of parts.
-use Rattle.std.specs.Prelude.{◌≡◌, ◌≤◌, ◌++◌, ℕ, List, Option, Bool, MatchOption, IfSome, length, true}
+use Rattle.std.specs.Prelude.{◌≡◌, ◌≤◌, ◌++◌, ℕ, List, Option, Bool}
+use Rattle.std.specs.Prelude.{MatchOption, IfSome, length, true}
 use Rattle.std.specs.Option.{option_to_list}
 use Rattle.staat_vec.specs.declared.vector.TheConstants.{DIRECTION}
 use Rattle.staat_vec.specs.Vectors.{IsWithin}

@@ -50,7 +50,8 @@ impl Course {
         }
     }
 
-    /// The product of a normal and the direction, exact. The components of `n` are at most [`NORMAL`] in absolute value.
+    /// The product of a normal and the direction, exact. Each component of `n` is at most [`NORMAL`] in absolute
+    /// value.
     pub fn dot(&self, n: V3) -> i128
         requires { IsWithin NORMAL n }
         ensures { result ≡ dot n self.now }
