@@ -23,6 +23,9 @@ use std::alloc::Global;
 // among the few, or drops one of the untested.
 const ROUNDS: u32 = 1 << 20;
 
+// How many vectors a list has room for when it is made.
+const ROOM: usize = 16;
+
 // Few of the differences of two pieces, and the facets of their cone: those that were not tested against all
 // differences yet, which are not made primitive and among which some may lie before one of the few, and those that
 // were.
@@ -35,17 +38,18 @@ struct Few {
 }
 
 impl Few {
-    fn new(alloc: Global, method: Method) -> Few
-        ensures members { result.members.items ≡ [] }
-        ensures untested { result.untested.items ≡ [] }
-        ensures found { result.found.items ≡ [] }
+    // none, with room for those of most pairs
+    fn new(alloc: Global, method: Method) -> Result<Few, OutOfMemory>
+        ensures members { IfOk result (λ few. few.members.items ≡ []) }
+        ensures untested { IfOk result (λ few. few.untested.items ≡ []) }
+        ensures found { IfOk result (λ few. few.found.items ≡ []) }
     {
-        Few {
+        Ok(Few {
             method,
-            members: Vec::new(alloc),
-            untested: Vec::new(alloc),
-            found: Vec::new(alloc),
-        }
+            members: Vec::with_capacity(alloc, ROOM)?,
+            untested: Vec::with_capacity(alloc, ROOM)?,
+            found: Vec::with_capacity(alloc, ROOM)?,
+        })
     }
 
     // one more member, and the walls through it and another
@@ -89,10 +93,10 @@ fn start(alloc: Global, method: Method, p: &Piece, q: &Piece) -> Result<Option<F
         (λ few. IsGrown p.now q.now few.members.items few.untested.items few.found.items)) }
     ensures spanning { IfOk result (λ s. IfSome s (λ few. IsSpanning few.members.items)) }
 {
-    let mut few = Few::new(alloc, method);
     let Some((u, v, w)) = three_steps(p, q) else {
         return Ok(None);
     };
+    let mut few = Few::new(alloc, method)?;
     few.insert(u)?;
     few.insert(v)?;
     few.insert(w)?;

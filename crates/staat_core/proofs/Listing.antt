@@ -1,9 +1,13 @@
 -- Lists of pairs of a table.
 use Rattle.std.proofs.Common.{◌≡◌, ◌≢◌, ◌⊎◌, ⊎_elim, inl, inr, ℕ, zero, suc, ◌<◌, arith, sym, subst, List, [], ◌∷◌, ◌++◌, All, Contains}
+use Rattle.std.proofs.lemmas.Int.{ints}
 use Rattle.std.proofs.lemmas.List.Elements.{All-contains, All-weaker, Contains-append_cases}
 use Rattle.staat_vec.specs.declared.vector.V3.{V3}
 use Rattle.staat_vec.specs.Lists.{Lists}
-use Rattle.staat_vec.specs.Vectors.{vector_cmp}
+use Rattle.staat_vec.specs.declared.words.TheConstants.{SMALL}
+use Rattle.staat_vec.specs.Primitives.{canon}
+use Rattle.staat_vec.specs.Vectors.{IsWithin, vector_cmp}
+use Rattle.staat_vec.proofs.Canons.{canon-has}
 use Rattle.staat_vec.proofs.Primitives.{IsPrimitive-some}
 use Rattle.staat_model.specs.declared.assembly.Part.{Part}
 use Rattle.staat_model.specs.declared.certificate.Arc.{Arc}
@@ -28,6 +32,13 @@ apart_of a b lt e = omega (arith, lt, e)
 
 pub normals : (planes facets : List V3) → AreTableFacets planes facets → All IsNormal facets
 normals planes facets are = All-weaker (IsTableFacet planes) IsNormal (λ n h. record { some = IsPrimitive-some n h.primitive; within = h.within }) facets are.each
+
+small_by_canon : (n : V3) → IsWithin SMALL (canon n) → IsWithin SMALL n
+small_by_canon n = canon-has (λ u. IsWithin SMALL u → IsWithin SMALL n) n (λ h. h) (λ h. record { x = omega (arith, ints, h.x); y = omega (arith, ints, h.y); z = omega (arith, ints, h.z) })
+
+-- facets on small planes are small
+pub low_facets : (planes facets : List V3) → AreTableFacets planes facets → All (IsWithin SMALL) planes → All (IsWithin SMALL) facets
+low_facets planes facets are low = All-weaker (IsTableFacet planes) (IsWithin SMALL) (λ n h. small_by_canon n (All-contains (IsWithin SMALL) planes (canon n) low h.plane)) facets are.each
 
 pub facets_are : (parts : List Part) (t : Table) (pair : Arc) (facets : List V3) → WasMadeFrom parts t → IsTableArc t pair → facets ≡ facets_of t pair → AreFacetsOf parts pair facets
 facets_are parts t pair facets made across e =

@@ -14,8 +14,8 @@ use crate::cores::Core;
 use crate::joins::{Joins, Moving};
 use crate::source::PairSource;
 use staat_model::{Arc, PartSet};
-use staat_planes::leads_past;
-use staat_vec::{DIRECTION, V3};
+use staat_planes::Heading;
+use staat_vec::{DIRECTION, SMALL, V3};
 
 /// How often a core grows at most at one direction.
 const ROUNDS: u32 = 2016;
@@ -27,22 +27,22 @@ pub(crate) struct Wanted {
     pub planes: u32,
 }
 
-// Adds the arc of a pair along d, if one of its pieces meets the other there. Where both arcs are there already, no
-// facets are looked at.
-fn put_pair<S: PairSource>(joins: &mut Joins, source: &S, pair: Arc, d: V3)
+// Adds the arc of a pair along a direction, if one of its pieces meets the other there. Where both arcs are there
+// already, no facets are looked at.
+fn put_pair<S: PairSource>(joins: &mut Joins, source: &S, pair: Arc, heading: &Heading)
     requires pair { Contains (S.pairs source.now) pair }
     requires small { IsSmallPair pair }
-    requires direction { IsWithin DIRECTION d }
+    requires low { IsTrue heading.now.fair → IsTrue (S.low source.now) }
     requires reversed { AreReversed joins.old.ahead.rows joins.old.back.rows }
     ensures reversed { AreReversed joins.new.ahead.rows joins.new.back.rows }
     ensures leads { (parts : List PartValue) (pairs : List ArcValue) → S.speaks source.now parts
-        → Contains pairs pair → AreLeading parts pairs d joins.old.ahead.rows
-        → AreLeading parts pairs d joins.new.ahead.rows }
+        → Contains pairs pair → AreLeading parts pairs heading.now.d joins.old.ahead.rows
+        → AreLeading parts pairs heading.now.d joins.new.ahead.rows }
 {
     if joins.has(pair.a, pair.b) && joins.has(pair.b, pair.a) {
         return;
     }
-    let leads = leads_past(source.facets(pair), d);
+    let leads = heading.past(source.facets(pair));
     if leads.ahead {
         joins.put(pair.a, pair.b);
     } else if leads.behind {
@@ -74,13 +74,13 @@ impl Blocking {
         }
     }
 
-    // puts the pair with these facets, if it blocks along d or its opposite
-    fn put_pair(&mut self, facets: &[V3], place: u32, d: V3)
+    // puts the pair with these facets, if it blocks along the direction or its opposite
+    fn put_pair(&mut self, facets: &[V3], place: u32, heading: &Heading)
         requires facets { All IsNormal facets.now }
-        requires direction { IsWithin DIRECTION d }
+        requires low { IsTrue heading.now.fair → All (IsWithin SMALL) facets.now }
     {
         let arc = place.saturating_mul(2);
-        let leads = leads_past(facets, d);
+        let leads = heading.past(facets);
         if leads.ahead {
             self.put(arc);
         } else if leads.behind {
@@ -88,9 +88,9 @@ impl Blocking {
         }
     }
 
-    // those of pieces of w, along d or its opposite
-    fn at<S: PairSource>(source: &S, w: PartSet, d: V3) -> Blocking
-        requires { IsWithin DIRECTION d }
+    // those of pieces of w, along the direction or its opposite
+    fn at<S: PairSource>(source: &S, w: PartSet, heading: &Heading) -> Blocking
+        requires { IsTrue heading.now.fair → IsTrue (S.low source.now) }
     {
         let mut blocking = Blocking {
             arcs: [0; 2016],
@@ -99,7 +99,7 @@ impl Blocking {
         let mut place: u32 = 0;
         for pair in source.pairs() {
             if is_among(*pair, w) {
-                blocking.put_pair(source.facets(*pair), place, d);
+                blocking.put_pair(source.facets(*pair), place, heading);
             }
             place = place.saturating_add(1);
         }
@@ -130,19 +130,19 @@ fn is_link(pair: Arc, turned: bool, s: PartSet, r: PartSet) -> bool
 }
 
 impl Core {
-    // the graph of the pairs along d
-    fn joins_at<S: PairSource>(&self, source: &S, d: V3) -> Joins
+    // the graph of the pairs along the direction
+    fn joins_at<S: PairSource>(&self, source: &S, heading: &Heading) -> Joins
         requires core { IsCore (S.pairs source.now) (S.speaks source.now) self.now }
-        requires direction { IsWithin DIRECTION d }
+        requires low { IsTrue heading.now.fair → IsTrue (S.low source.now) }
         ensures reversed { AreReversed result.ahead.rows result.back.rows }
         ensures leads { (parts : List PartValue) → S.speaks source.now parts
-            → AreLeading parts (core_pairs self.now) d result.ahead.rows }
+            → AreLeading parts (core_pairs self.now) heading.now.d result.ahead.rows }
     {
         // the parts of the pairs are below the number of rows
         let _pairs = source.pairs();
         let mut joins = Joins::none();
         for pair in self.pairs() {
-            put_pair(&mut joins, source, *pair, d);
+            put_pair(&mut joins, source, *pair, heading);
         }
         joins
     }
@@ -214,30 +214,30 @@ impl Core {
         self.add(pair, source.facets(pair))
     }
 
-    // The core grows until nothing of w moves along d, as far as it tells; false where it cannot. The graph of its
-    // pairs along d is given.
+    // The core grows until nothing of w moves along the direction, as far as it tells; false where it cannot. The graph
+    // of its pairs along it is given.
     fn grow_at<S: PairSource>(
         &mut self,
         source: &S,
         w: PartSet,
         moving: Moving,
-        d: V3,
+        heading: &Heading,
         graph: Joins,
     ) -> bool
         requires core { IsCore (S.pairs source.now) (S.speaks source.now) self.old }
         requires some { IsNonempty w }
-        requires direction { IsWithin DIRECTION d }
+        requires low { IsTrue heading.now.fair → IsTrue (S.low source.now) }
         requires reversed { AreReversed graph.ahead.rows graph.back.rows }
         requires leads { (parts : List PartValue) → S.speaks source.now parts
-            → AreLeading parts (core_pairs self.old) d graph.ahead.rows }
+            → AreLeading parts (core_pairs self.old) heading.now.d graph.ahead.rows }
         ensures core { IsCore (S.pairs source.now) (S.speaks source.now) self.new }
         ensures grows { HasGrown self.old self.new }
         ensures held { IsTrue result → (parts : List PartValue) → S.speaks source.now parts
-            → HoldsMoves parts (both_ways (core_pairs self.new)) moving w d }
+            → HoldsMoves parts (both_ways (core_pairs self.new)) moving w heading.now.d }
     {
         // the parts of the pairs are below the number of rows
         let _pairs = source.pairs();
-        let blocking = Blocking::at(source, w, d);
+        let blocking = Blocking::at(source, w, heading);
         let mut joins = graph;
         for _k in 0..ROUNDS {
             let Some(s) = joins.shut(w, moving) else {
@@ -249,7 +249,7 @@ impl Core {
             if !self.take(source, pair) {
                 return false;
             }
-            put_pair(&mut joins, source, pair, d);
+            put_pair(&mut joins, source, pair, heading);
         }
         false
     }
@@ -273,10 +273,11 @@ impl Core {
         ensures held { IsTrue result → (parts : List PartValue) → S.speaks source.now parts
             → HoldsMoves parts (both_ways (core_pairs self.new)) moving w d }
     {
-        let joins = self.joins_at(source, d);
+        let heading = Heading::of(d, source.has_low_facets());
+        let joins = self.joins_at(source, &heading);
         match joins.shut(w, moving) {
             None => true,
-            Some(_) => self.grow_at(source, w, moving, d, joins),
+            Some(_) => self.grow_at(source, w, moving, &heading, joins),
         }
     }
 }

@@ -19,13 +19,15 @@ use crate::listed::PairList;
 use crate::table_pairs::TablePairs;
 use staat_model::PartSet;
 use staat_planes::PlaneTable;
-use staat_vec::{NORMAL, ORIGIN, V3, is_same};
+use staat_vec::{NORMAL, ORIGIN, V3, are_small, is_same};
 
 /// Pairs of a table, and a core that grows by them. It takes no memory.
 #[derive(Drop)]
 pub struct TableCore {
     list: PairList,
     core: Core,
+    // whether the planes of the table are known to be small
+    low: bool,
 }
 
 impl TableCore {
@@ -39,6 +41,7 @@ impl TableCore {
         TableCore {
             list,
             core: Core::none(),
+            low: are_small(table.planes()),
         }
     }
 
@@ -69,6 +72,7 @@ impl TableCore {
         let source = TablePairs {
             table,
             pairs: self.list.pairs(),
+            low: self.low,
         };
         match self.core.holds_on(&source, w, moving, g) {
             CoreAnswer::Held => true,
@@ -90,6 +94,7 @@ impl TableCore {
         let source = TablePairs {
             table,
             pairs: self.list.pairs(),
+            low: self.low,
         };
         stays_together(&source, w)
     }
@@ -112,6 +117,7 @@ impl TableCore {
         let source = TablePairs {
             table,
             pairs: self.list.pairs(),
+            low: self.low,
         };
         match self.core.holds(&source, w, moving) {
             CoreAnswer::Held => true,

@@ -9,7 +9,7 @@ ghost use Rattle.staat_pairs.specs.Tables.{IsTableArc, WasMadeFrom, back, facets
 ghost use Rattle.staat_planes.specs.Tables.{BlocksIn, GainsArcs, IsAhead, IsAheadFrom, IsAheadIn};
 ghost use Rattle.staat_planes.specs.Tables.{IsBehindFrom};
 
-use crate::leads::{Leads, leads_past};
+use crate::leads::{Heading, Leads};
 use crate::table::PlaneTable;
 use staat_cone::blocks;
 use staat_graph::Graph;
@@ -48,35 +48,32 @@ impl PlaneTable {
         }
     }
 
-    /// How `d` leads past the facets of two pieces of different parts of the set, that of the lesser part first:
-    /// whether ahead of all of them, and whether behind all, which is ahead of all facets of the two in the other
-    /// order.
-    ///
-    /// The components of `d` are at most [`DIRECTION`] in absolute value. Each facet is looked at once, and the search
-    /// ends where neither is left.
-    pub fn leads_both_ways(&self, arc: Arc, d: V3) -> Leads
+    // How a direction leads past the facets of two pieces of different parts of the set, that of the lesser part first:
+    // whether ahead of all of them, and whether behind all, which is ahead of all facets of the two in the other order.
+    fn leads_both_ways(&self, arc: Arc, heading: &Heading) -> Leads
         requires across { IsTableArc self.now arc }
         requires order { arc.a < arc.b }
-        requires direction { IsWithin DIRECTION d }
-        ensures ahead { IsTrue result.ahead ↔ All (λ n. pos 0 <ℤ dot n d) (facets_of self.now arc) }
-        ensures behind { IsTrue result.behind ↔ All (λ n. pos 0 <ℤ dot n d) (facets_of self.now (back arc)) }
+        requires far { IsTrue heading.now.fair → ⊥ }
+        ensures ahead { IsTrue result.ahead ↔ All (λ n. pos 0 <ℤ dot n heading.now.d) (facets_of self.now arc) }
+        ensures behind { IsTrue result.behind
+            ↔ All (λ n. pos 0 <ℤ dot n heading.now.d) (facets_of self.now (back arc)) }
     {
-        leads_past(self.kept_facets(arc), d)
+        heading.past(self.kept_facets(arc))
     }
 
     // the same of a piece of the part a and any pieces of the greater part b
-    fn leads_from(&self, a: u32, i: u32, b: u32, d: V3) -> Leads
+    fn leads_from(&self, a: u32, i: u32, b: u32, heading: &Heading) -> Leads
         requires a_in { Has self.now.of a }
         requires b_in { Has self.now.of b }
         requires order { a < b }
         requires piece { i < pieces_of self.now a }
-        requires direction { IsWithin DIRECTION d }
-        ensures ahead { IsTrue result.ahead ↔ IsAheadFrom self.now d a i b }
-        ensures behind { IsTrue result.behind ↔ IsBehindFrom self.now d a i b }
+        requires far { IsTrue heading.now.fair → ⊥ }
+        ensures ahead { IsTrue result.ahead ↔ IsAheadFrom self.now heading.now.d a i b }
+        ensures behind { IsTrue result.behind ↔ IsBehindFrom self.now heading.now.d a i b }
     {
         let mut leads = Leads::neither();
         for j in 0..self.pieces(b) {
-            leads = leads.or(self.leads_both_ways(Arc { a, i, b, j }, d));
+            leads = leads.or(self.leads_both_ways(Arc { a, i, b, j }, heading));
             if leads.ahead && leads.behind {
                 return leads;
             }
@@ -85,17 +82,17 @@ impl PlaneTable {
     }
 
     // the same of any pieces of the part a and any of the greater part b
-    fn leads_between(&self, a: u32, b: u32, d: V3) -> Leads
+    fn leads_between(&self, a: u32, b: u32, heading: &Heading) -> Leads
         requires a_in { Has self.now.of a }
         requires b_in { Has self.now.of b }
         requires order { a < b }
-        requires direction { IsWithin DIRECTION d }
-        ensures ahead { IsTrue result.ahead ↔ IsAhead self.now d a b }
-        ensures behind { IsTrue result.behind ↔ IsAhead self.now d b a }
+        requires far { IsTrue heading.now.fair → ⊥ }
+        ensures ahead { IsTrue result.ahead ↔ IsAhead self.now heading.now.d a b }
+        ensures behind { IsTrue result.behind ↔ IsAhead self.now heading.now.d b a }
     {
         let mut leads = Leads::neither();
         for i in 0..self.pieces(a) {
-            leads = leads.or(self.leads_from(a, i, b, d));
+            leads = leads.or(self.leads_from(a, i, b, heading));
             if leads.ahead && leads.behind {
                 return leads;
             }
@@ -104,33 +101,33 @@ impl PlaneTable {
     }
 
     // puts the arcs between the part a and the greater part b into the rows
-    fn put_pair(&self, rows: &mut [u32; 32], a: u32, b: u32, d: V3)
+    fn put_pair(&self, rows: &mut [u32; 32], a: u32, b: u32, heading: &Heading)
         requires a_in { Has self.now.of a }
         requires b_in { Has self.now.of b }
         requires order { a < b }
-        requires direction { IsWithin DIRECTION d }
-        ensures { GainsArcs (IsAhead self.now d) a (λ y. y ≡ b) rows.old rows.new }
+        requires far { IsTrue heading.now.fair → ⊥ }
+        ensures { GainsArcs (IsAhead self.now heading.now.d) a (λ y. y ≡ b) rows.old rows.new }
     {
         // parts are below the number of rows
         let _set = self.set();
-        let leads = self.leads_between(a, b, d);
+        let leads = self.leads_between(a, b, heading);
         put_arc(rows, a, b, leads.ahead);
         put_arc(rows, b, a, leads.behind);
     }
 
     // puts those between the part a and each of others, which are greater
-    fn put_pairs(&self, rows: &mut [u32; 32], a: u32, others: PartSet, d: V3)
+    fn put_pairs(&self, rows: &mut [u32; 32], a: u32, others: PartSet, heading: &Heading)
         requires a_in { Has self.now.of a }
         requires set { IsSubset others self.now.of }
         requires order { (b : ℕ) → Has others b → a < b }
-        requires direction { IsWithin DIRECTION d }
-        ensures { GainsArcs (IsAhead self.now d) a (Has others) rows.old rows.new }
+        requires far { IsTrue heading.now.fair → ⊥ }
+        ensures { GainsArcs (IsAhead self.now heading.now.d) a (Has others) rows.old rows.new }
     {
         let mut left = others;
         while left.meets(left) {
             let b = left.least();
             left = left.without(PartSet::single(b));
-            self.put_pair(rows, a, b, d);
+            self.put_pair(rows, a, b, heading);
         }
     }
 
@@ -149,12 +146,13 @@ impl PlaneTable {
         ensures shows { (parts : List PartValue) → WasMadeFrom parts self.now →
             ShowsBlocking parts d w result.rows }
     {
+        let heading = Heading::of(d, false);
         let mut rows = [0u32; 32];
         let mut left = w;
         while left.meets(left) {
             let a = left.least();
             left = left.without(PartSet::single(a));
-            self.put_pairs(&mut rows, a, left, d);
+            self.put_pairs(&mut rows, a, left, &heading);
         }
         Graph { rows }
     }

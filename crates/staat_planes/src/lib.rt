@@ -15,7 +15,7 @@ mod table;
 mod used;
 
 pub use build::tabulate;
-pub use leads::{Leads, leads_past};
+pub use leads::{Heading, Leads};
 pub use pairs::PlanePairs;
 pub use refusal::PlanesRefusal;
 pub use search::{

@@ -4,14 +4,14 @@ use Rattle.staat_core.proofs.grow.put_pair.Goals as goal
 
 pub returns-then-leads-clause-leads : goal.returns-then-leads-clause-leads
 returns-then-leads-clause-leads g c parts pairs speaks listed leads =
-    leads_more parts pairs c.args.d c.args.pair c.args.joins.now.ahead.rows c.put.new.self.ahead.rows (first_way pairs c.args.pair listed)
-    (meets_ahead parts c.args.pair c.facets.result.now (c.facets.ensures.all parts speaks) c.args.d (c.leads_past-leads.ensures.ahead.0 c.if-leads.true))
+    leads_more parts pairs c.args.heading.now.d c.args.pair c.args.joins.now.ahead.rows c.put.new.self.ahead.rows (first_way pairs c.args.pair listed)
+    (meets_ahead parts c.args.pair c.facets.result.now (c.facets.ensures.all parts speaks) c.args.heading.now.d (c.past-leads.ensures.ahead.0 c.if-leads.true))
     c.put.ensures.ahead leads
 
 pub returns-then-leads-2-clause-leads : goal.returns-then-leads-2-clause-leads
 returns-then-leads-2-clause-leads g c parts pairs speaks listed leads =
-    leads_more parts pairs c.args.d (back c.args.pair) c.args.joins.now.ahead.rows c.put-then-leads-2.new.self.ahead.rows (second_way pairs c.args.pair listed)
-    (meets_behind parts c.args.pair c.facets.result.now (c.facets.ensures.all parts speaks) c.args.d (c.leads_past-leads.ensures.behind.0 c.if-leads-2.true))
+    leads_more parts pairs c.args.heading.now.d (back c.args.pair) c.args.joins.now.ahead.rows c.put-then-leads-2.new.self.ahead.rows (second_way pairs c.args.pair listed)
+    (meets_behind parts c.args.pair c.facets.result.now (c.facets.ensures.all parts speaks) c.args.heading.now.d (c.past-leads.ensures.behind.0 c.if-leads-2.true))
     c.put-then-leads-2.ensures.ahead leads
 
 pub returns-then-leads-clause-reversed : goal.returns-then-leads-clause-reversed

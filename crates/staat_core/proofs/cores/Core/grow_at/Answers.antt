@@ -13,7 +13,7 @@ loop-k-init g c = record { core = c.requires.core; grows = grows_not c.args.self
 
 pub returns-in_default-clause-held : goal.returns-in_default-clause-held
 returns-in_default-clause-held g c told parts speaks =
-    held_by_arcs parts (core_pairs c.loop-k.self) c.args.moving c.args.w c.args.d c.loop-k.joins.ahead.rows (c.loop-k.invariant.leads parts speaks) c.in_default.ensures
+    held_by_arcs parts (core_pairs c.loop-k.self) c.args.moving c.args.w c.args.heading.now.d c.loop-k.joins.ahead.rows (c.loop-k.invariant.leads parts speaks) c.in_default.ensures
 
 pub returns-then-not-take-clause-grows : goal.returns-then-not-take-clause-grows
 returns-then-not-take-clause-grows g c = grows_further c.args.self.now c.loop-k.self c.take.new.self c.loop-k.invariant.grows c.take.ensures.grows
@@ -30,7 +30,7 @@ loop-k-preserved g c =
       reversed = c.put_pair.ensures.reversed;
       leads = λ parts speaks.
           c.put_pair.ensures.leads parts (core_pairs c.take.new.self) speaks (c.take.ensures.listed told)
-          (leading_kept parts (core_pairs c.loop-k.self) (core_pairs c.take.new.self) c.args.d c.loop-k.joins.ahead.rows c.take.ensures.grows.pairs (c.loop-k.invariant.leads parts speaks));
+          (leading_kept parts (core_pairs c.loop-k.self) (core_pairs c.take.new.self) c.args.heading.now.d c.loop-k.joins.ahead.rows c.take.ensures.grows.pairs (c.loop-k.invariant.leads parts speaks));
     }
 
 pub returns-clause-core : goal.returns-clause-core

@@ -9,5 +9,5 @@ invariant-loop-k g l = record {
   core : IsCore (g.S.PairSource.pairs l.source) (g.S.PairSource.speaks l.source) l.self;
   grows : HasGrown l.fn.self l.self;
   reversed : AreReversed l.joins.ahead.rows l.joins.back.rows;
-  leads : (parts : List Part) → g.S.PairSource.speaks l.source parts → AreLeading parts (core_pairs l.self) l.d l.joins.ahead.rows;
+  leads : (parts : List Part) → g.S.PairSource.speaks l.source parts → AreLeading parts (core_pairs l.self) l.heading.d l.joins.ahead.rows;
 }

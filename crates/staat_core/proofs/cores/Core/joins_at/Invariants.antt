@@ -7,5 +7,5 @@ use Rattle.staat_core.proofs.cores.Core.joins_at.Given as goal
 abbrev pub invariant-loop-pair : goal.invariant-loop-pair
 invariant-loop-pair g l = record {
   reversed : AreReversed l.joins.ahead.rows l.joins.back.rows;
-  leads : (parts : List Part) → g.S.PairSource.speaks l.source parts → AreLeading parts (core_pairs l.self) l.d l.joins.ahead.rows;
+  leads : (parts : List Part) → g.S.PairSource.speaks l.source parts → AreLeading parts (core_pairs l.self) l.heading.d l.joins.ahead.rows;
 }

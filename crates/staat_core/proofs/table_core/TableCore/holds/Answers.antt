@@ -12,6 +12,7 @@ returns-in-Held-clause-core c = record {
   room = c.requires.core.room;
   pairs = c.requires.core.pairs;
   core = core_of c.pairs.result.now (pairs_in_use c.args.self.now.list) (λ parts. WasMadeFrom parts c.args.table.now) c.holds.new.self c.pairs.ensures c.holds.ensures.core;
+  low = c.requires.core.low;
 }
 
 pub returns-in-Open-clause-core : goal.returns-in-Open-clause-core
@@ -19,6 +20,7 @@ returns-in-Open-clause-core c = record {
   room = c.requires.core.room;
   pairs = c.requires.core.pairs;
   core = core_of c.pairs.result.now (pairs_in_use c.args.self.now.list) (λ parts. WasMadeFrom parts c.args.table.now) c.holds.new.self c.pairs.ensures c.holds.ensures.core;
+  low = c.requires.core.low;
 }
 
 pub returns-in-Held-clause-held : goal.returns-in-Held-clause-held
