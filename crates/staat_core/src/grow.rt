@@ -29,6 +29,7 @@ pub(crate) struct Wanted {
 
 // Adds the arc of a pair along a direction, if one of its pieces meets the other there. Where both arcs are there
 // already, no facets are looked at.
+#[inline(always)]
 fn put_pair<S: PairSource>(joins: &mut Joins, source: &S, pair: Arc, heading: &Heading)
     requires pair { Contains (S.pairs source.now) pair }
     requires small { IsSmallPair pair }

@@ -51,7 +51,7 @@ same_or_not a b = go (ℤ_discrete a.x b.x) (ℤ_discrete a.y b.y) (ℤ_discrete
     go (yes p) (no q) r = no (λ e. q (ap (λ v. v.y) e))
     go (yes p) (yes q) (no r) = no (λ e. r (ap (λ v. v.z) e))
 
-member_or_not : (x : V3) (xs : List V3) → Contains xs x ⊎ (Contains xs x → ⊥)
+pub member_or_not : (x : V3) (xs : List V3) → Contains xs x ⊎ (Contains xs x → ⊥)
 member_or_not x [] = inr (λ (k, lt, e). omega arith)
 member_or_not x (y ∷ ys) = go (same_or_not y x) (member_or_not x ys)
   where

@@ -8,9 +8,9 @@ use Rattle.staat_pairs.proofs.NumberingLemmas.{below_64}
 use Rattle.staat_pairs.proofs.table.FacetTable.place.Goals as goal
 
 -- the table as it is kept, and as it is seen
-module _ (kept t : Table) (firsts : List ℕ) (a i : ℕ) (e : kept ≡ t) (h : IsNumberedTable kept firsts) (part : Has t.of a) where
-  seen : IsNumberedTable t firsts
-  seen = subst (λ v. IsNumberedTable v firsts) e h
+module _ (kept t : Table) (firsts numbers : List ℕ) (a i : ℕ) (e : kept ≡ t) (h : IsNumberedTable kept firsts numbers) (part : Has t.of a) where
+  seen : IsNumberedTable t firsts numbers
+  seen = subst (λ v. IsNumberedTable v firsts numbers) e h
 
   part_below : a < 32
   part_below = seen.table.small a part
@@ -26,16 +26,16 @@ small_fits n h = omega arith
 
 pub bounds-self-inside-a : goal.bounds-self-inside-a
 bounds-self-inside-a c =
-    part_below _ c.args.self.now c.self.inside.firsts c.args.a c.args.i c.self.view_is c.self.invariant c.requires.part
+    part_below _ c.args.self.now c.self.inside.firsts c.self.inside.numbers.items c.args.a c.args.i c.self.view_is c.self.invariant c.requires.part
 
 pub overflow_add-result : goal.overflow_add-result
 overflow_add-result c =
-    small_fits _ (place_small _ c.args.self.now c.self.inside.firsts c.args.a c.args.i c.self.view_is c.self.invariant c.requires.part c.requires.piece)
+    small_fits _ (place_small _ c.args.self.now c.self.inside.firsts c.self.inside.numbers.items c.args.a c.args.i c.self.view_is c.self.invariant c.requires.part c.requires.piece)
 
 pub returns-clause-is : goal.returns-clause-is
 returns-clause-is c =
-    place_is _ c.args.self.now c.self.inside.firsts c.args.a c.args.i c.self.view_is c.self.invariant c.requires.part
+    place_is _ c.args.self.now c.self.inside.firsts c.self.inside.numbers.items c.args.a c.args.i c.self.view_is c.self.invariant c.requires.part
 
 pub returns-clause-small : goal.returns-clause-small
 returns-clause-small c =
-    place_small _ c.args.self.now c.self.inside.firsts c.args.a c.args.i c.self.view_is c.self.invariant c.requires.part c.requires.piece
+    place_small _ c.args.self.now c.self.inside.firsts c.self.inside.numbers.items c.args.a c.args.i c.self.view_is c.self.invariant c.requires.part c.requires.piece
