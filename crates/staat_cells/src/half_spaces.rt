@@ -19,14 +19,15 @@ pub struct HalfSpace {
 /// Open half-spaces, each bounded by a plane.
 pub type HalfSpaces = Listed<HalfSpace>;
 
-// the half-space that is ahead of a facet
-fn half_space_ahead(table: &PlaneTable, n: V3) -> HalfSpace
-    requires { IsTableFacet table.now.planes n }
+// the half-space that is ahead of a facet, on whose plane of this number it lies
+fn half_space_ahead(table: &PlaneTable, n: V3, plane: usize) -> HalfSpace
+    requires facet { IsTableFacet table.now.planes n }
+    requires plane { slice_get table.now.planes plane ≡ Some (canon n) }
     ensures { (signs : List SignValue) → IsInHalfSpace signs result ↔ IsSignAhead table.now.planes signs n }
 {
-    let normal = canon(n);
-    let plane = table.plane_number(normal) as usize;
-    if is_same(normal, n) {
+    // the table keeps its rules
+    let _planes = table.planes();
+    if is_same(canon(n), n) {
         HalfSpace {
             plane,
             sign: Sign::Pos,
@@ -50,7 +51,8 @@ pub(crate) fn half_spaces(
 {
     let mut found = Vec::new(alloc);
     for m in 0..table.facet_count(arc) {
-        found.push(half_space_ahead(table, table.facet(arc, m)))?;
+        let plane = table.facet_plane(arc, m) as usize;
+        found.push(half_space_ahead(table, table.facet(arc, m), plane))?;
     }
     Ok(found)
 }

@@ -13,4 +13,3 @@ pub mod UsedPlanes
 pub mod PairSteps
 pub mod SearchSteps
 pub mod SetPlanes
-pub mod BeyondAxes

@@ -71,37 +71,19 @@ adds_skip planes P m old new before none = adds_more planes P m old new new befo
 
 -- ---- one mark
 
-place_beyond : (planes others : List V3) (v : V3) (j : ℕ) → planes ≡ axes ++ others → slice_get (drop 3 planes) j ≡ Some v → slice_get planes (3 + j) ≡ Some v
-place_beyond planes others v j e at =
-    let three : 3 + j ≡ suc (suc (suc j)) = omega arith in
-    let there : slice_get others j ≡ Some v = subst (λ ps. slice_get (drop 3 ps) j ≡ Some v) e at in
-    (λ i. slice_get (e i) (three i)) ∙ there
-
-pub one_mark : (planes : List V3) (v : V3) (j : ℕ) (old : List Bool) → AreTablePlanes planes → slice_get (drop 3 planes) j ≡ Some v → length planes ≤ length old → AddsMarks planes (λ n. n ≡ v) old (set old (3 + j) true)
-one_mark planes v j old are found room = record {
-  each = λ k n le at. ⊎_elim {C = IsPlaneMarked (set old (3 + j) true) k ↔ (IsPlaneMarked old k ⊎ (n ≡ v))}
+pub one_mark : (planes : List V3) (v : V3) (j : ℕ) (old : List Bool) → AreTablePlanes planes → slice_get planes j ≡ Some v → length planes ≤ length old → AddsMarks planes (λ n. n ≡ v) old (set old j true)
+one_mark planes v j old are there room = record {
+  each = λ k n le at. ⊎_elim {C = IsPlaneMarked (set old j true) k ↔ (IsPlaneMarked old k ⊎ (n ≡ v))}
       (λ e. (
-        (λ _. inr (one_at_place planes (3 + j) n v (subst (λ m. slice_get planes m ≡ Some n) e at) there)),
-        (λ _. get_or-set_at old (3 + j) k true false e (let lt = place_within planes (3 + j) v there in omega (arith, lt, room))),
+        (λ _. inr (one_at_place planes j n v (subst (λ m. slice_get planes m ≡ Some n) e at) there)),
+        (λ _. get_or-set_at old j k true false e (let lt = place_within planes j v there in omega (arith, lt, room))),
       ))
-      (λ ne. let stays : get_or (set old (3 + j) true) k false ≡ get_or old k false = get_or-set_other old (3 + j) k true false ne in (
+      (λ ne. let stays : get_or (set old j true) k false ≡ get_or old k false = get_or-set_other old j k true false ne in (
         (λ m. inl (sym stays ∙ m)),
-        (λ h. ⊎_elim {C = IsPlaneMarked (set old (3 + j) true) k} (λ o. stays ∙ o)
-            (λ e. absurd (are.apart k (3 + j) n v at there ne (ap (λ u. cross u v) e ∙ cross_self v))) h),
+        (λ h. ⊎_elim {C = IsPlaneMarked (set old j true) k} (λ o. stays ∙ o)
+            (λ e. absurd (are.apart k j n v at there ne (ap (λ u. cross u v) e ∙ cross_self v))) h),
       ))
-      (same_or k (3 + j));
-}
-  where
-    there : slice_get planes (3 + j) ≡ Some v
-    there = place_beyond planes are.others v j are.is found
-
-pub no_mark : (planes : List V3) (v : V3) (old : List Bool) → AreTablePlanes planes → (Contains (drop 3 planes) v → ⊥) → AddsMarks planes (λ n. n ≡ v) old old
-no_mark planes v old are none = record {
-  each = λ k n le at. (
-    (λ m. inl m),
-    (λ h. ⊎_elim {C = IsPlaneMarked old k} (λ o. o)
-        (λ e. absurd (none (subst (Contains (drop 3 planes)) e (subst (λ ps. Contains ps n) (sym (ap (drop 3) are.is)) (other_at planes are.others k n are.is le at))))) h),
-  );
+      (same_or k j);
 }
 
 -- ---- the facets of two pieces
@@ -111,9 +93,6 @@ facet_marks facets n b = record { facet = get_or facets b.j origin; listed = Con
 
 pub facet_marked : (facets : List V3) (n : V3) → IsCanonOf facets n → IsBelow (λ m n. n ≡ canon (get_or facets m origin)) (length facets) n
 facet_marked facets n c = let (j, lt, e) = c.listed in record { j = j; lt = lt; holds = c.is ∙ ap canon (sym (get_or_default facets j origin c.facet lt ∙ e)) }
-
-pub facets_at : (ps planes fs facets : List V3) (old new : List Bool) → ps ≡ planes → fs ≡ facets → AddsMarks ps (IsCanonOf fs) old new → AddsMarks planes (IsCanonOf facets) old new
-facets_at ps planes fs facets old new p f adds = subst (λ xs. AddsMarks planes (IsCanonOf xs) old new) f (subst (λ xs. AddsMarks xs (IsCanonOf fs) old new) p adds)
 
 -- ---- the marks of a set
 

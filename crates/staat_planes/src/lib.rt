@@ -2,11 +2,12 @@
 #![tactic(auto)]
 
 mod build;
+mod facet_planes;
 mod graph;
 mod leads;
 mod marked_planes;
 mod pairs;
-mod plane_number;
+
 mod refusal;
 mod search;
 mod set_planes;

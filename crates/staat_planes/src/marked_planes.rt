@@ -1,38 +1,13 @@
 // The planes of a smaller set of parts, marked in one pass over its facets.
-ghost use Rattle.std.specs.Prelude.{◌≡◌, ◌<◌, ◌≤◌, ℕ, All, false, length, slice_index_or};
+ghost use Rattle.std.specs.Prelude.{◌≡◌, ◌<◌, ◌≤◌, ℕ, false, slice_index_or};
 ghost use Rattle.staat_model.specs.Sets.{Has, IsSubset};
 ghost use Rattle.staat_pairs.specs.Searches.{HasPlane, HasPlaneBetween, HasPlaneFrom, HasPlaneOf, IsCanonOf};
-ghost use Rattle.staat_pairs.specs.Tables.{AreTablePlanes, IsTableFacet, pieces_of};
+ghost use Rattle.staat_pairs.specs.Tables.{IsTableArc, facets_of, pieces_of};
 ghost use Rattle.staat_planes.specs.MarkedPlanes.{AddsMarks, AreUsedMarks, IsPlaneMarked};
 
 use crate::table::PlaneTable;
-use staat_limits::{MOST_PARTS, MOST_PLANES};
+use staat_limits::MOST_PARTS;
 use staat_model::{Arc, PartSet};
-use staat_pairs::{place_among, planes_from};
-use staat_vec::{V3, canon};
-
-// marks the plane beyond the coordinate planes with the normal n, if there is one, which is found by halving
-fn mark(planes: &[V3], n: V3, marks: &mut [bool; 1024])
-    requires planes { AreTablePlanes planes.now }
-    requires most { length planes.now ≤ MOST_PLANES }
-    ensures { AddsMarks planes.now (λ m. m ≡ n) marks.old marks.new }
-{
-    if let Some(k) = place_among(planes_from(planes, 3), n) {
-        marks[3 + k] = true;
-    }
-}
-
-// marks the planes of the facets
-fn mark_facets(planes: &[V3], facets: &[V3], marks: &mut [bool; 1024])
-    requires planes { AreTablePlanes planes.now }
-    requires most { length planes.now ≤ MOST_PLANES }
-    requires facets { All (IsTableFacet planes.now) facets.now }
-    ensures { AddsMarks planes.now (IsCanonOf facets.now) marks.old marks.new }
-{
-    for facet in facets {
-        mark(planes, canon(*facet), marks);
-    }
-}
 
 // marks the coordinate planes
 fn mark_axes(marks: &mut [bool; 1024])
@@ -45,6 +20,17 @@ fn mark_axes(marks: &mut [bool; 1024])
 }
 
 impl PlaneTable {
+    // marks the planes of the facets of two pieces, that of the lesser part first
+    fn mark_facets(&self, arc: Arc, marks: &mut [bool; 1024])
+        requires across { IsTableArc self.now arc }
+        requires order { arc.a < arc.b }
+        ensures { AddsMarks self.now.planes (IsCanonOf (facets_of self.now arc)) marks.old marks.new }
+    {
+        for m in 0..self.kept_count(arc) {
+            marks[self.kept_number(arc, m) as usize] = true;
+        }
+    }
+
     // marks those of the facets of a piece of the part a and all pieces of the part b
     fn mark_from(&self, a: u32, i: u32, b: u32, marks: &mut [bool; 1024])
         requires a_in { Has self.now.of a }
@@ -54,7 +40,7 @@ impl PlaneTable {
         ensures { AddsMarks self.now.planes (λ n. HasPlaneFrom self.now n a i b) marks.old marks.new }
     {
         for j in 0..self.pieces(b) {
-            mark_facets(self.planes(), self.kept_facets(Arc { a, i, b, j }), marks);
+            self.mark_facets(Arc { a, i, b, j }, marks);
         }
     }
 

@@ -1,6 +1,7 @@
 // The table of the planes of a set of parts and of the facets of their pieces, with a limit on planes.
 ghost use Rattle.std.specs.Prelude.{◌≡◌, ◌<◌, ◌≤◌, ◌+◌, ◌*◌, All, Some, length, slice_get};
 ghost use Rattle.staat_vec.specs.declared.vector.V3.{V3 as Vector};
+ghost use Rattle.staat_vec.specs.Primitives.{canon};
 ghost use Rattle.staat_vec.specs.Vectors.{IsWithin, dot, sign};
 ghost use Rattle.staat_model.specs.Sets.{Has};
 ghost use Rattle.staat_pairs.specs.Tables.{AreTableFacets, AreTablePlanes, IsPlaneNormal, IsTable, IsTableArc};
@@ -144,8 +145,22 @@ impl PlaneTable {
         self.table.kept_facets(arc)
     }
 
+    // the number of the plane of the facet m of two pieces, that of the lesser part first
+    pub(crate) fn kept_number(&self, arc: Arc, m: u32) -> u32
+        requires across { IsTableArc self.now arc }
+        requires order { arc.a < arc.b }
+        requires place { m < length (facets_of self.now arc) }
+        ensures within { result < length self.now.planes }
+        ensures most { length self.now.planes ≤ MOST_PLANES }
+        ensures is { (n : Vector) → slice_get (facets_of self.now arc) m ≡ Some n
+            → slice_get self.now.planes result ≡ Some (canon n) }
+        ensures table { IsTable self.now }
+    {
+        self.table.kept_number(arc, m as usize) as u32
+    }
+
     // the number of facets of two pieces, that of the lesser part first
-    fn kept_count(&self, arc: Arc) -> u32
+    pub(crate) fn kept_count(&self, arc: Arc) -> u32
         requires across { IsTableArc self.now arc }
         requires order { arc.a < arc.b }
         ensures is { result ≡ length (facets_of self.now arc) }

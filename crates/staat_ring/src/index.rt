@@ -1,6 +1,6 @@
 // Which facets lie on which plane, made from a table.
 ghost use Rattle.std.specs.Prelude.{◌≡◌, ◌+◌, ◌<◌};
-ghost use Rattle.std.specs.Prelude.{IfOk, OnOk, length};
+ghost use Rattle.std.specs.Prelude.{IfOk, OnOk, Some, length, slice_get};
 ghost use Rattle.staat_vec.specs.Primitives.{canon};
 ghost use Rattle.staat_pairs.specs.Tables.{IsTableArc, IsTableFacet, slot};
 ghost use Rattle.staat_ring.specs.Index.{with_facet, AreSameBut, AreToldBelow, AreZero, ArePlaces, IsFresh};
@@ -48,14 +48,17 @@ fn places_of(alloc: Global, table: &PlaneTable) -> Result<Vec<PiecePlace>, OutOf
     Ok(places)
 }
 
-// puts down one facet of the pair q, in the list of its plane and sense
+// puts down one facet of the pair q, in the list of its plane, which has this number, and its sense
 fn push_facet(
     signs: &mut CountedSigns,
     table: &PlaneTable,
     facet: V3,
+    plane: u32,
     q: u16,
 ) -> Result<(), OutOfMemory>
     requires facet { IsTableFacet table.now.planes facet }
+    requires within { plane < length table.now.planes }
+    requires plane { slice_get table.now.planes plane ≡ Some (canon facet) }
     requires states { length signs.old.states ≡ length table.now.planes }
     requires zero { AreZero signs.old }
     requires pair { q < length signs.old.pairs }
@@ -64,7 +67,7 @@ fn push_facet(
         × (facet_at table.now.planes w ≡ facet) × (signs.new ≡ with_facet w q signs.old)) }
 {
     let n = canon(facet);
-    signs.push(table.plane_number(n), !is_same(n, facet), q)
+    signs.push(plane, !is_same(n, facet), q)
 }
 
 // tells the pair q, and puts down its facets
@@ -88,7 +91,7 @@ fn add_pair(
     let count = table.facet_count(arc);
     signs.want(q, count as u16, (32 * arc.a + arc.b) as u16);
     for m in 0..count {
-        push_facet(signs, table, table.facet(arc, m), q)?;
+        push_facet(signs, table, table.facet(arc, m), table.facet_plane(arc, m), q)?;
     }
     Ok(())
 }

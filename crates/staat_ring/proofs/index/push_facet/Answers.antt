@@ -1,4 +1,7 @@
-use Rattle.std.proofs.Common.{ap, ◌∙◌}
+use Rattle.std.proofs.Common.{ap, sym, ◌∙◌}
+use Rattle.std.proofs.lemmas.Option.{get_or_from_slice_get}
+use Rattle.staat_vec.specs.Primitives.{canon}
+use Rattle.staat_vec.specs.Vectors.{origin}
 use Rattle.std.specs.Prelude.{not}
 use Rattle.staat_vec.proofs.Primitives.{IsPrimitive-some}
 use Rattle.staat_ring.specs.Belonging.{PlaneFacet}
@@ -13,5 +16,5 @@ canon-n-requires-clause-some c = IsPrimitive-some c.args.facet c.requires.facet.
 pub returns : goal.returns
 returns c =
     let h = c.push.ensures in
-    let w : PlaneFacet = record { plane = c.plane_number.result; turned = not c.is_same.result } in
-    on_ok c.push.result _ _ c.push.ensures (λ e. (w, c.plane_number.ensures.within, ap (facet_by (not c.is_same.result)) c.plane_number.ensures.is ∙ plane_facet_is c.args.facet c.canon-n.result (not c.is_same.result) c.canon-n.ensures.value (λ f q. not_true_clash c.is_same.result f (c.is_same.ensures.1 q)) (λ f. c.is_same.ensures.0 (from_not_false c.is_same.result f)), e))
+    let w : PlaneFacet = record { plane = c.args.plane; turned = not c.is_same.result } in
+    on_ok c.push.result _ _ c.push.ensures (λ e. (w, c.requires.within, ap (facet_by (not c.is_same.result)) (get_or_from_slice_get c.args.table.now.planes c.args.plane (canon c.args.facet) origin c.requires.plane ∙ sym c.canon-n.ensures.value) ∙ plane_facet_is c.args.facet c.canon-n.result (not c.is_same.result) c.canon-n.ensures.value (λ f q. not_true_clash c.is_same.result f (c.is_same.ensures.1 q)) (λ f. c.is_same.ensures.0 (from_not_false c.is_same.result f)), e))

@@ -7,7 +7,7 @@ use Rattle.staat_vec.specs.Vectors.{origin}
 use Rattle.staat_vec.proofs.ListLaws.{place_is}
 use Rattle.staat_vec.proofs.Options.{some_injective}
 use Rattle.staat_pairs.specs.PlaneNumbers.{AreNumbers}
-use Rattle.staat_pairs.specs.Tables.{facets_of}
+use Rattle.staat_pairs.specs.Tables.{IsTable, facets_of}
 use Rattle.staat_pairs.proofs.TableLemmas.{kept_is}
 use Rattle.staat_pairs.proofs.table.FacetTable.kept_number.Goals as goal
 
@@ -35,8 +35,11 @@ index-requires c =
     subst (λ l. c.place.result < l) (sym c.self.inside.numbers.ok.0)
     (number_within c.self.inside.planes.items (flat_map (λ l. l) c.self.inside.facets) c.self.inside.numbers.items c.place.result n c.self.invariant.numbers_are at)
 
-pub returns : goal.returns
-returns c n at =
+pub returns-clause-table : goal.returns-clause-table
+returns-clause-table c = subst IsTable c.self.view_is c.self.invariant.table
+
+pub returns-clause-is : goal.returns-clause-is
+returns-clause-is c n at =
     let kept : List V3 = get_or c.self.inside.facets c.slot-slot.result [] in
     let same : kept ≡ facets_of c.args.self.now c.args.arc = kept_is c.args.self.now c.args.arc (get_or c.self.inside.facets c.slot-slot.result []) c.self.inside.facets c.slot-slot.result c.requires.order (ap (λ t. t.facets) c.self.view_is) c.slot-slot.ensures.is refl in
     let found = c.place.ensures n (ap (λ l. slice_get l c.args.m) same ∙ at) in

@@ -1,13 +1,13 @@
 use Rattle.std.proofs.Common.{◌<◌, arith}
 use Rattle.staat_pairs.specs.Searches.{HasPlaneFrom, IsCanonOf, arc_of}
 use Rattle.staat_pairs.specs.Tables.{facets_of, pieces_of}
-use Rattle.staat_planes.proofs.Marking.{IsBelow, adds_as, adds_more, facets_at}
+use Rattle.staat_planes.proofs.Marking.{IsBelow, adds_as, adds_more}
 use Rattle.staat_planes.proofs.table.PlaneTable.mark_from.Goals as goal
 
 pub loop-j-preserved : goal.loop-j-preserved
 loop-j-preserved c =
     adds_more c.args.self.now.planes (λ j n. IsCanonOf (facets_of c.args.self.now (arc_of c.args.a c.args.i c.args.b j)) n) c.loop-j.j c.args.marks.now c.loop-j.marks c.mark_facets.new.marks c.loop-j.invariant
-    (facets_at c.planes.result.now c.args.self.now.planes c.kept_facets.result.now (facets_of c.args.self.now (arc_of c.args.a c.args.i c.args.b c.loop-j.j)) c.loop-j.marks c.mark_facets.new.marks c.planes.ensures.is c.kept_facets.ensures.is c.mark_facets.ensures)
+    c.mark_facets.ensures
 
 pub returns : goal.returns
 returns c =
