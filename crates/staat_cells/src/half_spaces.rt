@@ -1,7 +1,9 @@
 // The directions ahead of two pieces, as half-spaces.
 ghost use Rattle.std.specs.Prelude.{◌≡◌, ◌⊎◌, ◌↔◌, ◌++◌, [], ◌∷◌, Any, Contains, IfOk, IsTrue, List, OnOk};
+ghost use Rattle.std.specs.Prelude.{Some, slice_get};
 ghost use Rattle.staat_vec.specs.declared.vector.Sign.{Sign as SignValue};
-ghost use Rattle.staat_pairs.specs.Tables.{IsTableArc, IsTableFacet, facets_of};
+ghost use Rattle.staat_vec.specs.Primitives.{canon};
+ghost use Rattle.staat_pairs.specs.Tables.{AreTablePlanes, IsTableArc, IsTableFacet, facets_of};
 ghost use Rattle.staat_cells.specs.HalfSpaces.{AreAhead, AreAmong, AreInside, IsInHalfSpace, IsSignAhead};
 
 use staat_model::Arc;
@@ -23,10 +25,9 @@ pub type HalfSpaces = Listed<HalfSpace>;
 fn half_space_ahead(table: &PlaneTable, n: V3, plane: usize) -> HalfSpace
     requires facet { IsTableFacet table.now.planes n }
     requires plane { slice_get table.now.planes plane ≡ Some (canon n) }
+    requires rules { AreTablePlanes table.now.planes }
     ensures { (signs : List SignValue) → IsInHalfSpace signs result ↔ IsSignAhead table.now.planes signs n }
 {
-    // the table keeps its rules
-    let _planes = table.planes();
     if is_same(canon(n), n) {
         HalfSpace {
             plane,
