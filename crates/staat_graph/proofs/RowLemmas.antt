@@ -86,9 +86,6 @@ any_default [] i d e lt = absurd (omega (arith, lt))
 any_default (x ∷ xs) zero d e lt = refl
 any_default (x ∷ xs) (suc i) d e lt = any_default xs i d e (omega (arith, lt))
 
-pub row_long : (rows : List (List Bool)) (i : ℕ) (row : List Bool) → IsSquare rows → i < length rows → row ≡ get_or rows i row → length row ≡ length rows
-row_long rows i row square lt is = ap (λ (r : List Bool). length r) is ∙ square i row lt
-
 -- ---- marks that are added
 
 or_cases : (a b c : Bool) → (a || (b && c)) ≡ true → (a ≡ true) ⊎ ((b ≡ true) × (c ≡ true))
