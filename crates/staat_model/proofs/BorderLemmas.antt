@@ -75,8 +75,8 @@ prune ks (g ∷ rs) needed = go (alternative (ks ++ rs) g) (prune ks rs (All-wea
           λ x h. ⊎_elim (out x) (λ b. inr (Contains-there g x rs b)) (from x h),
         )
 
-same_dec : (a b : V3) → Dec (a ≡ b)
-same_dec a b = go (ℤ_discrete a.x b.x) (ℤ_discrete a.y b.y) (ℤ_discrete a.z b.z)
+pub same_or_not : (a b : V3) → Dec (a ≡ b)
+same_or_not a b = go (ℤ_discrete a.x b.x) (ℤ_discrete a.y b.y) (ℤ_discrete a.z b.z)
   where
     go : Dec (a.x ≡ b.x) → Dec (a.y ≡ b.y) → Dec (a.z ≡ b.z) → Dec (a ≡ b)
     go (yes p) (yes q) (yes r) = yes (same_vector a b p q r)
@@ -86,7 +86,7 @@ same_dec a b = go (ℤ_discrete a.x b.x) (ℤ_discrete a.y b.y) (ℤ_discrete a.
 
 find_other : (g : V3) (ks : List V3) → ((h : V3) × Contains ks h × (h ≢ g)) ⊎ All (λ m. m ≡ g) ks
 find_other g [] = inr (All-nil (λ m. m ≡ g))
-find_other g (k ∷ ks) = go (same_dec k g) (find_other g ks)
+find_other g (k ∷ ks) = go (same_or_not k g) (find_other g ks)
   where
     go : Dec (k ≡ g) → ((h : V3) × Contains ks h × (h ≢ g)) ⊎ All (λ m. m ≡ g) ks → ((h : V3) × Contains (k ∷ ks) h × (h ≢ g)) ⊎ All (λ m. m ≡ g) (k ∷ ks)
     go (no n) r = inl (k, Contains-front k ks, n)
