@@ -46,9 +46,6 @@ plane_facet_is facet n true e t f = ⊎_elim {C = negative n ≡ facet} (λ same
 
 -- ---- one facet more
 
-abbrev both : Bool → Bool → Bool
-both a b = a && b
-
 pub plus_none : (n : ℕ) (b : Bool) → n ≡ n + one (b && false)
 plus_none n true = omega arith
 plus_none n false = omega arith

@@ -5,7 +5,7 @@ use Rattle.std.specs.Prelude.{◌==◌}
 use Rattle.std.proofs.Math.Nat.{mul-add-mod_self_left, mod-eq_of_lt}
 use Rattle.std.proofs.Math.ListN.{length-set}
 use Rattle.std.proofs.lemmas.List.Elements.{Contains-append_cases}
-use Rattle.staat_ring.specs.Links.{Links, Arrays, Apart, Distinct, unlink, is_bare, take, take_all}
+use Rattle.staat_ring.specs.Links.{Arrays, Apart, Distinct, unlink, is_bare, take, take_all}
 use Rattle.staat_ring.proofs.Taking.{CanTakeAll}
 use Rattle.staat_ring.specs.Stands.{Shape, RingLists, StandFor, is_empty, home_of, IsPresent, AllPresent}
 use Rattle.staat_ring.proofs.ListsWithout.{lists_without_plane, lists_without_all, lists_without, AreSame}
@@ -15,7 +15,7 @@ use Rattle.staat_ring.specs.RingViews.{shape, is_out, undo, rings_at, StandForCi
 use Rattle.staat_ring.specs.Numbered.{plane_of}
 use Rattle.staat_ring.specs.Without.{rings_without}
 use Rattle.staat_ring.proofs.RelinkUndoesUnlink.{give_all-take_all}
-use Rattle.staat_ring.proofs.TwoLevels.{stands-take_all, present-after}
+use Rattle.staat_ring.proofs.TwoLevels.{length_if, stands-take_all, present-after}
 use Rattle.staat_ring.proofs.ViewLemmas.{AreShort, lists_of_is, stands_same}
 use Rattle.staat_ring.proofs.Filters.{without-plane}
 use Rattle.staat_ring.proofs.RingLemmas.{rings-without, rings-same}
@@ -102,10 +102,6 @@ same_trans g l m k s t = record {
 }
 
 -- ---- lengths
-length_if : (b : Bool) (s : Links) (x : ℕ) → length (if b then unlink x s else s).next ≡ length s.next
-length_if true s x = length-set s.next (get_or s.prev x 0) (get_or s.next x 0)
-length_if false s x = refl
-
 lengths_kept : (es : List ℕ) (a : Arrays) → (length (take_all es a).circles.next ≡ length a.circles.next) × (length (take_all es a).vertices.next ≡ length a.vertices.next)
 lengths_kept [] a = (refl, refl)
 lengths_kept (e ∷ es) a =

@@ -73,7 +73,7 @@ contains_if : (b : Bool) (x y : ℕ) (xs : List ℕ) → Contains (if b then wit
 contains_if true x y xs h = contains_before x y xs h
 contains_if false x y xs h = h
 
-length_if : (b : Bool) (s : Links) (x : ℕ) → length (if b then unlink x s else s).next ≡ length s.next
+pub length_if : (b : Bool) (s : Links) (x : ℕ) → length (if b then unlink x s else s).next ≡ length s.next
 length_if true s x = length-set s.next (get_or s.prev x 0) (get_or s.next x 0)
 length_if false s x = refl
 
