@@ -5,18 +5,16 @@ use Rattle.std.proofs.Common.{ℤ, pos, ◌+ℤ◌, ◌-ℤ◌, ◌*ℤ◌, ◌<
 use Rattle.std.proofs.Common.{◌∷◌, ◌++◌, length, get_or, take}
 use Rattle.std.proofs.Common.{Contains}
 use Rattle.std.specs.Prelude.{Some, slice_get}
-use Rattle.std.specs.declared.cmp.Ordering.TheVariants.{Less}
 use Rattle.std.proofs.lemmas.Int.{ints, by_lt_z}
 use Rattle.std.proofs.lemmas.List.{take_more}
 use Rattle.std.proofs.lemmas.List.Elements.{All-contains, Contains-append_left}
-use Rattle.std.proofs.lemmas.Map.Views.{All-after_first}
 use Rattle.std.proofs.lemmas.Option.{slice_get-get_or}
 use Rattle.staat_vec.specs.declared.vector.V3.{V3}
 use Rattle.staat_vec.specs.declared.vector.Sign.{Sign}
 use Rattle.staat_vec.specs.declared.vector.Sign.TheVariants.{Neg, Zero}
 use Rattle.staat_vec.specs.declared.vector.TheConstants.{EDGE}
 use Rattle.staat_vec.specs.Primitives.{IsPrimitiveOf, primitive}
-use Rattle.staat_vec.specs.Vectors.{IsWithin, cross, dot, minus, origin, plus, sign, vector_cmp}
+use Rattle.staat_vec.specs.Vectors.{IsWithin, cross, dot, minus, origin, plus, sign}
 use Rattle.staat_vec.proofs.Order.{cancel_not_positive, cancel_zero, negative_apart}
 use Rattle.staat_vec.proofs.Primitives.{primitive-is}
 use Rattle.staat_vec.proofs.VecRing.{cross_self, dot_cross_left, dot_cross_right, same_vector, scale}
@@ -36,7 +34,6 @@ use Rattle.staat_cells.proofs.Zeros.{one_zero}
 use Rattle.staat_vec.proofs.Options.{some_injective}
 use Rattle.staat_vec.proofs.VectorLists.{one_of_two}
 use Rattle.staat_vec.proofs.VectorLaws.{plus_comm, dot_plus, dot_origin, dot_cross_about}
-use Rattle.staat_vec.proofs.VectorOrder.{vector_not_below_itself}
 use Rattle.staat_vec.proofs.Integers.{add-comm_ℤ, other_factor_zero, zero_not_negative}
 use Rattle.staat_vec.proofs.Signs.{negative_sign}
 use Rattle.staat_vec.proofs.Naturals.{same_or}
@@ -96,12 +93,6 @@ module _ (planes : List V3) (are : AreTablePlanes planes) (g d : V3) (g_in : Con
 -- ---- the sum of the ends of an edge
 
 module _ (planes : List V3) (are : AreTablePlanes planes) where
-  ends_differ : (s : List Sign) (d : V3) → (e : IsEdgeSum planes s d) → e.u ≢ e.v
-  ends_differ s d e p =
-      let l = e.ends in
-      vector_not_below_itself e.v (subst (λ z. vector_cmp z e.v ≡ Less) p (All-contains (λ q. vector_cmp e.u q ≡ Less)
-      (e.v ∷ []) e.v (All-after_first vector_cmp e.u (e.v ∷ []) l.ascending) (0, omega arith, refl)))
-
   pub sum_of_ends : (s : List Sign) (u v : V3) → IsCell planes s → kind_of s ≡ Edge → IsEnd planes s u
       → IsEnd planes s v → u ≢ v → IsEdgeSum planes s (plus u v)
   sum_of_ends s u v cell edge u_end v_end differ =
