@@ -1,9 +1,9 @@
 -- One more or one less positive facet of one pair.
-use Rattle.std.proofs.Common.{◌≡◌, ◌≢◌, ⊎_elim, ℕ, zero, suc, ◌+◌, ◌-◌, ◌<◌, ◌≤◌, Bool, true, false, not, ◌&&◌, arith, ap, sym, subst, ◌∙◌, refl, List, [], ◌∷◌, length, take, get_or, set, cond, eq-eqb, get_or-set_other, get_or-set_same, length-set}
+use Rattle.std.proofs.Common.{◌≡◌, ◌≢◌, ⊎_elim, ℕ, zero, suc, ◌+◌, ◌-◌, ◌<◌, ◌≤◌, Bool, true, false, not, ◌&&◌, arith, ap, sym, subst, ◌∙◌, refl, List, length, take, get_or, set, cond, eq-eqb, get_or-set_other, get_or-set_same, length-set}
 use Rattle.std.specs.Prelude.{IsTrue, ◌↔◌, ◌==◌, nat_lt, slice_index, slice_set}
 use Rattle.std.specs.Prelude.{replicate}
 use Rattle.std.proofs.lemmas.Bool.Decides.{Decides-eqb}
-use Rattle.std.proofs.lemmas.List.{set-get_or, get_or_default, get_or-replicate, get_or_past, length-replicate}
+use Rattle.std.proofs.lemmas.List.{get_or-replicate, get_or_default, get_or_past, length-replicate, set-get_or, set-set}
 use Rattle.std.proofs.lemmas.List.Sums.{sum_by-cons, sum_by-set, get_or-le-sum_by, count_by-le-length, count_by_more_yes, sum_by-take-le}
 use Rattle.staat_ring.specs.declared.pairs.PairCount.{PairCount}
 use Rattle.staat_model.specs.declared.set.PartSet.{PartSet}
@@ -156,11 +156,6 @@ lose_less pairs counts after q p is lt at some full e =
     let c : (x : ℕ) → (is_block x (lost p) ≡ false) × (is_block x (gained 1 (lost p)) ≡ (p.parts == x)) = λ x. completes x (lost p) (omega arith) in
     subst (CountBlocks (set pairs q (lost p))) (sym e)
     (counted_less pairs counts q is lt (lost p) (ap (λ r. r.parts) (sym at)) (λ x. (c x).0) (λ x. ap (is_block x) at ∙ (ap (is_block x) (sym back) ∙ (c x).1)))
-
-set-set : (xs : List PairCount) (i : ℕ) (a b : PairCount) → set (set xs i a) i b ≡ set xs i b
-set-set [] i a b = refl
-set-set (x ∷ xs) zero a b = refl
-set-set (x ∷ xs) (suc i) a b = ap (λ r. x ∷ r) (set-set xs i a b)
 
 -- what `pairs[q]` gives
 pub lose_same : (pairs : List PairCount) (counts : List ℕ) (q : ℕ) (p : PairCount) → CountBlocks pairs counts

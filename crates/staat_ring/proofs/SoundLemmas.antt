@@ -5,6 +5,7 @@ use Rattle.std.specs.Prelude.{◌==◌}
 use Rattle.std.proofs.Math.Nat.{mul-add-mod_self_left, mod-eq_of_lt}
 use Rattle.std.proofs.Math.ListN.{length-set}
 use Rattle.std.proofs.lemmas.List.Elements.{Contains-append_cases}
+use Rattle.staat_ring.proofs.WithoutLemmas.{filter_from}
 use Rattle.staat_ring.specs.Links.{Arrays, Apart, Distinct, unlink, is_bare, take, take_all}
 use Rattle.staat_ring.proofs.Taking.{CanTakeAll}
 use Rattle.staat_ring.specs.Stands.{Shape, RingLists, StandFor, is_empty, home_of, IsPresent, AllPresent}
@@ -116,15 +117,6 @@ filter_length test (x ∷ xs) = go (test x) (filter_length test xs)
     go true h = omega arith
     go false h = omega arith
 
-pub filter_inside : (test : ℕ → Bool) (xs : List ℕ) (v : ℕ) → Contains (filter test xs) v → Contains xs v × (test v ≡ true)
-filter_inside test [] v (k, lt, q) = absurd (omega arith)
-filter_inside test (x ∷ xs) v c = go (test x) refl (filter_inside test xs v) c
-  where
-    go : (b : Bool) → test x ≡ b → (Contains (filter test xs) v → Contains xs v × (test v ≡ true)) → Contains (cond b (x ∷ filter test xs) (filter test xs)) v → Contains (x ∷ xs) v × (test v ≡ true)
-    go false h ih c = let r = ih c in ((suc r.0.0, omega (arith, r.0.1), r.0.2), r.1)
-    go true h ih (zero, lt, q) = ((zero, omega arith, q), ap test (sym q) ∙ h)
-    go true h ih (suc k, lt, q) = let r = ih (k, omega arith, q) in ((suc r.0.0, omega (arith, r.0.1), r.0.2), r.1)
-
 listed_apart : (out : List ℕ) (p q : ℕ) → is_out (out ++ p ∷ []) q ≡ false → (is_out out q ≡ false) × (q ≢ p)
 listed_apart [] p q h = (refl, λ e. last (p == q) (eq-eqb p q (sym e)) h)
   where
@@ -168,7 +160,7 @@ module _ (n p : ℕ) (out : List ℕ) (a : Arrays) (in' : p < n) (linked : is_ou
       })
 
   in_old : (c v : ℕ) → c < n → Contains (mid.vertices c) v → Contains (old.vertices c) v
-  in_old c v hc cv = (filter_inside (λ w. not (is_empty (filter (λ e. not (plane_of n e == p)) (old.entries w)))) (old.vertices c) v (subst (λ xs. Contains xs v) (sym (cut_mid.vertices c hc)) cv)).0
+  in_old c v hc cv = (filter_from (λ w. not (is_empty (filter (λ e. not (plane_of n e == p)) (old.entries w)))) (old.vertices c) v (subst (λ xs. Contains xs v) (sym (cut_mid.vertices c hc)) cv)).0
 
   in_cut : (c v : ℕ) → c < n → Contains (mid.vertices c) v → Contains (cut.vertices c) v
   in_cut c v hc cv = subst (λ xs. Contains xs v) (sym (cut_mid.vertices c hc)) cv
@@ -202,7 +194,7 @@ module _ (n p : ℕ) (out : List ℕ) (a : Arrays) (in' : p < n) (linked : is_ou
     full = λ c v hc cv.
         let cv' = in_cut c v hc (new_mid c v hc cv) in
         ap is_empty (sym (cut_new.entries c v hc cv'))
-        ∙ from_not_true (is_empty (cut.entries v)) (filter_inside (λ w. not (is_empty (filter (λ e. not (plane_of n e == p)) (old.entries w)))) (old.vertices c) v cv').1;
+        ∙ from_not_true (is_empty (cut.entries v)) (filter_from (λ w. not (is_empty (filter (λ e. not (plane_of n e == p)) (old.entries w)))) (old.vertices c) v cv').1;
     short_circles = λ c hc. subst (λ xs. length xs < length (take_all es a).circles.next) (mid_new.vertices c hc) (short.vertices c hc);
     short_vertices = λ c v hc cv. subst (λ xs. length xs < length (take_all es a).vertices.next) (mid_new.entries c v hc (new_mid c v hc cv)) (short.entries c v hc (new_mid c v hc cv));
     present = λ q hq lq.
@@ -214,11 +206,11 @@ module _ (n p : ℕ) (out : List ℕ) (a : Arrays) (in' : p < n) (linked : is_ou
     known = λ c v e hc cv ce.
         let cv' = new_mid c v hc cv in
         good.known c v e hc (in_old c v hc cv')
-        (filter_inside (λ e. not (plane_of n e == p)) (old.entries v) e (subst (λ xs. Contains xs e) (sym (cut_new.entries c v hc (in_cut c v hc cv'))) ce)).0;
+        (filter_from (λ e. not (plane_of n e == p)) (old.entries v) e (subst (λ xs. Contains xs e) (sym (cut_new.entries c v hc (in_cut c v hc cv'))) ce)).0;
     numbered = λ c v e hc cv ce.
         let cv' = new_mid c v hc cv in
         good.numbered c v e hc (in_old c v hc cv')
-        (filter_inside (λ e. not (plane_of n e == p)) (old.entries v) e (subst (λ xs. Contains xs e) (sym (cut_new.entries c v hc (in_cut c v hc cv'))) ce)).0;
+        (filter_from (λ e. not (plane_of n e == p)) (old.entries v) e (subst (λ xs. Contains xs e) (sym (cut_new.entries c v hc (in_cut c v hc cv'))) ce)).0;
   }
 
   pub rings-unlink : rings_at n (out ++ p ∷ []) (take_all es a) ≡ rings_without p (rings_at n out a)
