@@ -1,7 +1,6 @@
 -- Which parts block which at a direction, and on the border of its cell.
-use Rattle.std.proofs.Common.{◌≡◌, ◌≢◌, ◌↔◌, ℕ, zero, suc, refl, sym, ap, subst, arith, ℤ, pos, negsuc, neg_ℤ, ◌≤ℤ◌, ◌<ℤ◌, ◌⊎◌, inl, inr, ⊎_elim, List, [], ◌∷◌, All, Contains}
+use Rattle.std.proofs.Common.{◌≡◌, ◌≢◌, ◌↔◌, ℕ, zero, suc, refl, sym, subst, arith, ℤ, pos, negsuc, neg_ℤ, ◌≤ℤ◌, ◌<ℤ◌, ◌⊎◌, inl, inr, ⊎_elim, List, [], ◌∷◌, All, Contains}
 use Rattle.std.specs.Prelude.{Some, slice_get}
-use lib.IntN.{ℤ_discrete}
 use Rattle.std.proofs.lemmas.Int.{ints}
 use Rattle.std.proofs.lemmas.Option.{option_and_then_some}
 use Rattle.std.proofs.lemmas.List.Elements.{All-contains, Contains-append_left, Contains-append_right}
@@ -10,7 +9,7 @@ use Rattle.staat_vec.specs.declared.vector.Sign.{Sign}
 use Rattle.staat_vec.specs.declared.vector.Sign.TheVariants.{Zero}
 use Rattle.staat_vec.specs.Vectors.{dot, negative, sign}
 use Rattle.staat_vec.specs.Primitives.{canon}
-use Rattle.staat_vec.proofs.VecRing.{same_vector, negative_dot}
+use Rattle.staat_vec.proofs.VecRing.{negative_dot}
 use Rattle.staat_vec.proofs.Canons.{canon-either}
 use Rattle.staat_model.specs.declared.assembly.Part.{Part}
 use Rattle.staat_model.specs.declared.set.PartSet.{PartSet}
