@@ -23,6 +23,20 @@ use Rattle.staat_vec.proofs.VectorOrder.{vector_not_below_itself}
 use Rattle.staat_vec.proofs.Naturals.{same_or}
 use Rattle.staat_model.proofs.ListedVertices.{vertex_some}
 
+module _ (planes : List V3) (axes : HoldsAxes planes) (apart : NoneParallel planes) (some : (g : V3) → Contains planes g → g ≢ origin) where
+  -- the sum of any two different ends is the representative
+  pub sum_of_ends : (s : List Sign) (u v : V3) → IsCell planes s → kind_of s ≡ Edge → IsEnd planes s u → IsEnd planes s v → u ≢ v → IsEdgeSum planes s (plus u v)
+  sum_of_ends s u v cell edge u_end v_end differ =
+      let (d, e) = edge_has_sum planes s axes apart some cell edge in
+      let l = e.ends in
+      go d e (one_of_two e.u e.v u (l.all u u_end)) (one_of_two e.u e.v v (l.all v v_end))
+    where
+      go : (d : V3) → (e : IsEdgeSum planes s d) → (u ≡ e.u) ⊎ (u ≡ e.v) → (v ≡ e.u) ⊎ (v ≡ e.v) → IsEdgeSum planes s (plus u v)
+      go d e (inl p) (inl q) = absurd (differ (p ∙ sym q))
+      go d e (inr p) (inr q) = absurd (differ (p ∙ sym q))
+      go d e (inl p) (inr q) = record { u = e.u; v = e.v; ends = e.ends; is = λ i. plus (p i) (q i) }
+      go d e (inr p) (inl q) = record { u = e.u; v = e.v; ends = e.ends; is = (λ i. plus (p i) (q i)) ∙ plus_comm e.v e.u }
+
 module _ (planes : List V3) (axes : HoldsAxes planes) (apart : NoneParallel planes) (some : (g : V3) → Contains planes g → g ≢ origin) (points : List CellEntry) (are : AreCellsOf planes Point points) where
   -- the vertex of a listed point
   pub point_in : (k : ℕ) → k < length points → Contains (vertices planes) (cell_at points k).d × (signs_of planes (cell_at points k).d ≡ (cell_at points k).signs)
@@ -78,16 +92,6 @@ module _ (planes : List V3) (axes : HoldsAxes planes) (apart : NoneParallel plan
       go u v i j differ first second at_i at_j (inr n) = (i, end_under s u i under.cell under.by_count first at_i, n)
       go u v i j differ first second at_i at_j (inl e) = (j, end_under s v j under.cell under.by_count second at_j, λ f. differ (sym at_i.is ∙ ap (λ m. (cell_at points m).d) (e ∙ sym f) ∙ at_j.is))
 
-  -- the sum of any two different ends is the representative
-  sum_of : (s : List Sign) (u v : V3) → IsCell planes s → kind_of s ≡ Edge → IsEnd planes s u → IsEnd planes s v → u ≢ v → IsEdgeSum planes s (plus u v)
-  sum_of s u v cell edge u_end v_end differ = let (d, e) = ends_of s cell edge in let l = e.ends in go d e (one_of_two e.u e.v u (l.all u u_end)) (one_of_two e.u e.v v (l.all v v_end))
-    where
-      go : (d : V3) → (e : IsEdgeSum planes s d) → (u ≡ e.u) ⊎ (u ≡ e.v) → (v ≡ e.u) ⊎ (v ≡ e.v) → IsEdgeSum planes s (plus u v)
-      go d e (inl p) (inl q) = absurd (differ (p ∙ sym q))
-      go d e (inr p) (inr q) = absurd (differ (p ∙ sym q))
-      go d e (inl p) (inr q) = record { u = e.u; v = e.v; ends = e.ends; is = λ i. plus (p i) (q i) }
-      go d e (inr p) (inl q) = record { u = e.u; v = e.v; ends = e.ends; is = (λ i. plus (p i) (q i)) ∙ plus_comm e.v e.u }
-
   pub edge_entry : (s : List Sign) (j k : ℕ) → IsUnder planes Edge points s j → IsUnder planes Edge points s k → j < k → ((m : ℕ) → IsUnder planes Edge points s m → (m ≡ j) ⊎ ((m ≡ k) ⊎ (k < m)))
       → IsEntry planes Edge (composed_cell Edge (cell_at points j) (cell_at points k)) × (composed (cell_at points j).signs (cell_at points k).signs ≡ s)
   edge_entry s j k uj uk lt least =
@@ -95,7 +99,7 @@ module _ (planes : List V3) (axes : HoldsAxes planes) (apart : NoneParallel plan
       let q = point_in k uk.listed in
       let u = (cell_at points j).d in
       let v = (cell_at points k).d in
-      let sum = sum_of s u v uj.cell uj.by_count (under_end s j uj) (under_end s k uk) (λ e. not_same planes Point points are j k lt uk.listed (sym p.1 ∙ ap (signs_of planes) e ∙ q.1)) in
+      let sum = sum_of_ends planes axes apart some s u v uj.cell uj.by_count (under_end s j uj) (under_end s k uk) (λ e. not_same planes Point points are j k lt uk.listed (sym p.1 ∙ ap (signs_of planes) e ∙ q.1)) in
       let on = edge_sum_in planes s axes apart some uj.cell uj.by_count (plus u v) sum in
       let bu = let b = under_end s j uj in b.border in
       let bv = let b = under_end s k uk in b.border in

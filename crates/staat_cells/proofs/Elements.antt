@@ -51,9 +51,6 @@ module _ {X : Type 0} (P : X → Type 0) where
   pub all_pushed : (xs : List X) (x : X) → All P (xs ++ x ∷ []) ↔ (All P xs × P x)
   all_pushed xs x = (All-pop P (xs ++ x ∷ []) xs (Some x) refl, λ h. All-push P xs x h.0 h.1)
 
-  pub all_first : (x : X) (xs : List X) → All P (x ∷ xs) ↔ (P x × All P xs)
-  all_first x xs = (λ h. (All-head P x xs h, All-tail P x xs h), λ h. All-cons P x xs h.0 h.1)
-
   pub all_more : (xs : List X) (k : ℕ) (x : X) → k < length xs → x ≡ get_or xs k x
       → All P (take (k + 1) xs) ↔ (All P (take k xs) × P x)
   all_more xs k x lt at = subst (λ l. All P l ↔ (All P (take k xs) × P x)) (sym grown) (all_pushed (take k xs) x)

@@ -1,5 +1,5 @@
 -- The facets of two pieces by their planes, one more at a time.
-use Rattle.std.proofs.Common.{◌≡◌, ◌↔◌, ℕ, zero, suc, ◌+◌, ◌<◌, ◌≤◌, sym, ap, subst}
+use Rattle.std.proofs.Common.{◌≡◌, ◌↔◌, ℕ, zero, suc, ◌+◌, ◌≤◌, sym, ap, subst}
 use Rattle.std.proofs.Common.{◌≢◌, ◌∙◌, ⊎_elim, arith, Contains}
 use Rattle.std.proofs.Common.{ℤ, pos, neg_ℤ, ◌<ℤ◌, List, [], ◌∷◌, ◌++◌, length, take, All}
 use Rattle.std.specs.Prelude.{Some, slice_get}

@@ -159,9 +159,6 @@ module _ (planes : List V3) (kind : Kind) (lower : List CellEntry) (incidences :
       (i, record { signs = record { lt = lt; under = subst (IsUnder planes kind lower s) (sym of) under; is = at ∙ ap (incidence_of s) (sym of) }; of = of })
 
   module _ (two : (s : List Sign) (k : ℕ) → IsUnder planes kind lower s k → (j : ℕ) × IsUnder planes kind lower s j × (j ≢ k)) where
-    number : ℕ → ℕ
-    number i = (get_or incidences i no_incidence).of
-
     -- behind the incidence where a cell begins_cell there is another one of it
     second : (i : ℕ) (s : List Sign) → HasSigns i s → begins_cell incidences i ≡ true → HasSigns (suc i) s
     second i s a first =
@@ -242,9 +239,6 @@ module _ (planes : List V3) (kind : Kind) (lower : List CellEntry) (incidences :
       more : (i : ℕ) (cells : List CellEntry) → i < length incidences → begins_cell incidences i ≡ true → AreUpTo i cells → AreUpTo (suc i) (cells ++ composed_at kind lower incidences i ∷ [])
       more i cells lt first up = go (signs_at i lt)
         where
-          new : CellEntry
-          new = composed_at kind lower incidences i
-
           go : (s : List Sign) × HasSigns i s → AreUpTo (suc i) (cells ++ composed_at kind lower incidences i ∷ [])
           go (s, a) =
               let b = second i s a first in

@@ -5,38 +5,33 @@ use Rattle.std.proofs.Common.{ℤ, pos, ◌+ℤ◌, ◌-ℤ◌, ◌*ℤ◌, ◌<
 use Rattle.std.proofs.Common.{◌∷◌, ◌++◌, length, get_or, take}
 use Rattle.std.proofs.Common.{Contains}
 use Rattle.std.specs.Prelude.{Some, slice_get}
-use Rattle.std.specs.declared.cmp.Ordering.TheVariants.{Less}
 use Rattle.std.proofs.lemmas.Int.{ints, by_lt_z}
 use Rattle.std.proofs.lemmas.List.{take_more}
 use Rattle.std.proofs.lemmas.List.Elements.{All-contains, Contains-append_left}
-use Rattle.std.proofs.lemmas.Map.Views.{All-after_first}
 use Rattle.std.proofs.lemmas.Option.{slice_get-get_or}
 use Rattle.staat_vec.specs.declared.vector.V3.{V3}
-use Rattle.staat_vec.specs.declared.vector.Sign.{Sign}
 use Rattle.staat_vec.specs.declared.vector.Sign.TheVariants.{Neg, Zero}
 use Rattle.staat_vec.specs.declared.vector.TheConstants.{EDGE}
 use Rattle.staat_vec.specs.Primitives.{IsPrimitiveOf, primitive}
-use Rattle.staat_vec.specs.Vectors.{IsWithin, cross, dot, minus, origin, plus, sign, vector_cmp}
+use Rattle.staat_vec.specs.Vectors.{IsWithin, cross, dot, minus, origin, plus, sign}
 use Rattle.staat_vec.proofs.Order.{cancel_not_positive, cancel_zero, negative_apart}
 use Rattle.staat_vec.proofs.Primitives.{primitive-is}
 use Rattle.staat_vec.proofs.VecRing.{cross_self, dot_cross_left, dot_cross_right, same_vector, scale}
 use Rattle.staat_model.specs.declared.tree.Kind.TheVariants.{Edge}
-use Rattle.staat_model.specs.Cells.{IsBorder, IsCell, IsEdgeSum, IsEnd, kind_of, signs_of}
+use Rattle.staat_model.specs.Cells.{IsBorder, IsCell, IsEdgeSum, kind_of, signs_of}
 use Rattle.staat_model.specs.Planes.{axes}
 use Rattle.staat_model.proofs.CornerLemmas.{dot_multiple}
-use Rattle.staat_model.proofs.EndLemmas.{edge_has_sum}
 use Rattle.staat_model.proofs.VertexLemmas.{in_vertices}
 use Rattle.staat_pairs.specs.Tables.{AreTablePlanes}
 use Rattle.staat_cells.specs.declared.first_cell.Ends.{Ends}
 use Rattle.staat_cells.specs.FirstCell.{AreArcEnds, AreNotAbove, IsLowEdge, IsLowOn}
 use Rattle.staat_cells.proofs.Beside.{border_from}
+use Rattle.staat_cells.proofs.EdgeCells.{sum_of_ends}
 use Rattle.staat_cells.proofs.Narrowing.{ends_apart}
 use Rattle.staat_cells.proofs.TableRules.{holds_axes, planes_apart, planes_some}
 use Rattle.staat_cells.proofs.Zeros.{one_zero}
 use Rattle.staat_vec.proofs.Options.{some_injective}
-use Rattle.staat_vec.proofs.VectorLists.{one_of_two}
-use Rattle.staat_vec.proofs.VectorLaws.{plus_comm, dot_plus, dot_origin, dot_cross_about}
-use Rattle.staat_vec.proofs.VectorOrder.{vector_not_below_itself}
+use Rattle.staat_vec.proofs.VectorLaws.{dot_plus, dot_origin, dot_cross_about}
 use Rattle.staat_vec.proofs.Integers.{add-comm_ℤ, other_factor_zero, zero_not_negative}
 use Rattle.staat_vec.proofs.Signs.{negative_sign}
 use Rattle.staat_vec.proofs.Naturals.{same_or}
@@ -92,35 +87,6 @@ module _ (planes : List V3) (are : AreTablePlanes planes) (g d : V3) (g_in : Con
           (λ same. apart (ap (λ z. cross z g) same ∙ cross_self g))
           (λ under. let neg : sign (dot m d) ≡ Neg = negative_sign (dot m d) under in cc)
           (low.below m m_in)
-
--- ---- the sum of the ends of an edge
-
-module _ (planes : List V3) (are : AreTablePlanes planes) where
-  ends_differ : (s : List Sign) (d : V3) → (e : IsEdgeSum planes s d) → e.u ≢ e.v
-  ends_differ s d e p =
-      let l = e.ends in
-      vector_not_below_itself e.v (subst (λ z. vector_cmp z e.v ≡ Less) p (All-contains (λ q. vector_cmp e.u q ≡ Less)
-      (e.v ∷ []) e.v (All-after_first vector_cmp e.u (e.v ∷ []) l.ascending) (0, omega arith, refl)))
-
-  pub sum_of_ends : (s : List Sign) (u v : V3) → IsCell planes s → kind_of s ≡ Edge → IsEnd planes s u
-      → IsEnd planes s v → u ≢ v → IsEdgeSum planes s (plus u v)
-  sum_of_ends s u v cell edge u_end v_end differ =
-      let (d, e) = edge_has_sum planes s (holds_axes planes are) (planes_apart planes are)
-      (planes_some planes are) cell edge in
-      let l = e.ends in
-      go d e (one_of_two e.u e.v u (l.all u u_end)) (one_of_two e.u e.v v (l.all v v_end))
-    where
-      go : (d : V3) → (e : IsEdgeSum planes s d) → (u ≡ e.u) ⊎ (u ≡ e.v) → (v ≡ e.u) ⊎ (v ≡ e.v)
-          → IsEdgeSum planes s (plus u v)
-      go d e (inl p) (inl q) = absurd (differ (p ∙ sym q))
-      go d e (inr p) (inr q) = absurd (differ (p ∙ sym q))
-      go d e (inl p) (inr q) = record { u = e.u; v = e.v; ends = e.ends; is = λ i. plus (p i) (q i) }
-      go d e (inr p) (inl q) = record {
-        u = e.u;
-        v = e.v;
-        ends = e.ends;
-        is = (λ i. plus (p i) (q i)) ∙ plus_comm e.v e.u;
-      }
 
 -- ---- the edge between the ends on a plane
 
@@ -271,7 +237,7 @@ module _ (planes : List V3) (are : AreTablePlanes planes) (g : V3) (g_in : Conta
 
   sum_is : IsEdgeSum planes (signs_of planes (plus (primitive e.first) (primitive e.second)))
       (plus (primitive e.first) (primitive e.second))
-  sum_is = sum_of_ends planes are (signs_of planes (plus (primitive e.first) (primitive e.second)))
+  sum_is = sum_of_ends planes (holds_axes planes are) (planes_apart planes are) (planes_some planes are) (signs_of planes (plus (primitive e.first) (primitive e.second)))
       (primitive e.first) (primitive e.second) sum_cell
       (low_kind planes are g (plus (primitive e.first) (primitive e.second)) g_in low_between)
       (record {

@@ -1,6 +1,6 @@
 -- Half of mirrored incidences, sorted, and their mirror images.
 use Rattle.std.proofs.Common.{◌≡◌, ◌⊎◌, inl, inr, ⊎_elim, ℕ, ◌+◌, ◌*◌, ◌-◌, ◌/◌, ◌<◌, ◌≤◌, refl, sym, ap, subst, ◌∙◌, arith}
-use Rattle.std.proofs.Common.{List, [], ◌∷◌, ◌++◌, ◌%◌, length, get_or, take, All, Contains}
+use Rattle.std.proofs.Common.{List, [], ◌∷◌, ◌++◌, length, get_or, take, All, Contains}
 use Rattle.std.specs.Prelude.{slice_set}
 use Rattle.std.specs.Cmp.{nat_cmp_is}
 use Rattle.std.specs.Ordering.{nat_cmp, ordering_reverse, ordering_then}
@@ -338,11 +338,4 @@ adds_all sum old new i n n_is le ge h = record {
   long = let long = h.long in omega (arith, long, le, ge, n_is);
   first = h.first;
   second = λ k lt. h.second k (omega (arith, lt, le, n_is));
-}
-
-pub is_mirrored : (sum : Incidence) (xs : List Incidence) (i : ℕ) → length xs % 2 ≡ 0 → length xs / 2 ≤ i
-    → ((k : ℕ) → k < i → AreMirrors sum (at xs k) (at xs (length xs - 1 - k))) → IsMirrored sum xs
-is_mirrored sum xs i even le pairs = record {
-  even = omega (arith, even);
-  pairs = λ k lt. pairs k (omega (arith, lt, le));
 }

@@ -144,6 +144,3 @@ module _ (x : Incidence) (j k : ℕ) (b s : List Sign) (same : length b ≡ leng
       f (patched j b s) (own_number x (patched j b s) k is) (patched_long j b s same lt ∙ l)
       (patched_zero j b s same lt d z)
       ∙ (λ i. incidence_of (patched_changed j b s same lt d t e i) (ap (λ y. y.of) is i))
-
-  pub kept_incidence : (d : Sign) → get_or b j d ≡ get_or s j d → x ≡ incidence_of (patched (j + 1) b s) k
-  kept_incidence d e = is ∙ ap (λ l. incidence_of l k) (patched_kept j b s same lt d e)

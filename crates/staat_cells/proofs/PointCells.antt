@@ -68,12 +68,6 @@ sorted_map c d f (x ∷ xs) s keep = (
 
 module _ (planes : List V3) (axes : HoldsAxes planes) (apart : NoneParallel planes) (few : length planes ≤ 256) (vs : List V3) (listed : Lists vector_cmp (Contains (vertices planes)) vs) (incidences : List Incidence)
     (sorted : Lists incidence_cmp (IsOwnIncidence (map (point_entry planes) vs)) incidences) where
-  raw : List CellEntry
-  raw = map (point_entry planes) vs
-
-  own : List CellEntry → List CellEntry
-  own cells = map (λ x. cell_at cells x.of) incidences
-
   -- the vertex of an incidence
   abbrev vertex_of : Incidence → V3
   vertex_of x = get_or vs x.of origin

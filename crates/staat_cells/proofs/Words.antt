@@ -37,9 +37,6 @@ next_fits n i p lt h le =
 pub length_taken : (s : List Sign) → length (take 64 s) ≤ 64
 length_taken s = let e = length-take 64 s in omega (arith, e)
 
-pub drop_whole : (n : ℕ) (s : List Sign) → take (length s - n) (drop n s) ≡ drop n s
-drop_whole n s = let e = length-drop n s in take_all (length s - n) (drop n s) (omega (arith, e))
-
 -- ---- order
 
 -- a lesser number stays less, whatever packed follow

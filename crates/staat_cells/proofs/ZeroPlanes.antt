@@ -94,9 +94,6 @@ module _ (planes : List V3) (v m : V3) (k : ℕ) where
     λ b. let o = b.beside in record { signs = b.signs; beside = record { c = o.c; c_in = into o.c o.c_in o.on; on = o.on; towards = o.towards }; is = b.is },
   )
     where
-      f : ℕ → V3
-      f j = get_or planes j origin
-
       long : length (signs_of planes v) ≡ length planes
       long = length-map planes (λ n. sign (dot n v))
 

@@ -33,9 +33,6 @@ none_more t d a i b j test below said gives k lt met = ⊎_elim
     (λ e. false≢true (sym said ∙ gives (subst (λ k. IsMet t d (arc_of a i b k)) e met).ahead))
     (lt_one_more_cases k j lt)
 
-pub first_found : (t : Table) (d : V3) (a i b j : ℕ) → NoneBelow t d a i b j → IsTableArc t (arc_of a i b j) → All (λ n. pos 0 <ℤ dot n d) (facets_of t (arc_of a i b j)) → IsFirstMet t d a i b j
-first_found t d a i b j below across ahead = record { met = record { across = across; ahead = ahead }; before = below }
-
 pub none_met : (t : Table) (d : V3) (a i b j : ℕ) → pieces_of t b ≤ j → NoneBelow t d a i b j → MeetsNoPiece t d a i b
 none_met t d a i b j le below k met = let within : k < pieces_of t b = met.across.j_is in below k (omega (arith, within, le)) met
 

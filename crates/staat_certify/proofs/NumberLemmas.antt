@@ -70,9 +70,6 @@ pointwise_itself [] = refl
 pointwise_itself (x ∷ xs) = (λ i. (let one : nat_eq x x ≡ true = grind (arith, nat_tests) in one) i && pointwise nat_eq xs xs) ∙ pointwise_itself xs
 
 module _ {X : Type 0} (items : X → List ℕ) where
-  alike : X → X → Bool
-  alike x y = pointwise nat_eq (items x) (items y)
-
   pub map_get : (xs : List X) (k : ℕ) (l : List ℕ) → slice_get (map items xs) k ≡ Some l → (x : X) × (slice_get xs k ≡ Some x) × (items x ≡ l)
   map_get [] k l e = absurd cc
   map_get (x ∷ xs) zero l e = let same : items x ≡ l = cc in (x, refl, same)

@@ -29,15 +29,6 @@ use Rattle.staat_certify.specs.Witnesses.{AreTreesAlong, AreEndsAhead, AreEndsAn
 use Rattle.staat_certify.proofs.WitnessLemmas.{root_within, witness_is}
 use Rattle.staat_vec.proofs.Truth.{and_split}
 
-module _ (t : Table) (d : V3) (rows : List ℕ) (says : (a b : ℕ) → HasArc rows a b → IsAhead t d a b) (w : PartSet) where
-  pub outs_lead : (reached : PartSet) (pairs : List (ℕ × ℕ)) → IsTree (HasArc rows) w reached pairs → All (AreEndsAhead t d) pairs
-  outs_lead reached [] tree = All-nil (AreEndsAhead t d)
-  outs_lead reached (pair ∷ pairs) tree = All-cons (AreEndsAhead t d) pair pairs (says pair.0 pair.1 tree.0.is.arc) (outs_lead (set.insert reached pair.1) pairs tree.1)
-
-  pub ins_lead : (reached : PartSet) (pairs : List (ℕ × ℕ)) → IsTree (Back (HasArc rows)) w reached (map swapped pairs) → All (AreEndsAhead t d) pairs
-  ins_lead reached [] tree = All-nil (AreEndsAhead t d)
-  ins_lead reached (pair ∷ pairs) tree = All-cons (AreEndsAhead t d) pair pairs (says pair.0 pair.1 tree.0.is.arc) (ins_lead (set.insert reached pair.0) pairs tree.1)
-
 -- the trees of a graph that shows who blocks whom have arcs of parts of which the one is ahead of the other
 module _ (parts : List Part) (t : Table) (d : V3) (rows : List ℕ) (made : WasMadeFrom parts t) (shows : ShowsBlocking parts d t.of rows) where
   arc_ahead : (a b : ℕ) → Has t.of a → Has t.of b → HasArc rows a b → IsAhead t d a b

@@ -25,15 +25,6 @@ module _ (R : ℕ → ℕ → Type 0) (w : PartSet) where
     pub rest_in : (q : ℕ) → Has rest q → Has w q × ((s : PartSet) → Contains groups s → Has s q → ⊥)
     pub rest_all : (q : ℕ) → Has w q → ((s : PartSet) → Contains groups s → Has s q → ⊥) → Has rest q
 
-  pub none_below : Below 0 [] w
-  none_below = record {
-    each = λ s c. absurd (Contains-nothing s c);
-    all = λ s p lt. absurd (omega arith);
-    in_order = tt;
-    rest_in = λ q h. (h, λ s c. absurd (Contains-nothing s c));
-    rest_all = λ q h none. h;
-  }
-
   pub order_push : (groups : List PartSet) (s : PartSet) → InOrder groups → ((t : PartSet) (p q : ℕ) → Contains groups t → IsLeastOf t p → IsLeastOf s q → p < q) → InOrder (groups ++ s ∷ [])
   order_push [] s o f = ((λ t p q c a b. absurd (Contains-nothing t c)), tt)
   order_push (x ∷ groups) s o f = (

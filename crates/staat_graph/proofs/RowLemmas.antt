@@ -24,6 +24,7 @@ use Rattle.staat_graph.proofs.Reaching.{one_group}
 use Rattle.staat_graph.proofs.Walking.{joined, walk_ends}
 use Rattle.staat_vec.proofs.Naturals.{lt_or_le, lt_one_more_cases}
 use Rattle.staat_vec.proofs.Truth.{or_false}
+use Rattle.staat_vec.proofs.ListLaws.{any_default}
 use Rattle.staat_vec.proofs.Comparisons.{sorted_push, above_first}
 
 -- ---- marks as bits
@@ -80,14 +81,6 @@ mark_within rows i j square h =
     let e : length (get_or rows i []) ≡ length rows = square i [] lt in
     let p = place_in (get_or rows i []) j h in
     (lt, omega (arith, p, e))
-
-any_default : (xs : List (List Bool)) (i : ℕ) (d e : List Bool) → i < length xs → get_or xs i d ≡ get_or xs i e
-any_default [] i d e lt = absurd (omega (arith, lt))
-any_default (x ∷ xs) zero d e lt = refl
-any_default (x ∷ xs) (suc i) d e lt = any_default xs i d e (omega (arith, lt))
-
-pub row_long : (rows : List (List Bool)) (i : ℕ) (row : List Bool) → IsSquare rows → i < length rows → row ≡ get_or rows i row → length row ≡ length rows
-row_long rows i row square lt is = ap (λ (r : List Bool). length r) is ∙ square i row lt
 
 -- ---- marks that are added
 

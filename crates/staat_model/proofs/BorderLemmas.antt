@@ -10,21 +10,13 @@ use Rattle.staat_vec.proofs.VecRing.{VEx, dotE, crossE, plusE, timesE, originE, 
 use Rattle.staat_vec.proofs.Order.{nonneg_is, nonneg_pos, nonneg_mul, pos_mul, cancel_nonneg, cancel_zero, positive_nonneg, turned_positive}
 use Rattle.staat_model.specs.Meeting.{mix}
 use Rattle.staat_model.specs.Cones.{IsAbove, IsSpanning, IsCombined, IsOnBorder, HasTwoBorders}
-use Rattle.staat_model.proofs.Members.{both, All-from_members}
+use Rattle.staat_model.proofs.Members.{All-from_members, all_back, all_front, both}
 use Rattle.staat_model.proofs.Mixes.{mix_above, dot_step}
 use Rattle.staat_model.proofs.Alternative.{IsSeparated, alternative, combine_lemma}
 use Rattle.staat_model.proofs.Tilt.{dot_pair}
 use Rattle.staat_model.proofs.Edge.{perpendicular}
 use Rattle.staat_vec.proofs.Unique.{Contains-nothing, Contains-front}
 use Rattle.staat_vec.proofs.ListLaws.{Contains-there}
-
-front : (P : V3 → Type 0) (xs ys : List V3) → All P (xs ++ ys) → All P xs
-front P [] ys h = All-nil P
-front P (x ∷ xs) ys h = All-cons P x xs (All-head P x (xs ++ ys) h) (front P xs ys (All-tail P x (xs ++ ys) h))
-
-back : (P : V3 → Type 0) (xs ys : List V3) → All P (xs ++ ys) → All P ys
-back P [] ys h = h
-back P (x ∷ xs) ys h = back P xs ys (All-tail P x (xs ++ ys) h)
 
 -- some x breaks g alone among the kept, and nothing of the rest
 Needed : List V3 → List V3 → V3 → Type 0
@@ -46,7 +38,7 @@ follows vs h x c up =
 insert_above : (ks rs : List V3) (g x : V3) → pos 0 ≤ℤ dot g x → IsAbove x (ks ++ rs) → IsAbove x (ks ++ g ∷ rs)
 insert_above ks rs g x here' up =
     let P : V3 → Type 0 = λ v. pos 0 ≤ℤ dot v x in
-    All-append P ks (g ∷ rs) (front P ks rs up) (All-cons P g rs here' (back P ks rs up))
+    All-append P ks (g ∷ rs) (all_front P ks rs up) (All-cons P g rs here' (all_back P ks rs up))
 
 prune : (ks rs : List V3) → All (Needed ks rs) ks → Pruned ks rs
 unfolding Needed Pruned
@@ -57,7 +49,7 @@ prune ks (g ∷ rs) needed = go (alternative (ks ++ rs) g) (prune ks rs (All-wea
     keep (x, up, low) =
         let P : V3 → Type 0 = λ v. pos 0 ≤ℤ dot v x in
         All-cons (Needed (g ∷ ks) rs) g ks
-        (x, low, All-cons (λ m. (m ≡ g) ⊎ (pos 0 ≤ℤ dot m x)) g ks (inl refl) (All-weaker P (λ m. (m ≡ g) ⊎ (pos 0 ≤ℤ dot m x)) (λ m h. inr h) ks (front P ks rs up)), back P ks rs up)
+        (x, low, All-cons (λ m. (m ≡ g) ⊎ (pos 0 ≤ℤ dot m x)) g ks (inl refl) (All-weaker P (λ m. (m ≡ g) ⊎ (pos 0 ≤ℤ dot m x)) (λ m h. inr h) ks (all_front P ks rs up)), all_back P ks rs up)
         (All-weaker (Needed ks (g ∷ rs)) (Needed (g ∷ ks) rs)
         (λ k n. (n.0, n.1, All-cons (λ m. (m ≡ k) ⊎ (pos 0 ≤ℤ dot m n.0)) g ks (inr (All-head (λ v. pos 0 ≤ℤ dot v n.0) g rs n.3)) n.2, All-tail (λ v. pos 0 ≤ℤ dot v n.0) g rs n.3)) ks needed)
 
@@ -75,8 +67,8 @@ prune ks (g ∷ rs) needed = go (alternative (ks ++ rs) g) (prune ks rs (All-wea
           λ x h. ⊎_elim (out x) (λ b. inr (Contains-there g x rs b)) (from x h),
         )
 
-same_dec : (a b : V3) → Dec (a ≡ b)
-same_dec a b = go (ℤ_discrete a.x b.x) (ℤ_discrete a.y b.y) (ℤ_discrete a.z b.z)
+pub same_or_not : (a b : V3) → Dec (a ≡ b)
+same_or_not a b = go (ℤ_discrete a.x b.x) (ℤ_discrete a.y b.y) (ℤ_discrete a.z b.z)
   where
     go : Dec (a.x ≡ b.x) → Dec (a.y ≡ b.y) → Dec (a.z ≡ b.z) → Dec (a ≡ b)
     go (yes p) (yes q) (yes r) = yes (same_vector a b p q r)
@@ -86,7 +78,7 @@ same_dec a b = go (ℤ_discrete a.x b.x) (ℤ_discrete a.y b.y) (ℤ_discrete a.
 
 find_other : (g : V3) (ks : List V3) → ((h : V3) × Contains ks h × (h ≢ g)) ⊎ All (λ m. m ≡ g) ks
 find_other g [] = inr (All-nil (λ m. m ≡ g))
-find_other g (k ∷ ks) = go (same_dec k g) (find_other g ks)
+find_other g (k ∷ ks) = go (same_or_not k g) (find_other g ks)
   where
     go : Dec (k ≡ g) → ((h : V3) × Contains ks h × (h ≢ g)) ⊎ All (λ m. m ≡ g) ks → ((h : V3) × Contains (k ∷ ks) h × (h ≢ g)) ⊎ All (λ m. m ≡ g) (k ∷ ks)
     go (no n) r = inl (k, Contains-front k ks, n)

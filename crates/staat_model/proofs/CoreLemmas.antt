@@ -21,7 +21,8 @@ use Rattle.staat_model.specs.Removal.{MeetsAlong}
 use Rattle.staat_model.proofs.CornerLemmas.{dot_multiple}
 use Rattle.staat_model.proofs.Corners.{HoldsAxes, IsCornerTowards, IsSame, IsTowards, corner_towards}
 use Rattle.staat_model.proofs.FacetLemmas.{across_crosses}
-use Rattle.staat_model.proofs.GraphLemmas.{facet_towards, piece_in, positive_back, same_or_not}
+use Rattle.staat_model.proofs.GraphLemmas.{facet_towards, piece_in, positive_back}
+use Rattle.staat_model.proofs.BorderLemmas.{same_or_not}
 use Rattle.staat_model.proofs.PieceFacets.{meets_by_facets_lemma}
 use Rattle.staat_model.proofs.VertexLemmas.{in_vertices, same_some}
 use Rattle.staat_vec.proofs.Integers.{opposite_zero}

@@ -47,7 +47,7 @@ crossing w y u x e f =
 cross_cycle : (v w y : V3) → dot v (cross w y) ≡ negsuc 0 *ℤ dot y (cross w v)
 cross_cycle v w y = ring (values (v ∷ w ∷ y ∷ []) []) (dotE v0 (crossE v1 v2)) (num (negsuc 0) ⊗ dotE v2 (crossE v1 v0)) tt
 
-cross_swap : (v w y : V3) → dot y (cross w v) ≡ negsuc 0 *ℤ dot y (cross v w)
+pub cross_swap : (v w y : V3) → dot y (cross w v) ≡ negsuc 0 *ℤ dot y (cross v w)
 cross_swap v w y = ring (values (v ∷ w ∷ y ∷ []) []) (dotE v2 (crossE v1 v0)) (num (negsuc 0) ⊗ dotE v2 (crossE v0 v1)) tt
 
 -- r and the cross product of g and h are parallel, where r is at right angles to both

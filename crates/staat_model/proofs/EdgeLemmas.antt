@@ -6,7 +6,7 @@ use Rattle.staat_vec.specs.declared.vector.V3.{V3}
 use Rattle.staat_vec.specs.Vectors.{vector, dot, cross, plus, minus, times, negative, origin}
 use Rattle.staat_vec.specs.Primitives.{IsPrimitive, primitive}
 use Rattle.staat_vec.proofs.Ring.{Ex, at, num, ◌⊕◌, ◌⊖◌, ◌⊗◌, opp, ring, zero-mul_ℤ, from_zero}
-use Rattle.staat_vec.proofs.VecRing.{VEx, dotE, crossE, plusE, minusE, timesE, negativeE, values, v0, v1, v2, scale, same_vector, ring3, negative_dot, dot_negative, dot_cross_left, dot_cross_right, cross_self}
+use Rattle.staat_vec.proofs.VecRing.{VEx, crossE, cross_self, dotE, dot_cross_left, dot_cross_right, dot_negative, dot_scale, minusE, negativeE, negative_dot, plusE, ring3, same_vector, scale, timesE, v0, v1, v2, values}
 use Rattle.staat_vec.proofs.Order.{as_positive, cancel_zero, nonneg_is, positive_is, nonneg_mul, pos_mul}
 use Rattle.staat_vec.proofs.Primitives.{IsPrimitive-some, IsPrimitive-negative, primitive-is, same_primitive}
 use Rattle.staat_model.specs.Cones.{IsAbove}
@@ -134,12 +134,9 @@ along_d c d p e f g = exact ∙ (λ i. combined (e i) (f i) (g i)) ∙ last
         ring3 (values (c ∷ d ∷ t ∷ []) (dot d d ∷ dot d p ∷ dot c c ∷ []))
         (plusE (plusE (timesE (at 9 ⊗ o ⊖ o ⊗ at 10) v0) (timesE (at 11 ⊗ at 10 ⊖ o ⊗ o) v1)) (timesE o v2)) (timesE (at 11 ⊗ at 10) v1) (tt, tt, tt)
 
-dot_scaled : (m p : V3) (a : ℤ) → dot m (scale a p) ≡ a *ℤ dot m p
-dot_scaled m p a = ring (values (m ∷ p ∷ []) (a ∷ [])) (dotE v0 (timesE (at 6) v1)) (at 6 ⊗ dotE v0 v1) tt
-
 -- along another normal m: (t.t) (m.p) is a multiple of m.d
 along_normal : (c d p m : V3) → dot c d ≡ pos 0 → dot c p ≡ pos 0 → dot (cross c d) p ≡ pos 0 → dot (cross c d) (cross c d) *ℤ dot m p ≡ (dot c c *ℤ dot d p) *ℤ dot m d
-along_normal c d p m e f g = sym (dot_scaled m p (dot (cross c d) (cross c d))) ∙ ap (dot m) (along_d c d p e f g) ∙ dot_scaled m d (dot c c *ℤ dot d p)
+along_normal c d p m e f g = sym (dot_scale (dot (cross c d) (cross c d)) m p) ∙ ap (dot m) (along_d c d p e f g) ∙ dot_scale (dot c c *ℤ dot d p) m d
 
 other_zero : (b q : ℤ) → q ≢ pos 0 → b *ℤ q ≡ pos 0 → b ≡ pos 0
 other_zero b (pos zero) n e = absurd (n refl)

@@ -4,13 +4,14 @@ use Rattle.std.proofs.lemmas.Int.{ints, by_lt_z}
 use Rattle.staat_vec.specs.declared.vector.V3.{V3}
 use Rattle.staat_vec.specs.Vectors.{dot, cross, times, negative, origin}
 use Rattle.staat_vec.specs.Primitives.{IsPrimitive, IsPrimitiveOf, primitive}
-use Rattle.staat_vec.proofs.Ring.{Ex, num, ◌⊖◌, ◌⊗◌, ring, ring_by_two, zero-mul_ℤ}
+use Rattle.staat_vec.proofs.Ring.{Ex, num, ◌⊖◌, ring_by_two, zero-mul_ℤ}
 use Rattle.staat_vec.proofs.VecRing.{VEx, dotE, crossE, timesE, values, v0, v1, v2, scale, same_vector, cross_turned}
 use Rattle.staat_vec.proofs.Order.{as_positive, cancel_zero}
 use Rattle.staat_model.specs.Cones.{IsSpanning, IsConeFacet, IsCrossing, IsReached}
 use Rattle.staat_vec.proofs.Primitives.{IsPrimitive-some, primitive-is, primitive-only, same_primitive}
 use Rattle.staat_model.proofs.FarkasLemmas.{farkas_lemma}
 use Rattle.staat_vec.proofs.Integers.{zero_from_bounds_down}
+use Rattle.staat_model.proofs.Edge.{cross_swap}
 use Rattle.staat_vec.proofs.VectorLaws.{times_twice, some_square}
 
 -- (f.f) n = (n.f) f for f = g x h
@@ -52,9 +53,6 @@ not_across n g h prim e f some flat =
     (cancel_zero a.0 n.y a.1 (ap (λ v. v.y) whole ∙ zero-mul_ℤ c.y))
     (cancel_zero a.0 n.z a.1 (ap (λ v. v.z) whole ∙ zero-mul_ℤ c.z)))
 
-swap_dot : (n g h : V3) → dot n (cross h g) ≡ negsuc 0 *ℤ dot n (cross g h)
-swap_dot n g h = ring (values (n ∷ g ∷ h ∷ []) []) (dotE v0 (crossE v2 v1)) (num (negsuc 0) ⊗ dotE v0 (crossE v1 v2)) tt
-
 pub swap_zero : (g h : V3) → cross h g ≡ origin → cross g h ≡ origin
 swap_zero g h e = cross_turned g h ∙ ap negative e
 
@@ -65,7 +63,7 @@ across_crosses n u v p some on_u on_v =
     by_lt_z {P = (n ≡ primitive (cross u v)) ⊎ (n ≡ primitive (cross v u))} (pos 0) (dot n (cross u v))
     (λ side. inl (primitive-only (cross u v) n (looks_along n u v p on_u on_v some side)))
     (λ low. by_lt_z {P = (n ≡ primitive (cross u v)) ⊎ (n ≡ primitive (cross v u))} (dot n (cross u v)) (pos 0)
-    (λ neg. inr (primitive-only (cross v u) n (looks_along n v u p on_v on_u back (opposite (dot n (cross v u)) (dot n (cross u v)) (swap_dot n u v) neg))))
+    (λ neg. inr (primitive-only (cross v u) n (looks_along n v u p on_v on_u back (opposite (dot n (cross v u)) (dot n (cross u v)) (cross_swap u v n) neg))))
     (λ nonneg. absurd (not_across n u v p on_u on_v some (zero_from_bounds_down (dot n (cross u v)) low nonneg))))
   where
     opposite : (p q : ℤ) → p ≡ negsuc 0 *ℤ q → q <ℤ pos 0 → pos 0 <ℤ p

@@ -1,7 +1,6 @@
 -- Which parts block which at a direction, and on the border of its cell.
-use Rattle.std.proofs.Common.{◌≡◌, ◌≢◌, ◌↔◌, ℕ, zero, suc, refl, sym, ap, subst, arith, ℤ, pos, negsuc, neg_ℤ, ◌≤ℤ◌, ◌<ℤ◌, ◌⊎◌, inl, inr, ⊎_elim, List, [], ◌∷◌, All, Contains}
+use Rattle.std.proofs.Common.{◌≡◌, ◌≢◌, ◌↔◌, ℕ, zero, suc, refl, sym, subst, arith, ℤ, pos, negsuc, neg_ℤ, ◌≤ℤ◌, ◌<ℤ◌, ◌⊎◌, inl, inr, ⊎_elim, List, [], ◌∷◌, All, Contains}
 use Rattle.std.specs.Prelude.{Some, slice_get}
-use lib.IntN.{ℤ_discrete}
 use Rattle.std.proofs.lemmas.Int.{ints}
 use Rattle.std.proofs.lemmas.Option.{option_and_then_some}
 use Rattle.std.proofs.lemmas.List.Elements.{All-contains, Contains-append_left, Contains-append_right}
@@ -10,7 +9,7 @@ use Rattle.staat_vec.specs.declared.vector.Sign.{Sign}
 use Rattle.staat_vec.specs.declared.vector.Sign.TheVariants.{Zero}
 use Rattle.staat_vec.specs.Vectors.{dot, negative, sign}
 use Rattle.staat_vec.specs.Primitives.{canon}
-use Rattle.staat_vec.proofs.VecRing.{same_vector, negative_dot}
+use Rattle.staat_vec.proofs.VecRing.{negative_dot}
 use Rattle.staat_vec.proofs.Canons.{canon-either}
 use Rattle.staat_model.specs.declared.assembly.Part.{Part}
 use Rattle.staat_model.specs.declared.set.PartSet.{PartSet}
@@ -21,6 +20,7 @@ use Rattle.staat_model.specs.Assemblies.{IsAssembly, IsPart, piece_at}
 use Rattle.staat_model.specs.Removal.{MeetsAlong, Blocks}
 use Rattle.staat_model.specs.Planes.{ArePlanes, IsFacetPlane, axes}
 use Rattle.staat_model.specs.Cells.{signs_of, IsBorder}
+use Rattle.staat_model.proofs.BorderLemmas.{same_or_not}
 use Rattle.staat_model.proofs.Corners.{IsTowards}
 use Rattle.staat_model.proofs.PieceFacets.{meets_by_facets_lemma}
 use Rattle.staat_model.proofs.Reversed.{meets_opposite_lemma}
@@ -41,15 +41,6 @@ pub piece_is : (parts : List Part) (a i : ℕ) (p : List V3) → IsAssembly part
 piece_is parts a i p is e = piece_in parts a i p is.each e
 
 -- ---- the planes of a set hold each facet's
-
-pub same_or_not : (a b : V3) → Dec (a ≡ b)
-same_or_not a b = go (ℤ_discrete a.x b.x) (ℤ_discrete a.y b.y) (ℤ_discrete a.z b.z)
-  where
-    go : Dec (a.x ≡ b.x) → Dec (a.y ≡ b.y) → Dec (a.z ≡ b.z) → Dec (a ≡ b)
-    go (yes p) (yes q) (yes r) = yes (same_vector a b p q r)
-    go (no p) q r = no (λ e. p (ap (λ v. v.x) e))
-    go (yes p) (no q) r = no (λ e. q (ap (λ v. v.y) e))
-    go (yes p) (yes q) (no r) = no (λ e. r (ap (λ v. v.z) e))
 
 pub member_or_not : (x : V3) (xs : List V3) → Contains xs x ⊎ (Contains xs x → ⊥)
 member_or_not x [] = inr (λ (k, lt, e). omega arith)

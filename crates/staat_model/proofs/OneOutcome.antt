@@ -38,9 +38,6 @@ module _ (robust : Bool) (parts : List Part) where
   along : {s t : PartSet} (f : Finding) → s ≡ t → IsOutcome robust parts t f → IsOutcome robust parts s f
   along f e = subst (λ u. IsOutcome robust parts u f) (sym e)
 
-  stuck_is : {a b : PartSet} → stuck a ≡ stuck b → a ≡ b
-  stuck_is e = cc
-
   -- a set has one outcome
   pub IsOutcome-unique : {w : PartSet} {f g : Finding} → IsOutcome robust parts w f → IsOutcome robust parts w g → f ≡ g
   IsOutcome-unique (one_part {p = p} e) (one_part {p = q} e') = ap (λ n. planned (leaf n) []) (one_alone p q (sym e ∙ e'))

@@ -1,12 +1,11 @@
 -- The element at a place of a list.
 use Rattle.std.proofs.Common.{◌≡◌, ℕ, zero, suc, ◌<◌, List, [], ◌∷◌, length, arith, refl, sym, ◌∙◌}
 use Rattle.std.specs.Prelude.{Some, slice_get}
+use Rattle.std.proofs.lemmas.Option.{slice_get_within}
 use Rattle.staat_vec.proofs.Options.{some_injective}
 
 pub place_within : {X : Type 0} (xs : List X) (k : ℕ) (x : X) → slice_get xs k ≡ Some x → k < length xs
-place_within [] k x e = cc
-place_within (y ∷ xs) zero x e = omega arith
-place_within (y ∷ xs) (suc k) x e = let lt : k < length xs = place_within xs k x e in omega arith
+place_within xs k x e = slice_get_within xs k x e
 
 -- two elements at one place are one
 pub one_at_place : {X : Type 0} (xs : List X) (k : ℕ) (x y : X) → slice_get xs k ≡ Some x → slice_get xs k ≡ Some y → x ≡ y

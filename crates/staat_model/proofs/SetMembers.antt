@@ -13,6 +13,7 @@ use Rattle.staat_model.specs.SetFacts.{contains-set_of_word}
 use Rattle.staat_model.specs.declared.set.PartSet.{PartSet}
 use Rattle.staat_model.specs.Sets.{Has, IsSubset, IsNonempty, IsLeastOf, single}
 use Rattle.staat_vec.proofs.Truth.{and_zero_is_one, and_split}
+use Rattle.std.proofs.lemmas.Bool.{or_cases}
 use Rattle.staat_vec.proofs.Naturals.{lt_or_le}
 
 pub has_bit : (bits q : ℕ) → Has (set_of_word bits) q → (q < 32) × (bit_at bits q ≡ 1)
@@ -99,10 +100,6 @@ module _ (a : ℕ) (s : PartSet) (sa : set_of_word a ≡ s) (la : a < 2 ^ 32) (s
 pub zero_of_test : (n : ℕ) → nat_eq n 0 ≡ true → n ≡ 0
 zero_of_test n h = grind (arith, nat_tests)
 
-or_either : (a b : Bool) → (a || b) ≡ true → (a ≡ true) ⊎ (b ≡ true)
-or_either true b h = inl refl
-or_either false b h = inr h
-
 either_or : (a b : Bool) → (a ≡ true) ⊎ (b ≡ true) → (a || b) ≡ true
 either_or true b h = refl
 either_or false b (inl h) = absurd (true≢false (sym h))
@@ -110,7 +107,7 @@ either_or false b (inr h) = h
 
 pub has-union : (s t : PartSet) (q : ℕ) → (Has (set.union s t) q → Has s q ⊎ Has t q) × (Has s q ⊎ Has t q → Has (set.union s t) q)
 has-union s t q = (
-  λ h. or_either (set.contains s q) (set.contains t q) (sym (set.contains-union nat_cmp_total s t q) ∙ h),
+  λ h. or_cases (set.contains s q) (set.contains t q) (sym (set.contains-union nat_cmp_total s t q) ∙ h),
   λ h. set.contains-union nat_cmp_total s t q ∙ either_or (set.contains s q) (set.contains t q) h,
 )
 
@@ -137,7 +134,7 @@ has-intersection s t q = (
 )
 
 eq_or : (q p : ℕ) (b : Bool) → (nat_eq q p || b) ≡ true → (q ≡ p) ⊎ (b ≡ true)
-eq_or q p b h = go (or_either (nat_eq q p) b h)
+eq_or q p b h = go (or_cases (nat_eq q p) b h)
   where
     go : (nat_eq q p ≡ true) ⊎ (b ≡ true) → (q ≡ p) ⊎ (b ≡ true)
     go (inl e) = let same : q ≡ p = grind (arith, nat_tests) in inl same

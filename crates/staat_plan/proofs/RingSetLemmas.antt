@@ -1,5 +1,5 @@
 -- Which planes are linked while those that are none of a set of parts are taken out.
-use Rattle.std.proofs.Common.{◌≡◌, ◌≢◌, ◌↔◌, inl, ⊎_elim, ℕ, ◌+◌, ◌<◌, ◌≤◌, true, false, not, arith, ap, refl, sym, subst, ◌∙◌, List, [], ◌++◌, length, Contains, get_or}
+use Rattle.std.proofs.Common.{◌≡◌, ◌≢◌, ◌↔◌, inl, ⊎_elim, ℕ, ◌+◌, ◌<◌, ◌≤◌, true, not, arith, ap, refl, sym, subst, ◌∙◌, List, [], ◌++◌, length, Contains, get_or}
 use Rattle.std.specs.Prelude.{◌==◌, IsTrue, Some, slice_get}
 use Rattle.std.specs.List.{filter}
 use Rattle.std.proofs.lemmas.List.{get_or_append_left, get_or_default}
@@ -105,6 +105,3 @@ all_past parts planes w linked k before le j n at = before j n at (let lt = slic
 
 pub told_true : {P : Type 0} → IsTrue true ↔ P → P
 told_true h = h.0 refl
-
-pub told_false : {P : Type 0} → IsTrue false ↔ P → P → ⊥
-told_false h p = let e = h.1 p in cc

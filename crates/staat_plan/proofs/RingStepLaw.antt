@@ -24,7 +24,7 @@ use Rattle.staat_ring.proofs.Covered.{entry_there, entry_vertex}
 use Rattle.staat_ring.proofs.Stops.{none_parallel}
 use Rattle.staat_plan.specs.declared.ring_step.Serving.{Serving}
 use Rattle.staat_plan.specs.RingSearches.{HasServing, IsBest, IsServing, NoneServes, pair_key}
-use Rattle.staat_plan.proofs.RingPlanes.{linked_planes}
+use Rattle.staat_planes.proofs.UsedPlanes.{numbered_planes}
 use Rattle.staat_plan.proofs.RingPairs.{first_pair, no_pairs}
 use Rattle.staat_vec.proofs.Naturals.{lt_one_more_cases}
 use Rattle.staat_vec.proofs.Options.{none_some}
@@ -52,7 +52,7 @@ module _ (parts : List Part) (t : Table) (w : PartSet) (rules : IsTable t) (ring
   small k c = slice_get_within t.planes k (plane_at t.planes k) (linked_at k c).is
 
   pub planes_of_w : ArePlanes parts w (map (plane_at t.planes) ks)
-  planes_of_w = linked_planes parts t w ks made within are.ascending linked small
+  planes_of_w = numbered_planes parts t w ks made within (record { ascending = are.ascending; small = small }) linked
 
   -- each vertex of the circle of i is looked at
   pub looked : (i : ℕ) (r : Ring) (best : Option Serving) (e : Entry) → Contains rings r → r.plane ≡ i → IsBest parts t.planes w i r.stops (length r.stops) best → Contains ks e.plane → i < e.plane → Serves parts w (crossing t.planes i e) → (f : Serving) × (best ≡ Some f) × (pair_key f.entry ≤ pair_key e)

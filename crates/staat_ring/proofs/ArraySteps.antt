@@ -7,7 +7,7 @@ use Rattle.staat_ring.specs.Numbered.{head_number, node_number}
 use Rattle.staat_ring.specs.RingViews.{shape}
 use Rattle.staat_ring.proofs.Numbering.{head_circle, head_small}
 use Rattle.staat_ring.proofs.RowRules.{circle_distinct, nodes_within}
-use Rattle.staat_ring.proofs.StopSteps.{alone_rows, holds_now, homes_now, others_now, sizes_now}
+use Rattle.staat_ring.proofs.StopSteps.{alone_rows, holds_now, homes_now, others_now}
 
 module _ (n c : ℕ) (lc : c < n) (stops : List (List Entry)) (can : CanBeLinked n c stops) (nodes : List ℕ) (nodes_is : nodes ≡ map (node_number n c) stops) (head : ℕ) (head_is : head ≡ head_number n c)
     (a : Arrays) (sizes : AreSized n a) (alone : (x : ℕ) → x < 4 * (n * n) → (shape n).circle x ≡ c → IsAlone a x) where
@@ -33,9 +33,6 @@ module _ (n c : ℕ) (lc : c < n) (stops : List (List Entry)) (can : CanBeLinked
 
     others' : (y : ℕ) → Apart y (head_number n c ∷ map (node_number n c) stops) → IsSameAt a.circles b.circles y
     others' y p = others y (subst (λ h. Apart y (h ∷ nodes)) (sym head_is) (subst (λ xs. Apart y (head_number n c ∷ xs)) (sym nodes_is) p))
-
-    pub sizes_after : AreSized n b
-    sizes_after = sizes_now n c lc stops can a b sizes ring' others' size linked
 
     pub holds_after : HoldsCircle n b c stops
     holds_after = holds_now n c lc stops can a b sizes ring' others' size linked

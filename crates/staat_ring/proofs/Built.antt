@@ -4,7 +4,6 @@ use Rattle.std.specs.Prelude.{Some, map, slice_get, ◌==◌}
 use Rattle.std.specs.List.{filter}
 use Rattle.std.specs.Ordering.{nat_cmp}
 use Rattle.std.specs.List.Sorted.{IsStrictlySortedBy}
-use Rattle.std.proofs.Math.Nat.{mul-le-mul}
 use Rattle.std.proofs.Math.ListN.{length-append}
 use Rattle.std.proofs.lemmas.List.{get_or_default, length-map}
 use Rattle.std.proofs.lemmas.List.Elements.{All-contains, Contains-append_cases, Contains-append_left, Contains-append_right}
@@ -159,9 +158,6 @@ module _ (planes : List V3) (table : AreTablePlanes planes) (few : length planes
 
   abbrev numbers : (c : ℕ) → c < n → ℕ → List ℕ
   numbers c lc k = map (entry_number n c) (slot c lc k)
-
-  square : 4 * n ≤ 4 * (n * n)
-  square = let m : 1 * n ≤ n * n = mul-le-mul (let x : 1 ≤ n = omega (arith, least) in x) (let y : n ≤ n = omega arith in y) in omega (arith, m)
 
   -- ---- the circle of a plane
 
@@ -367,6 +363,3 @@ module _ (planes : List V3) (table : AreTablePlanes planes) (few : length planes
     now = rings;
     before = λ k kept e. absurd (let lt = slice_get_within [] k kept e in omega (arith, lt));
   })
-
-  pub none_out : (order : List ℕ) → (arrangement_of n (take 0 order) a).unlinked ≡ []
-  none_out order = ap (λ (o : List ℕ). (arrangement_of n o a).unlinked) (take_none order)

@@ -1,7 +1,7 @@
 -- Entries that are divided by the ends of stops, and their opposites after them.
 use Rattle.std.proofs.Common.{◌≡◌, ℕ, zero, suc, ◌+◌, ◌-◌, ◌<◌, ◌≤◌, arith, ap, sym, subst, ◌∙◌, refl, List, [], ◌∷◌, ◌++◌, length, get_or, map, take, drop}
 use Rattle.std.specs.List.{between}
-use Rattle.std.proofs.lemmas.List.{append_assoc, get_or_read, length-append, length-map}
+use Rattle.std.proofs.lemmas.List.{append_assoc, get_or_read, length-append, length-map, take-append-le}
 use Rattle.std.proofs.lemmas.Slice.{between_is}
 use Rattle.staat_ring.specs.declared.entry.Entry.{Entry}
 use Rattle.staat_ring.specs.Builds.{AreStopsFrom, all_around, opposite, stops_from}
@@ -66,11 +66,6 @@ after : (start n : ℕ) (front ends : List ℕ) (es : List Entry) → stops_from
 after start n [] ends es = refl
 after start n (end ∷ front) ends es = ap (λ l. between start end es ∷ l) (after end n front ends es)
 
-take_first : (n : ℕ) (xs ys : List Entry) → n ≤ length xs → take n (xs ++ ys) ≡ take n xs
-take_first zero xs ys le = refl
-take_first (suc n) [] ys le = absurd (omega arith)
-take_first (suc n) (x ∷ xs) ys le = ap (λ l. x ∷ l) (take_first n xs ys (omega arith))
-
 drop_first : (n : ℕ) (xs ys : List Entry) → drop (length xs + n) (xs ++ ys) ≡ drop n ys
 drop_first n [] ys = ap (λ m. drop m ys) (let z : 0 + n ≡ n = omega arith in z)
 drop_first n (x ∷ xs) ys = ap (λ m. drop m (x ∷ xs ++ ys)) (let z : suc (length xs) + n ≡ suc (length xs + n) = omega arith in z) ∙ drop_first n xs ys
@@ -80,7 +75,7 @@ first_stops start [] es more are = refl
 first_stops start (end ∷ ends) es more are = λ i. here i ∷ first_stops end ends es more are.1 i
   where
     here : between start end (es ++ more) ≡ between start end es
-    here = between_is (es ++ more) start end ∙ (ap (drop start) (take_first end es more (end_within start (length es) 0 (end ∷ ends) are (omega arith))) ∙ sym (between_is es start end))
+    here = between_is (es ++ more) start end ∙ (ap (drop start) (take-append-le end es more (end_within start (length es) 0 (end ∷ ends) are (omega arith))) ∙ sym (between_is es start end))
 
 later_stops : (start : ℕ) (ends : List ℕ) (es more : List Entry) → stops_from (length es + start) (map (λ end. length es + end) ends) (es ++ more) ≡ stops_from start ends more
 later_stops start [] es more = refl

@@ -2,13 +2,12 @@
 use Rattle.std.proofs.Common.{◌≡◌, ◌≢◌, ⊎_elim, ℕ, ◌+◌, ◌-◌, ◌<◌, arith, ap, refl, sym, subst, ◌∙◌, List, [], ◌∷◌, ◌++◌, length, get_or, set, take, Bool, true, false, not, ◌&&◌, eq-eqb}
 use Rattle.std.specs.Prelude.{◌==◌}
 use Rattle.std.proofs.Math.ListN.{length-set}
-use Rattle.std.proofs.lemmas.List.{get_or-set_other}
+use Rattle.std.proofs.lemmas.List.{get_or-set_other, take_more_set}
 use Rattle.std.proofs.lemmas.Grind.{get_or-set_at}
 use Rattle.staat_ring.specs.Links.{Arrays}
 use Rattle.staat_ring.specs.RingInvariant.{AreFlags, HaveTakenOut, AreFlagged}
 use Rattle.staat_ring.specs.RingViews.{is_out, numbers_below, still_linked}
 use Rattle.staat_ring.proofs.RingLemmas.{filter_by, listed-push}
-use Rattle.staat_ring.proofs.RingSteps.{order_push}
 use Rattle.staat_vec.proofs.Naturals.{eq_test_false, same_or}
 
 other_stays : (out : List ℕ) (p q : ℕ) → p ≢ q → not (is_out (out ++ p ∷ []) q) ≡ not (is_out out q)
@@ -71,7 +70,7 @@ once_out n count order a p k some split = go (is_out (take (count - 1) order) p)
 pub flags_unlinked : (n count : ℕ) (order : List ℕ) (linked : List Bool) (a : Arrays) (p : ℕ) → AreFlagged n count order linked a → count < n → p < n
     → AreFlags n (take (count + 1) (set order count p)) (set linked p false)
 flags_unlinked n count order linked a p k room lp =
-    subst (λ (o : List ℕ). AreFlags n o (set linked p false)) (sym (order_push count order p (let s = k.arrays.size in omega (arith, room, s)))) (pushed n p (take count order) linked lp k.flags)
+    subst (λ (o : List ℕ). AreFlags n o (set linked p false)) (sym (take_more_set order count p (let s = k.arrays.size in omega (arith, room, s)))) (pushed n p (take count order) linked lp k.flags)
 
 pub flags_relinked : (n count : ℕ) (order : List ℕ) (linked : List Bool) (a : Arrays) (p : ℕ) → AreFlagged n count order linked a → 0 < count → p < n → take count order ≡ take (count - 1) order ++ p ∷ []
     → AreFlags n (take (count - 1) order) (set linked p true)

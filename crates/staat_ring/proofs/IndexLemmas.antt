@@ -1,11 +1,10 @@
 -- The facets of a pair are put down one after another.
-use Rattle.std.proofs.Common.{◌≡◌, ◌≢◌, ⊎_elim, ℕ, zero, suc, ◌+◌, ◌*◌, ◌<◌, ◌≤◌, arith, ap, sym, subst, ◌∙◌, refl, List, [], ◌∷◌, ◌++◌, length, take, set, All, length-set, get_or-set_same, get_or-set_other, eq-eqb, add-one}
+use Rattle.std.proofs.Common.{◌≡◌, ◌≢◌, ⊎_elim, ℕ, zero, suc, ◌+◌, ◌*◌, ◌<◌, ◌≤◌, arith, ap, sym, subst, ◌∙◌, refl, List, [], ◌∷◌, ◌++◌, length, take, set, All, length-set, get_or-set_same, get_or-set_other, eq-eqb}
 use Rattle.std.specs.Prelude.{◌==◌, ◌&&◌, Bool, true, false, not, map, Result, Ok, Err, OnOk, Some, slice_get}
 use Rattle.std.specs.List.{count_by}
 use Rattle.std.proofs.lemmas.List.{get_or_past, length-map}
 use Rattle.std.proofs.lemmas.List.Elements.{All-append, All-cons, All-nil}
 use Rattle.std.proofs.lemmas.List.Sums.{sum_by_push, sum_by-cons}
-use Rattle.std.proofs.lemmas.Option.{get_or_from_slice_get, slice_get_within}
 use Rattle.staat_vec.specs.declared.vector.V3.{V3}
 use Rattle.staat_vec.specs.declared.vector.Sign.TheVariants.{Neg, Zero, Pos}
 use Rattle.staat_vec.specs.Primitives.{canon}
@@ -13,6 +12,7 @@ use Rattle.staat_vec.specs.Vectors.{negative}
 use Rattle.staat_vec.proofs.Canons.{canon-either, negative-negative}
 use Rattle.staat_model.specs.declared.certificate.Arc.{Arc}
 use Rattle.staat_pairs.specs.Tables.{Table, facets_of, slot}
+use Rattle.staat_vec.proofs.ListLaws.{take_next}
 use Rattle.staat_ring.specs.BlockCounts.{parts_at}
 use Rattle.staat_ring.specs.Index.{AreSameBut, AreZero, IsFresh, IsPairKept, with_facet}
 use Rattle.staat_ring.specs.Pairs.{fresh, no_pair, occurs, pair_at}
@@ -45,9 +45,6 @@ plane_facet_is facet n false e t f = f refl
 plane_facet_is facet n true e t f = ⊎_elim {C = negative n ≡ facet} (λ same. absurd (t refl (e ∙ same))) (λ turned. ap negative (e ∙ turned) ∙ negative-negative facet) (canon-either facet)
 
 -- ---- one facet more
-
-abbrev both : Bool → Bool → Bool
-both a b = a && b
 
 pub plus_none : (n : ℕ) (b : Bool) → n ≡ n + one (b && false)
 plus_none n true = omega arith
@@ -137,14 +134,6 @@ partly_start planes facets s q z a b = record {
   others = λ p ne. record { pair = refl; along = λ k. refl; against = λ k. refl };
 }
 
-take_more : (xs : List V3) (m : ℕ) (x : V3) → slice_get xs m ≡ Some x → take (m + 1) xs ≡ take m xs ++ x ∷ []
-take_more xs m x at = ap (λ n. take n xs) (add-one m) ∙ go xs m at
-  where
-    go : (xs : List V3) (m : ℕ) → slice_get xs m ≡ Some x → take (suc m) xs ≡ take m xs ++ x ∷ []
-    go [] m at = absurd (let lt = slice_get_within [] m x at in omega (arith, lt))
-    go (y ∷ xs) zero at = let e : y ≡ x = get_or_from_slice_get (y ∷ xs) zero x x at in λ i. e i ∷ []
-    go (y ∷ xs) (suc m) at = ap (λ r. y ∷ r) (go xs m at)
-
 map_push : (planes : List V3) (by_plane : List PlaneFacet) (w : PlaneFacet) → map (facet_at planes) (by_plane ++ w ∷ []) ≡ map (facet_at planes) by_plane ++ facet_at planes w ∷ []
 map_push planes [] w = refl
 map_push planes (x ∷ by_plane) w = ap (λ r. facet_at planes x ∷ r) (map_push planes by_plane w)
@@ -153,7 +142,7 @@ pub partly_more : (planes facets : List V3) (first s after : Signed) (q m : ℕ)
 partly_more planes facets first s after q m facet w size at lt is e p = subst (λ (u : Signed). IsPartly planes facets first u q (m + 1)) (sym e) (record {
   index = record {
     by_plane = p.index.by_plane ++ w ∷ [];
-    are = map_push planes p.index.by_plane w ∙ ((λ i. p.index.are i ++ is i ∷ []) ∙ sym (take_more facets m facet at));
+    are = map_push planes p.index.by_plane w ∙ ((λ i. p.index.are i ++ is i ∷ []) ∙ sym (take_next facets m facet at));
     within = All-append (λ w. w.plane < length planes) p.index.by_plane (w ∷ []) p.index.within (All-cons (λ w. w.plane < length planes) w [] lt (All-nil (λ w. w.plane < length planes)));
     along = λ k. along_after s w q small q k ∙ ((λ i. p.index.along k i + one ((w.plane == k) && (own i && not w.turned))) ∙ sym (sum_by_push (λ w. one ((w.plane == k) && not w.turned)) p.index.by_plane w));
     against = λ k. against_after s w q small q k ∙ ((λ i. p.index.against k i + one ((w.plane == k) && (own i && w.turned))) ∙ sym (sum_by_push (λ w. one ((w.plane == k) && w.turned)) p.index.by_plane w));

@@ -51,6 +51,7 @@ pub mod SignLemmas
 pub mod SumsBelow
 pub mod ArcLaw
 pub mod PushLemmas
+pub mod Images
 pub mod IndexLemmas
 pub mod PairNumbers
 pub mod Starting

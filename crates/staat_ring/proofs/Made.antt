@@ -1,7 +1,7 @@
 -- Unlinking and relinking keep what rings were made from, and what lists of them do.
 use Rattle.std.proofs.Common.{◌≡◌, ◌⊎◌, inl, inr, ⊎_elim, ℕ, zero, suc, ◌≤◌, not, arith, ap, refl, sym, subst, ◌∙◌, List, [], ◌∷◌, ◌++◌, length, take, Contains}
 use Rattle.std.specs.Prelude.{◌==◌, Some, slice_get}
-use Rattle.std.proofs.lemmas.List.{append-nil, append_assoc}
+use Rattle.std.proofs.lemmas.List.{append-nil, append_assoc, same_from_push}
 use Rattle.std.proofs.lemmas.List.Elements.{All-contains}
 use Rattle.std.proofs.lemmas.Option.{same_Some, slice_get_within}
 use Rattle.staat_vec.specs.declared.vector.V3.{V3}
@@ -15,7 +15,6 @@ use Rattle.staat_ring.specs.Without.{IsRelinked, IsUnlinked, unlinked_plane, rin
 use Rattle.staat_ring.proofs.RingsWithout.{linked_without, rings_stay}
 use Rattle.staat_ring.proofs.WithoutLemmas.{filter_from}
 use Rattle.staat_vec.proofs.Naturals.{apart_from_test}
-use Rattle.staat_ring.proofs.RingSteps.{last_or, last_is}
 
 abbrev Unlinks : Type 0
 Unlinks = List (UnlinkedPlane (List Ring))
@@ -65,14 +64,9 @@ relinked_made planes p a b is made = record {
 
 -- ---- lists of unlinks and relinks
 
-same_push : {X : Type 0} (xs ys : List X) (x y : X) → xs ++ x ∷ [] ≡ ys ++ y ∷ [] → (xs ≡ ys) × (x ≡ y)
-same_push xs ys x y e =
-    let q : x ≡ y = sym (last_is x xs x) ∙ (ap (last_or x) e ∙ last_is x ys y) in
-    (Rattle.std.proofs.lemmas.List.append_cancel_right xs ys (y ∷ []) (subst (λ z. xs ++ z ∷ [] ≡ ys ++ y ∷ []) q e), q)
-
 pub relinked_back : (p : ℕ) (a m b : Arrangement) → IsUnlinked p a m → IsRelinked p m b → b ≡ a
 relinked_back p a m b u r =
-    let (us, k) = same_push b.unlinked a.unlinked (unlinked_plane p b.rings) (unlinked_plane p a.rings) (sym r ∙ u.unlinked) in
+    let (us, k) = same_from_push b.unlinked a.unlinked (unlinked_plane p b.rings) (unlinked_plane p a.rings) (sym r ∙ u.unlinked) in
     λ i. record { rings = (ap (λ (x : UnlinkedPlane (List Ring)). x.before) k) i; unlinked = us i }
 
 pub undone : (ps : List ℕ) (a b c : Arrangement) → AreUnlinked ps a b → AreRelinked ps b c → c ≡ a

@@ -1,9 +1,9 @@
 -- One more or one less positive facet of one pair.
-use Rattle.std.proofs.Common.{◌≡◌, ◌≢◌, ⊎_elim, ℕ, zero, suc, ◌+◌, ◌-◌, ◌<◌, ◌≤◌, Bool, true, false, not, ◌&&◌, arith, ap, sym, subst, ◌∙◌, refl, List, [], ◌∷◌, length, take, get_or, set, cond, eq-eqb, get_or-set_other, get_or-set_same, length-set}
+use Rattle.std.proofs.Common.{◌≡◌, ◌≢◌, ⊎_elim, ℕ, zero, suc, ◌+◌, ◌-◌, ◌<◌, ◌≤◌, Bool, true, false, not, ◌&&◌, arith, ap, sym, subst, ◌∙◌, refl, List, length, take, get_or, set, cond, eq-eqb, get_or-set_other, get_or-set_same, length-set}
 use Rattle.std.specs.Prelude.{IsTrue, ◌↔◌, ◌==◌, nat_lt, slice_index, slice_set}
 use Rattle.std.specs.Prelude.{replicate}
 use Rattle.std.proofs.lemmas.Bool.Decides.{Decides-eqb}
-use Rattle.std.proofs.lemmas.List.{set-get_or, get_or_default, get_or-replicate, get_or_past, length-replicate}
+use Rattle.std.proofs.lemmas.List.{get_or-replicate, get_or_default, get_or_past, length-replicate, set-get_or, set-set}
 use Rattle.std.proofs.lemmas.List.Sums.{sum_by-cons, sum_by-set, get_or-le-sum_by, count_by-le-length, count_by_more_yes, sum_by-take-le}
 use Rattle.staat_ring.specs.declared.pairs.PairCount.{PairCount}
 use Rattle.staat_model.specs.declared.set.PartSet.{PartSet}
@@ -58,25 +58,6 @@ module _ (pairs : List PairCount) (counts : List ℕ) (q : ℕ) (is : CountBlock
     each = λ x small. let w = written x pairs q p lt in let s = ap one (same x) in let e = is.each x small in omega arith;
   }
 
-  -- one more
-  pub counted_more : (p : PairCount) → p.parts ≡ (pair_at pairs q).parts → ((x : ℕ) → is_block x (pair_at pairs q) ≡ false) → ((x : ℕ) → is_block x p ≡ (p.parts == x)) → CountBlocks (set pairs q p) (slice_set counts p.parts (slice_index counts p.parts + 1))
-  counted_more p home before after = record {
-    few = let e = length-set pairs q p in let f = is.few in omega arith;
-    homes = parts_after pairs q p small is.homes lt;
-    size = length-set counts p.parts (slice_index counts p.parts + 1) ∙ is.size;
-    each = λ x low. count_at counts p.parts (slice_index counts p.parts + 1) x place ∙ sum x (p.parts == x) refl (is.each x low) (written x pairs q p lt) (ap one (before x)) (ap one (after x));
-  }
-    where
-      small : p.parts < 1024
-      small = subst (λ n. n < 1024) (sym home) (is.homes q)
-
-      place : p.parts < length counts
-      place = let s = small in let e = is.size in omega arith
-
-      sum : (x : ℕ) (b : Bool) → (p.parts == x) ≡ b → slice_index counts x ≡ blocks x pairs → blocks x (set pairs q p) + one (is_block x (pair_at pairs q)) ≡ blocks x pairs + one (is_block x p) → one (is_block x (pair_at pairs q)) ≡ 0 → one (is_block x p) ≡ one (p.parts == x) → cond (p.parts == x) (slice_index counts p.parts + 1) (slice_index counts x) ≡ blocks x (set pairs q p)
-      sum x true e c w o n = let f : p.parts ≡ x = (Decides-eqb p.parts x).0 e in let g = ap (slice_index counts) f in let m = ap one e in ap (λ b. cond b (slice_index counts p.parts + 1) (slice_index counts x)) e ∙ omega arith
-      sum x false e c w o n = let m = ap one e in ap (λ b. cond b (slice_index counts p.parts + 1) (slice_index counts x)) e ∙ omega arith
-
   -- a pair that did not block gets other parts
   pub counted_new : (p : PairCount) → p.parts < 1024 → ((x : ℕ) → is_block x (pair_at pairs q) ≡ false) → ((x : ℕ) → is_block x p ≡ false) → CountBlocks (set pairs q p) counts
   counted_new p small before after = record {
@@ -86,6 +67,7 @@ module _ (pairs : List PairCount) (counts : List ℕ) (q : ℕ) (is : CountBlock
     each = λ x low. let w = written x pairs q p lt in let b = ap one (before x) in let a = ap one (after x) in let e = is.each x low in omega arith;
   }
 
+  -- one more
   pub counted_full : (p : PairCount) → p.parts < 1024 → ((x : ℕ) → is_block x (pair_at pairs q) ≡ false) → ((x : ℕ) → is_block x p ≡ (p.parts == x)) → CountBlocks (set pairs q p) (slice_set counts p.parts (slice_index counts p.parts + 1))
   counted_full p small before after = record {
     few = let e = length-set pairs q p in let f = is.few in omega arith;
@@ -100,6 +82,9 @@ module _ (pairs : List PairCount) (counts : List ℕ) (q : ℕ) (is : CountBlock
       sum : (x : ℕ) (b : Bool) → (p.parts == x) ≡ b → slice_index counts x ≡ blocks x pairs → blocks x (set pairs q p) + one (is_block x (pair_at pairs q)) ≡ blocks x pairs + one (is_block x p) → one (is_block x (pair_at pairs q)) ≡ 0 → one (is_block x p) ≡ one (p.parts == x) → cond (p.parts == x) (slice_index counts p.parts + 1) (slice_index counts x) ≡ blocks x (set pairs q p)
       sum x true e c w o n = let f : p.parts ≡ x = (Decides-eqb p.parts x).0 e in let g = ap (slice_index counts) f in let m = ap one e in ap (λ b. cond b (slice_index counts p.parts + 1) (slice_index counts x)) e ∙ omega arith
       sum x false e c w o n = let m = ap one e in ap (λ b. cond b (slice_index counts p.parts + 1) (slice_index counts x)) e ∙ omega arith
+
+  pub counted_more : (p : PairCount) → p.parts ≡ (pair_at pairs q).parts → ((x : ℕ) → is_block x (pair_at pairs q) ≡ false) → ((x : ℕ) → is_block x p ≡ (p.parts == x)) → CountBlocks (set pairs q p) (slice_set counts p.parts (slice_index counts p.parts + 1))
+  counted_more p home = counted_full p (subst (λ n. n < 1024) (sym home) (is.homes q))
 
   -- one less
   pub counted_less : (p : PairCount) → p.parts ≡ (pair_at pairs q).parts → ((x : ℕ) → is_block x p ≡ false) → ((x : ℕ) → is_block x (pair_at pairs q) ≡ (p.parts == x)) → CountBlocks (set pairs q p) (slice_set counts p.parts (slice_index counts p.parts - 1))
@@ -156,11 +141,6 @@ lose_less pairs counts after q p is lt at some full e =
     let c : (x : ℕ) → (is_block x (lost p) ≡ false) × (is_block x (gained 1 (lost p)) ≡ (p.parts == x)) = λ x. completes x (lost p) (omega arith) in
     subst (CountBlocks (set pairs q (lost p))) (sym e)
     (counted_less pairs counts q is lt (lost p) (ap (λ r. r.parts) (sym at)) (λ x. (c x).0) (λ x. ap (is_block x) at ∙ (ap (is_block x) (sym back) ∙ (c x).1)))
-
-set-set : (xs : List PairCount) (i : ℕ) (a b : PairCount) → set (set xs i a) i b ≡ set xs i b
-set-set [] i a b = refl
-set-set (x ∷ xs) zero a b = refl
-set-set (x ∷ xs) (suc i) a b = ap (λ r. x ∷ r) (set-set xs i a b)
 
 -- what `pairs[q]` gives
 pub lose_same : (pairs : List PairCount) (counts : List ℕ) (q : ℕ) (p : PairCount) → CountBlocks pairs counts

@@ -10,7 +10,7 @@ use Rattle.staat_ring.specs.Numbered.{entry_numbered, plane_of}
 use Rattle.staat_ring.specs.declared.entry.Entry.{Entry}
 use Rattle.staat_ring.specs.Rings.{RingStop}
 use Rattle.staat_ring.specs.Without.{has_some, other_than, stays, stop_without, ring_without, rings_without}
-use Rattle.staat_vec.proofs.ListLaws.{filter_twice, filter_inside}
+use Rattle.staat_vec.proofs.ListLaws.{filter_inside, filter_twice, map_twice}
 
 map_filter : {X Y : Type 0} (f : X → Y) (test : Y → Bool) (xs : List X) → filter test (map f xs) ≡ map f (filter (λ x. test (f x)) xs)
 map_filter f test [] = refl
@@ -20,10 +20,6 @@ map_filter f test (x ∷ xs) = step (test (f x)) (map_filter f test xs)
         → cond b (f x ∷ filter test (map f xs)) (filter test (map f xs)) ≡ map f (cond b (x ∷ filter (λ x. test (f x)) xs) (filter (λ x. test (f x)) xs))
     step true ih = ap (λ l. f x ∷ l) ih
     step false ih = ih
-
-pub map_twice : {X Y Z : Type 0} (f : X → Y) (g : Y → Z) (xs : List X) → map g (map f xs) ≡ map (λ x. g (f x)) xs
-map_twice f g [] = refl
-map_twice f g (x ∷ xs) = ap (λ l. g (f x) ∷ l) (map_twice f g xs)
 
 pub filter_by : (p q : ℕ → Bool) (xs : List ℕ) → ((x : ℕ) → p x ≡ q x) → filter p xs ≡ filter q xs
 filter_by p q [] h = refl
@@ -48,7 +44,7 @@ some_map : (f : ℕ → Entry) (xs : List ℕ) → has_some (map f xs) ≡ not (
 some_map f [] = refl
 some_map f (x ∷ xs) = refl
 
-pub map_same : {Y : Type 0} (f g : ℕ → Y) (xs : List ℕ) → ((x : ℕ) → Contains xs x → f x ≡ g x) → map f xs ≡ map g xs
+pub map_same : {X Y : Type 0} (f g : X → Y) (xs : List X) → ((x : X) → Contains xs x → f x ≡ g x) → map f xs ≡ map g xs
 map_same f g [] h = refl
 map_same f g (x ∷ xs) h = λ i. h x (zero, omega arith, refl) i ∷ map_same f g xs (λ y c. h y (suc c.0, omega (arith, c.1), c.2)) i
 
@@ -78,7 +74,7 @@ module _ (n p : ℕ) (l : RingLists) (c : ℕ) where
   stops : map (stop_without p) (filter (stays p) (map stop (l.vertices c))) ≡ map stop_left kept
   stops =
       ap (map (stop_without p)) (map_filter stop (stays p) (l.vertices c))
-      ∙ (map_twice stop (stop_without p) (filter (λ v. stays p (stop v)) (l.vertices c))
+      ∙ (map_twice (stop_without p) stop (filter (λ v. stays p (stop v)) (l.vertices c))
       ∙ (ap (map (λ v. stop_without p (stop v))) (filter_by (λ v. stays p (stop v)) (λ v. not (is_empty (left v))) (l.vertices c) stays_is)
       ∙ map_same (λ v. stop_without p (stop v)) stop_left kept (λ v _. stop_is v)))
 
@@ -89,7 +85,7 @@ pub rings-without : (n p : ℕ) (out : List ℕ) (l : RingLists) → rings_of n 
 rings-without n p out l =
     ap (λ cs. map (ring_of n (lists_without_plane (plane_of n) p l)) cs) planes
     ∙ (map_same (ring_of n (lists_without_plane (plane_of n) p l)) (λ c. ring_without p (ring_of n l c)) (filter (λ c. not (c == p)) (filter (λ c. not (is_out out c)) (numbers_below n))) (λ c _. ring-without n p l c)
-    ∙ (sym (map_twice (ring_of n l) (ring_without p) (filter (λ c. not (c == p)) (filter (λ c. not (is_out out c)) (numbers_below n))))
+    ∙ (sym (map_twice (ring_without p) (ring_of n l) (filter (λ c. not (c == p)) (filter (λ c. not (is_out out c)) (numbers_below n))))
     ∙ ap (map (ring_without p)) (sym (map_filter (ring_of n l) (λ r. not (r.plane == p)) (filter (λ c. not (is_out out c)) (numbers_below n))))))
   where
     planes : filter (λ c. not (is_out (out ++ p ∷ []) c)) (numbers_below n) ≡ filter (λ c. not (c == p)) (filter (λ c. not (is_out out c)) (numbers_below n))

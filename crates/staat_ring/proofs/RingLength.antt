@@ -16,10 +16,9 @@ use Rattle.staat_ring.proofs.Numbering.{head_small}
 use Rattle.staat_ring.specs.Views.{lists_of}
 use Rattle.staat_ring.proofs.Mapped.{from_apart}
 use Rattle.staat_ring.proofs.RingLemmas.{below_small}
-use Rattle.staat_ring.proofs.SoundLemmas.{filter_inside}
 use Rattle.staat_ring.proofs.Unlinking.{linked_plane, planes_of_rings, sound_is_good}
 use Rattle.staat_ring.proofs.Built.{below_all}
-use Rattle.staat_ring.proofs.WithoutLemmas.{filter_in}
+use Rattle.staat_ring.proofs.WithoutLemmas.{filter_from, filter_in}
 use Rattle.staat_vec.proofs.ListLaws.{Contains-from_map}
 
 chain_step : (s : Links) (a : ℕ) (xs : List ℕ) (b k : ℕ) → Chain s a xs b → k ≤ length xs → get_or s.next (get_or (a ∷ xs) k 0) 0 ≡ get_or (xs ++ b ∷ []) k 0
@@ -88,7 +87,7 @@ module _ (n count : ℕ) (order : List ℕ) (a : Arrays) (now : Arrangement) (vi
   pub ring_there : (r : rings.Ring) → Contains now.rings r → (c : ℕ) × (c < n) × (ring_of n (lists_of (shape n) a) c ≡ r)
   ring_there r cr =
       let (c, cc', q) = Contains-from_map (ring_of n (lists_of (shape n) a)) (filter (λ c. not (is_out out c)) (numbers_below n)) r (subst (λ (v : Arrangement). Contains v.rings r) (sym view) cr) in
-      (c, below_small n c (filter_inside (λ c. not (is_out out c)) (numbers_below n) c cc').0, q)
+      (c, below_small n c (filter_from (λ c. not (is_out out c)) (numbers_below n) c cc').0, q)
 
   pub linked_small : (c : ℕ) → Contains (linked_of now.rings) c → c < n
   linked_small c cc' =

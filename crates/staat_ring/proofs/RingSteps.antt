@@ -1,7 +1,7 @@
 -- What unlink and relink do to the view and the invariant.
-use Rattle.std.proofs.Common.{◌≡◌, ℕ, zero, suc, ◌+◌, ◌-◌, ◌<◌, refl, sym, ap, subst, ◌∙◌, arith, List, [], ◌∷◌, ◌++◌, map, length, take, Contains, inl, inr, set, get_or, add-one}
-use Rattle.std.proofs.Math.Seq.{take-suc-set, take-suc}
-use Rattle.std.proofs.lemmas.List.{take-set-le, get_or-set_other}
+use Rattle.std.proofs.Common.{◌≡◌, ℕ, zero, suc, ◌+◌, ◌-◌, ◌<◌, refl, sym, ap, subst, ◌∙◌, arith, List, [], ◌∷◌, ◌++◌, map, length, take, Contains, inl, inr, set, get_or}
+use Rattle.std.proofs.Math.Seq.{take-suc}
+use Rattle.std.proofs.lemmas.List.{get_or-set_other, same_from_push, take-set-le, take_more_set}
 use Rattle.std.proofs.lemmas.Grind.{get_or-set_at}
 use Rattle.std.proofs.Math.ListN.{length-set}
 use Rattle.staat_ring.specs.Links.{Arrays, take_all, give_all}
@@ -30,9 +30,6 @@ has_room n count order a v p k e c =
     let t = k.all count (omega arith) in
     omega arith
 
-pub order_push : (count : ℕ) (order : List ℕ) (p : ℕ) → count < length order → take (count + 1) (set order count p) ≡ take count order ++ p ∷ []
-order_push count order p lt = ap (λ k. take k (set order count p)) (add-one count) ∙ take-suc-set order count p lt
-
 module _ (n count : ℕ) (order : List ℕ) (a b : Arrays) (v : Arrangement) (p : ℕ) (k : HaveTakenOut n count order a) (e : arrangement_of n (take count order) a ≡ v) (c : Contains (map (λ r. r.plane) v.rings) p) (is : b ≡ take_all (entries_of n p n) a) where
   linked : Contains (still_linked n (take count order)) p
   linked = is_linked n (take count order) a v p e c
@@ -48,14 +45,14 @@ module _ (n count : ℕ) (order : List ℕ) (a b : Arrays) (v : Arrangement) (p 
   pub unlink_rings : rings_at n (take (count + 1) (set order count p)) b ≡ rings_without p v.rings
   unlink_rings =
       let l = linked_plane n (take count order) p linked in
-      ap (λ o. rings_at n o b) (order_push count order p room)
+      ap (λ o. rings_at n o b) (take_more_set order count p room)
       ∙ (ap (rings_at n (take count order ++ p ∷ [])) is
       ∙ (rings-unlink n p (take count order) a l.0 l.1 (sound_is_good n (take count order) a k.sound)
       ∙ ap (λ x. rings_without p x.rings) e))
 
   pub unlink_kept : unlinked_planes (undo n) (rings_at n) [] (take (count + 1) (set order count p)) b ≡ v.unlinked ++ (record { plane = p; before = v.rings }) ∷ []
   unlink_kept =
-      ap (λ o. unlinked_planes (undo n) (rings_at n) [] o b) (order_push count order p room)
+      ap (λ o. unlinked_planes (undo n) (rings_at n) [] o b) (take_more_set order count p room)
       ∙ (kept-push (undo n) (rings_at n) [] (take count order) p b
       ∙ (ap (λ x. unlinked_planes (undo n) (rings_at n) [] (take count order) x ++ (record { plane = p; before = rings_at n (take count order) x }) ∷ []) back
       ∙ ap (λ x. x.unlinked ++ (record { plane = p; before = x.rings }) ∷ []) e))
@@ -79,30 +76,21 @@ module _ (n count : ℕ) (order : List ℕ) (a b : Arrays) (v : Arrangement) (p 
           | inr g ↦ let m = one_less n p (take count order) linked in
               let t = k.all count (omega arith) in
               let j' : j ≡ count + 1 = omega arith in
-              let w = ap (λ o. length (still_linked n o)) (ap (λ i. take i (set order count p)) j' ∙ order_push count order p room) in
+              let w = ap (λ o. length (still_linked n o)) (ap (λ i. take i (set order count p)) j' ∙ take_more_set order count p room) in
               omega arith
         ];
         planes = λ j lt. elim (same_or j count) [
           | inl q ↦ subst (λ x. x < n) (sym (get_or-set_at order count j p 0 q room)) l.0
           | inr q ↦ subst (λ x. x < n) (sym (get_or-set_other order count j p 0 q)) (k.planes j (omega arith))
         ];
-        sound = subst (λ o. CanBeUndone n o b) (sym (order_push count order p room))
+        sound = subst (λ o. CanBeUndone n o b) (sym (take_more_set order count p room))
             (sound-push n p (take count order) a b back
             (subst (λ x. Rattle.staat_ring.specs.RingViews.StandForCircles n (take count order ++ p ∷ []) x) (sym is) (good-unlink n p (take count order) a l.0 l.1 (sound_is_good n (take count order) a k.sound))) k.sound);
       }
 
 -- ---- relink
-pub last_or : {X : Type 0} → X → List X → X
-last_or d [] = d
-last_or d (x ∷ xs) = last_or x xs
-
-pub last_is : {X : Type 0} (d : X) (xs : List X) (x : X) → last_or d (xs ++ x ∷ []) ≡ x
-unfolding last_or
-last_is d [] x = refl
-last_is d (y ∷ xs) x = last_is y xs x
-
 same_last : {X : Type 0} (xs ys : List X) (x y : X) → xs ++ x ∷ [] ≡ ys ++ y ∷ [] → x ≡ y
-same_last xs ys x y e = sym (last_is x xs x) ∙ (ap (last_or x) e ∙ last_is x ys y)
+same_last xs ys x y e = (same_from_push xs ys x y e).1
 
 not_nil : {X : Type 0} (xs : List X) (x : X) → [] ≡ xs ++ x ∷ [] → ⊥
 not_nil [] x e = cc

@@ -10,9 +10,10 @@ use Rattle.staat_vec.specs.declared.vector.V3.{V3}
 use Rattle.staat_vec.specs.Lists.{Lists, ListsOnce}
 use Rattle.staat_vec.specs.Primitives.{primitive}
 use Rattle.staat_vec.specs.Vectors.{cross, dot, origin}
-use Rattle.staat_vec.proofs.Unique.{Contains-front, Contains-later, from_place}
+use Rattle.staat_vec.proofs.Unique.{Contains-front, from_place}
 use Rattle.staat_model.proofs.Members.{All-from_members}
 use Rattle.staat_model.specs.Circles.{IsAfter, IsLinked, IsNext, IsOnCircle, PassesThrough, Stop, axis_beside}
+use Rattle.staat_ring.proofs.RingLemmas.{map_same}
 use Rattle.staat_ring.specs.declared.entry.Entry.{Entry}
 use Rattle.staat_ring.specs.Rings.{IsRingOf, Ring, RingStop, stop_of, vertex_of}
 use Rattle.staat_ring.proofs.Stops.{AreLinkedApart}
@@ -22,10 +23,6 @@ use Rattle.staat_ring.proofs.WithoutLemmas.{Different, agree_without, different_
 use Rattle.staat_vec.proofs.Naturals.{zero_not_suc, suc_same}
 use Rattle.staat_vec.proofs.ListLaws.{map_twice, place_in_map, map_at_place, Contains-map, Contains-from_map, place_of}
 use Rattle.staat_ring.proofs.HalfTurn.{axis_differs}
-
-map_same : {X Y : Type 0} (f g : X → Y) (xs : List X) → ((x : X) → Contains xs x → f x ≡ g x) → map f xs ≡ map g xs
-map_same f g [] h = refl
-map_same f g (x ∷ xs) h = λ i. h x (Contains-front x xs) i ∷ map_same f g xs (λ y c. h y (Contains-later x xs y c)) i
 
 -- ---- each once
 

@@ -5,7 +5,8 @@ use Rattle.std.specs.Prelude.{◌==◌}
 use Rattle.std.proofs.Math.Nat.{mul-add-mod_self_left, mod-eq_of_lt}
 use Rattle.std.proofs.Math.ListN.{length-set}
 use Rattle.std.proofs.lemmas.List.Elements.{Contains-append_cases}
-use Rattle.staat_ring.specs.Links.{Links, Arrays, Apart, Distinct, unlink, is_bare, take, take_all}
+use Rattle.staat_ring.proofs.WithoutLemmas.{filter_from}
+use Rattle.staat_ring.specs.Links.{Arrays, Apart, Distinct, unlink, is_bare, take, take_all}
 use Rattle.staat_ring.proofs.Taking.{CanTakeAll}
 use Rattle.staat_ring.specs.Stands.{Shape, RingLists, StandFor, is_empty, home_of, IsPresent, AllPresent}
 use Rattle.staat_ring.proofs.ListsWithout.{lists_without_plane, lists_without_all, lists_without, AreSame}
@@ -15,7 +16,7 @@ use Rattle.staat_ring.specs.RingViews.{shape, is_out, undo, rings_at, StandForCi
 use Rattle.staat_ring.specs.Numbered.{plane_of}
 use Rattle.staat_ring.specs.Without.{rings_without}
 use Rattle.staat_ring.proofs.RelinkUndoesUnlink.{give_all-take_all}
-use Rattle.staat_ring.proofs.TwoLevels.{stands-take_all, present-after}
+use Rattle.staat_ring.proofs.TwoLevels.{length_if, stands-take_all, present-after}
 use Rattle.staat_ring.proofs.ViewLemmas.{AreShort, lists_of_is, stands_same}
 use Rattle.staat_ring.proofs.Filters.{without-plane}
 use Rattle.staat_ring.proofs.RingLemmas.{rings-without, rings-same}
@@ -102,10 +103,6 @@ same_trans g l m k s t = record {
 }
 
 -- ---- lengths
-length_if : (b : Bool) (s : Links) (x : ℕ) → length (if b then unlink x s else s).next ≡ length s.next
-length_if true s x = length-set s.next (get_or s.prev x 0) (get_or s.next x 0)
-length_if false s x = refl
-
 lengths_kept : (es : List ℕ) (a : Arrays) → (length (take_all es a).circles.next ≡ length a.circles.next) × (length (take_all es a).vertices.next ≡ length a.vertices.next)
 lengths_kept [] a = (refl, refl)
 lengths_kept (e ∷ es) a =
@@ -119,15 +116,6 @@ filter_length test (x ∷ xs) = go (test x) (filter_length test xs)
     go : (b : Bool) → length (filter test xs) ≤ length xs → length (cond b (x ∷ filter test xs) (filter test xs)) ≤ suc (length xs)
     go true h = omega arith
     go false h = omega arith
-
-pub filter_inside : (test : ℕ → Bool) (xs : List ℕ) (v : ℕ) → Contains (filter test xs) v → Contains xs v × (test v ≡ true)
-filter_inside test [] v (k, lt, q) = absurd (omega arith)
-filter_inside test (x ∷ xs) v c = go (test x) refl (filter_inside test xs v) c
-  where
-    go : (b : Bool) → test x ≡ b → (Contains (filter test xs) v → Contains xs v × (test v ≡ true)) → Contains (cond b (x ∷ filter test xs) (filter test xs)) v → Contains (x ∷ xs) v × (test v ≡ true)
-    go false h ih c = let r = ih c in ((suc r.0.0, omega (arith, r.0.1), r.0.2), r.1)
-    go true h ih (zero, lt, q) = ((zero, omega arith, q), ap test (sym q) ∙ h)
-    go true h ih (suc k, lt, q) = let r = ih (k, omega arith, q) in ((suc r.0.0, omega (arith, r.0.1), r.0.2), r.1)
 
 listed_apart : (out : List ℕ) (p q : ℕ) → is_out (out ++ p ∷ []) q ≡ false → (is_out out q ≡ false) × (q ≢ p)
 listed_apart [] p q h = (refl, λ e. last (p == q) (eq-eqb p q (sym e)) h)
@@ -172,7 +160,7 @@ module _ (n p : ℕ) (out : List ℕ) (a : Arrays) (in' : p < n) (linked : is_ou
       })
 
   in_old : (c v : ℕ) → c < n → Contains (mid.vertices c) v → Contains (old.vertices c) v
-  in_old c v hc cv = (filter_inside (λ w. not (is_empty (filter (λ e. not (plane_of n e == p)) (old.entries w)))) (old.vertices c) v (subst (λ xs. Contains xs v) (sym (cut_mid.vertices c hc)) cv)).0
+  in_old c v hc cv = (filter_from (λ w. not (is_empty (filter (λ e. not (plane_of n e == p)) (old.entries w)))) (old.vertices c) v (subst (λ xs. Contains xs v) (sym (cut_mid.vertices c hc)) cv)).0
 
   in_cut : (c v : ℕ) → c < n → Contains (mid.vertices c) v → Contains (cut.vertices c) v
   in_cut c v hc cv = subst (λ xs. Contains xs v) (sym (cut_mid.vertices c hc)) cv
@@ -206,7 +194,7 @@ module _ (n p : ℕ) (out : List ℕ) (a : Arrays) (in' : p < n) (linked : is_ou
     full = λ c v hc cv.
         let cv' = in_cut c v hc (new_mid c v hc cv) in
         ap is_empty (sym (cut_new.entries c v hc cv'))
-        ∙ from_not_true (is_empty (cut.entries v)) (filter_inside (λ w. not (is_empty (filter (λ e. not (plane_of n e == p)) (old.entries w)))) (old.vertices c) v cv').1;
+        ∙ from_not_true (is_empty (cut.entries v)) (filter_from (λ w. not (is_empty (filter (λ e. not (plane_of n e == p)) (old.entries w)))) (old.vertices c) v cv').1;
     short_circles = λ c hc. subst (λ xs. length xs < length (take_all es a).circles.next) (mid_new.vertices c hc) (short.vertices c hc);
     short_vertices = λ c v hc cv. subst (λ xs. length xs < length (take_all es a).vertices.next) (mid_new.entries c v hc (new_mid c v hc cv)) (short.entries c v hc (new_mid c v hc cv));
     present = λ q hq lq.
@@ -218,11 +206,11 @@ module _ (n p : ℕ) (out : List ℕ) (a : Arrays) (in' : p < n) (linked : is_ou
     known = λ c v e hc cv ce.
         let cv' = new_mid c v hc cv in
         good.known c v e hc (in_old c v hc cv')
-        (filter_inside (λ e. not (plane_of n e == p)) (old.entries v) e (subst (λ xs. Contains xs e) (sym (cut_new.entries c v hc (in_cut c v hc cv'))) ce)).0;
+        (filter_from (λ e. not (plane_of n e == p)) (old.entries v) e (subst (λ xs. Contains xs e) (sym (cut_new.entries c v hc (in_cut c v hc cv'))) ce)).0;
     numbered = λ c v e hc cv ce.
         let cv' = new_mid c v hc cv in
         good.numbered c v e hc (in_old c v hc cv')
-        (filter_inside (λ e. not (plane_of n e == p)) (old.entries v) e (subst (λ xs. Contains xs e) (sym (cut_new.entries c v hc (in_cut c v hc cv'))) ce)).0;
+        (filter_from (λ e. not (plane_of n e == p)) (old.entries v) e (subst (λ xs. Contains xs e) (sym (cut_new.entries c v hc (in_cut c v hc cv'))) ce)).0;
   }
 
   pub rings-unlink : rings_at n (out ++ p ∷ []) (take_all es a) ≡ rings_without p (rings_at n out a)

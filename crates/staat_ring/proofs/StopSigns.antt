@@ -1,7 +1,9 @@
 -- The signs of the planes through a stop.
-use Rattle.std.proofs.Common.{◌≡◌, ◌≢◌, ℕ, zero, suc, ◌+◌, ◌<◌, ◌≤◌, Bool, arith, ap, sym, subst, ◌∙◌, refl, List, [], ◌∷◌, length, drop, take, set, add-one, drop-cons, ◌⊎◌, inl, inr, ⊎_elim, Contains, length-set, get_or-set_same, get_or-set_other}
+use Rattle.std.proofs.Common.{◌≡◌, ◌≢◌, ℕ, zero, suc, ◌+◌, ◌<◌, ◌≤◌, Bool, arith, ap, sym, subst, ◌∙◌, refl, List, [], ◌∷◌, length, drop, take, set, ◌⊎◌, inl, inr, ⊎_elim, Contains, length-set, get_or-set_same, get_or-set_other}
 use Rattle.std.specs.Prelude.{Some, slice_get}
 use Rattle.std.proofs.lemmas.Option.{get_or_from_slice_get, slice_get_within}
+use Rattle.std.proofs.lemmas.List.{set_past}
+use Rattle.staat_pairs.proofs.DropLemmas.{drop_at}
 use Rattle.staat_ring.specs.declared.entry.Entry.{Entry}
 use Rattle.std.proofs.Math.ListN.{drop_of_length-le}
 use Rattle.staat_vec.specs.declared.vector.Sign.{Sign}
@@ -17,13 +19,10 @@ use Rattle.staat_ring.specs.SignChanges.{with_sign, with_plane_sign}
 use Rattle.staat_ring.specs.StopSigns.{stop_sign, with_stop_signs}
 use Rattle.staat_vec.proofs.Naturals.{lt_or_le, same_or}
 
-pub drop_next : (es : List Entry) (i : ℕ) (e : Entry) → slice_get es i ≡ Some e → drop i es ≡ e ∷ drop (i + 1) es
-drop_next es i e at = drop-cons es i e (slice_get_within es i e at) ∙ ((λ k. get_or_from_slice_get es i e e at k ∷ drop (suc i) es) ∙ ap (λ n. e ∷ drop n es) (sym (add-one i)))
-
 -- one entry more
 pub stop_sign_next : (leaves : Bool) (es : List Entry) (i : ℕ) (e : Entry) (sign : Sign) (now new first : Signed) → slice_get es i ≡ Some e → sign ≡ stop_sign leaves e.turned → new ≡ with_plane_sign e.plane sign now → with_stop_signs leaves (drop i es) now ≡ first → with_stop_signs leaves (drop (i + 1) es) new ≡ first
 stop_sign_next leaves es i e sign now new first at is set rest =
-    ap (with_stop_signs leaves (drop (i + 1) es)) (set ∙ ap (λ s. with_plane_sign e.plane s now) is) ∙ (sym (ap (λ r. with_stop_signs leaves r now) (drop_next es i e at)) ∙ rest)
+    ap (with_stop_signs leaves (drop (i + 1) es)) (set ∙ ap (λ s. with_plane_sign e.plane s now) is) ∙ (sym (ap (λ r. with_stop_signs leaves r now) (drop_at es i e at)) ∙ rest)
 
 -- none left
 pub stop_sign_end : (leaves : Bool) (es : List Entry) (i : ℕ) (now first : Signed) → length es ≤ i → with_stop_signs leaves (drop i es) now ≡ first → now ≡ first
@@ -43,11 +42,6 @@ same_itself s = record { size = refl; along = λ k. refl; against = λ k. refl; 
 
 pub same_trans : (s t u : Signed) → SameLists s t → SameLists t u → SameLists s u
 same_trans s t u p q = record { size = p.size ∙ q.size; along = λ k. p.along k ∙ q.along k; against = λ k. p.against k ∙ q.against k; pairs = p.pairs ∙ q.pairs }
-
-pub set_past : (xs : List PlaneState) (k : ℕ) (x : PlaneState) → length xs ≤ k → set xs k x ≡ xs
-set_past [] k x h = refl
-set_past (y ∷ xs) zero x h = absurd (omega arith)
-set_past (y ∷ xs) (suc k) x h = ap (λ r. y ∷ r) (set_past xs k x (omega arith))
 
 -- what a plane keeps of what the change at a plane leaves
 kept_at : {X : Type 0} (f : PlaneState → X) (states : List PlaneState) (k : ℕ) (sign : Sign) (j : ℕ) → ((s : PlaneState) → f (with_sign sign s) ≡ f s) → f (state_at (set states k (with_sign sign (state_at states k))) j) ≡ f (state_at states j)

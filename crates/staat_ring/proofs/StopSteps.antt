@@ -131,9 +131,6 @@ module _ (n c : ℕ) (lc : c < n) (stops : List (List Entry)) (can : CanBeLinked
       (ring_others : (y : ℕ) → Apart y (head_number n c ∷ map (node_number n c) stops) → IsSameAt a.circles b.circles y)
       (ring_length : length b.circles.next ≡ length a.circles.next)
       (linked : AreStopsLinked n c stops (length stops) a.vertices b.vertices a.home b.home) where
-    pub sizes_now : AreSized n b
-    sizes_now = record { home = linked.home_size ∙ sizes.home; circles = ring_length ∙ sizes.circles; vertices = linked.size ∙ sizes.vertices }
-
     pub holds_now : HoldsCircle n b c stops
     holds_now = record {
       circle = ring;

@@ -3,6 +3,7 @@ use Rattle.std.proofs.Common.{◌≡◌, ◌≢◌, ℕ, zero, suc, ◌<◌, ref
 use Rattle.std.proofs.lemmas.List.{get_or-set_other}
 use Rattle.std.proofs.lemmas.Grind.{get_or-set_at}
 use Rattle.std.proofs.Math.ListN.{length-set}
+use Rattle.staat_vec.proofs.ListLaws.{Contains-there}
 use Rattle.staat_ring.specs.Links.{Links, Apart, Distinct, unlink, Arrays, is_bare, take, take_all}
 use Rattle.staat_ring.proofs.Taking.{CanTakeAll, CanTake}
 use Rattle.staat_ring.specs.Stands.{is_empty, Tagged, IsRing, Shape, RingLists, home_of, StandFor, IsPresent, AllPresent}
@@ -15,9 +16,6 @@ contains_cases : (z y : ℕ) (zs : List ℕ) → Contains (z ∷ zs) y → (z �
 contains_cases z y zs (zero, lt, e) = inl e
 contains_cases z y zs (suc k, lt, e) = inr (k, omega arith, e)
 
-contains_later : (z y : ℕ) (zs : List ℕ) → Contains zs y → Contains (z ∷ zs) y
-contains_later z y zs (k, lt, e) = (suc k, omega arith, e)
-
 contains_here : (z y : ℕ) (zs : List ℕ) → z ≡ y → Contains (z ∷ zs) y
 contains_here z y zs e = (zero, omega arith, e)
 
@@ -26,8 +24,8 @@ contains_before x y [] h = h
 contains_before x y (z ∷ xs) h = step (eqb z x) (contains_before x y xs) h
   where
     step : (b : Bool) → (Contains (without x xs) y → Contains xs y) → Contains (cond (not b) (z ∷ without x xs) (without x xs)) y → Contains (z ∷ xs) y
-    step true ih g = contains_later z y xs (ih g)
-    step false ih g = elim (contains_cases z y (without x xs) g) [ inl e ↦ contains_here z y xs e | inr c ↦ contains_later z y xs (ih c) ]
+    step true ih g = Contains-there z y xs (ih g)
+    step false ih g = elim (contains_cases z y (without x xs) g) [ inl e ↦ contains_here z y xs e | inr c ↦ Contains-there z y xs (ih c) ]
 
 pub contains_after : (x y : ℕ) (xs : List ℕ) → y ≢ x → Contains xs y → Contains (without x xs) y
 contains_after x y [] n h = h
@@ -38,7 +36,7 @@ contains_after x y (z ∷ xs) n h = elim (contains_cases z y xs h) [
   where
     step : (b : Bool) → Contains (without x xs) y → Contains (cond (not b) (z ∷ without x xs) (without x xs)) y
     step true g = g
-    step false g = contains_later z y (without x xs) g
+    step false g = Contains-there z y (without x xs) g
 
 -- a word of an array after a write
 pub word_below : (l : List ℕ) (i u x n : ℕ) → u < n → get_or l x 0 < n → i < length l → get_or (set l i u) x 0 < n
@@ -73,7 +71,7 @@ contains_if : (b : Bool) (x y : ℕ) (xs : List ℕ) → Contains (if b then wit
 contains_if true x y xs h = contains_before x y xs h
 contains_if false x y xs h = h
 
-length_if : (b : Bool) (s : Links) (x : ℕ) → length (if b then unlink x s else s).next ≡ length s.next
+pub length_if : (b : Bool) (s : Links) (x : ℕ) → length (if b then unlink x s else s).next ≡ length s.next
 length_if true s x = length-set s.next (get_or s.prev x 0) (get_or s.next x 0)
 length_if false s x = refl
 

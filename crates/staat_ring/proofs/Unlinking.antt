@@ -1,13 +1,14 @@
 -- The invariant with the list of unlinked planes.
 use Rattle.std.proofs.Common.{◌≡◌, ◌≢◌, ℕ, zero, suc, ◌+◌, ◌<◌, ◌≤◌, refl, sym, ap, subst, ◌∙◌, arith, List, [], ◌∷◌, ◌++◌, map, length, take, drop, false, not, ◌&&◌, Contains, inl, inr}
 use Rattle.std.specs.Prelude.{◌==◌}
+use Rattle.std.proofs.lemmas.List.{take_all, drop_all, length_push}
+use Rattle.staat_ring.proofs.WithoutLemmas.{filter_from}
 use Rattle.staat_ring.specs.Links.{Arrays, Apart, Distinct}
 use Rattle.staat_ring.specs.Stands.{RingLists}
 use Rattle.staat_ring.proofs.ListsWithout.{without}
 use Rattle.staat_ring.specs.Views.{undo_all}
 use Rattle.staat_ring.specs.RingViews.{rings_of, rings_at, undo, StandForCircles, CanBeUndone, still_linked, is_out, numbers_below, shape}
 use Rattle.staat_ring.proofs.ViewLemmas.{undo-push}
-use Rattle.staat_ring.proofs.SoundLemmas.{filter_inside}
 use Rattle.staat_ring.proofs.RingLemmas.{listed-push, filter_by, eqb_turned, below_small}
 use Rattle.staat_ring.proofs.WithoutNumber.{split, without_mid, distinct_filter}
 use Rattle.staat_vec.proofs.Truth.{from_not_true}
@@ -24,39 +25,23 @@ drop-push zero out p h = refl
 drop-push (suc k) [] p h = absurd (omega arith)
 drop-push (suc k) (x ∷ out) p h = drop-push k out p (omega arith)
 
-take_all-list : (k : ℕ) (out : List ℕ) → length out ≤ k → take k out ≡ out
-take_all-list zero [] h = refl
-take_all-list zero (x ∷ out) h = absurd (omega arith)
-take_all-list (suc k) [] h = refl
-take_all-list (suc k) (x ∷ out) h = ap (λ l. x ∷ l) (take_all-list k out (omega arith))
-
-drop_all-list : (k : ℕ) (out : List ℕ) → length out ≤ k → drop k out ≡ []
-drop_all-list zero [] h = refl
-drop_all-list zero (x ∷ out) h = absurd (omega arith)
-drop_all-list (suc k) [] h = refl
-drop_all-list (suc k) (x ∷ out) h = drop_all-list k out (omega arith)
-
-length-push : (out : List ℕ) (p : ℕ) → length (out ++ p ∷ []) ≡ length out + 1
-length-push [] p = refl
-length-push (x ∷ out) p = let r = length-push out p in omega arith
-
 pub sound_is_good : (n : ℕ) (out : List ℕ) (a : Arrays) → CanBeUndone n out a → StandForCircles n out a
 sound_is_good n out a s =
-    subst (λ l. StandForCircles n l a) (take_all-list (length out) out (omega arith))
-    (subst (λ l. StandForCircles n (take (length out) out) (undo_all (undo n) l a)) (drop_all-list (length out) out (omega arith)) (s (length out) (omega arith)))
+    subst (λ l. StandForCircles n l a) (take_all (length out) out (omega arith))
+    (subst (λ l. StandForCircles n (take (length out) out) (undo_all (undo n) l a)) (drop_all (length out) out (omega arith)) (s (length out) (omega arith)))
 
 pub sound-push : (n p : ℕ) (out : List ℕ) (a b : Arrays) → undo n p b ≡ a → StandForCircles n (out ++ p ∷ []) b → CanBeUndone n out a → CanBeUndone n (out ++ p ∷ []) b
 sound-push n p out a b e good s k le = elim (le_or_past k (length out)) [
   | inl h ↦ subst (λ l. StandForCircles n l (undo_all (undo n) (drop k (out ++ p ∷ [])) b)) (sym (take-push k out p h))
       (subst (λ x. StandForCircles n (take k out) x) (sym (ap (λ l. undo_all (undo n) l b) (drop-push k out p h) ∙ (undo-push (undo n) (drop k out) p b ∙ ap (undo_all (undo n) (drop k out)) e))) (s k h))
-  | inr h ↦ let l = length-push out p in
-      subst (λ l. StandForCircles n l (undo_all (undo n) (drop k (out ++ p ∷ [])) b)) (sym (take_all-list k (out ++ p ∷ []) (omega arith)))
-      (subst (λ l. StandForCircles n (out ++ p ∷ []) (undo_all (undo n) l b)) (sym (drop_all-list k (out ++ p ∷ []) (omega arith))) good)
+  | inr h ↦ let l = length_push out p in
+      subst (λ l. StandForCircles n l (undo_all (undo n) (drop k (out ++ p ∷ [])) b)) (sym (take_all k (out ++ p ∷ []) (omega arith)))
+      (subst (λ l. StandForCircles n (out ++ p ∷ []) (undo_all (undo n) l b)) (sym (drop_all k (out ++ p ∷ []) (omega arith))) good)
 ]
 
 pub sound-pop : (n p : ℕ) (out : List ℕ) (b : Arrays) → CanBeUndone n (out ++ p ∷ []) b → CanBeUndone n out (undo n p b)
 sound-pop n p out b s k h =
-    let l = length-push out p in
+    let l = length_push out p in
     subst (λ l. StandForCircles n l (undo_all (undo n) (drop k out) (undo n p b))) (take-push k out p h)
     (subst (λ x. StandForCircles n (take k (out ++ p ∷ [])) x) (ap (λ l. undo_all (undo n) l b) (drop-push k out p h) ∙ undo-push (undo n) (drop k out) p b) (s k (omega arith)))
 
@@ -70,7 +55,7 @@ planes_of_rings n out l = go (still_linked n out)
 
 pub linked_plane : (n : ℕ) (out : List ℕ) (p : ℕ) → Contains (still_linked n out) p → (p < n) × (is_out out p ≡ false)
 linked_plane n out p c =
-    let f = filter_inside (λ c. not (is_out out c)) (numbers_below n) p c in
+    let f = filter_from (λ c. not (is_out out c)) (numbers_below n) p c in
     (below_small n p f.0, from_not_true (is_out out p) f.1)
 
 length_mid : (l : List ℕ) (x : ℕ) (r : List ℕ) → length (l ++ x ∷ r) ≡ length (l ++ r) + 1

@@ -1,7 +1,7 @@
 -- Lists without one number.
 use Rattle.std.proofs.Common.{◌≡◌, ◌≢◌, ℕ, zero, suc, refl, sym, ap, subst, ◌∙◌, List, [], ◌∷◌, ◌++◌, Bool, true, false, not, cond, eqb, eq-eqb, get_or, arith, Contains}
 use Rattle.std.specs.List.{filter}
-use Rattle.std.proofs.lemmas.Bool.Decides.{nat_tests}
+use Rattle.staat_vec.proofs.Naturals.{eqb_false}
 use Rattle.staat_ring.specs.Links.{Links, IsLinkedRing, Apart, Distinct, unlink, is_bare}
 use Rattle.staat_ring.proofs.Ends.{first_of, last_of}
 use Rattle.staat_ring.proofs.Taking.{IsBetween}
@@ -12,11 +12,8 @@ use Rattle.staat_ring.proofs.Chains.{ring-unlink, between, chain_stays, prev_in,
 pub without_same : (x : ℕ) (r : List ℕ) → without x (x ∷ r) ≡ without x r
 without_same x r = ap (λ b. cond (not b) (x ∷ without x r) (without x r)) (eq-eqb x x refl)
 
-differs : (x y : ℕ) → y ≢ x → eqb y x ≡ false
-differs x y h = grind (arith, nat_tests)
-
 pub without_other : (x y : ℕ) (r : List ℕ) → y ≢ x → without x (y ∷ r) ≡ y ∷ without x r
-without_other x y r h = ap (λ b. cond (not b) (y ∷ without x r) (without x r)) (differs x y h)
+without_other x y r h = ap (λ b. cond (not b) (y ∷ without x r) (without x r)) (eqb_false y x h)
 
 pub without_none : (x : ℕ) (xs : List ℕ) → Apart x xs → without x xs ≡ xs
 without_none x [] h = refl
@@ -131,7 +128,7 @@ ring_shrinks s tag x h xs g c r = record {
 -- a vertex is bare where its list is empty
 pub bare_is : (s : Links) (v : ℕ) (ys : List ℕ) → Apart v ys → IsLinkedRing s v ys → is_bare s v ≡ is_empty ys
 bare_is s v [] a r = eq-eqb (get_or s.next v 0) v r.0
-bare_is s v (y ∷ ys) a r = differs v (get_or s.next v 0) (λ e. a.0 (sym r.0 ∙ e))
+bare_is s v (y ∷ ys) a r = eqb_false (get_or s.next v 0) v (λ e. a.0 (sym r.0 ∙ e))
 
 apart_filter : (test : ℕ → Bool) (y : ℕ) (xs : List ℕ) → Apart y xs → Apart y (filter test xs)
 apart_filter test y [] h = tt

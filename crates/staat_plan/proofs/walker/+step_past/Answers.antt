@@ -2,7 +2,8 @@ use Rattle.std.proofs.Common.{◌<◌, ◌-◌, ◌+◌, ◌∙◌, ap, arith, l
 use Rattle.staat_ring.specs.Rings.{Arrangement, linked_of}
 use Rattle.staat_ring.specs.Without.{IsRelinked}
 use Rattle.staat_ring.proofs.Made.{relinked_back}
-use Rattle.staat_plan.proofs.RingSetLemmas.{all_past, past_next, told_false, told_true, unlinked_before, unlinked_past, used_before}
+use Rattle.staat_plan.proofs.RingSetLemmas.{all_past, past_next, told_true, unlinked_before, unlinked_past, used_before}
+use Rattle.staat_planes.proofs.NotFound.{no_more}
 use Rattle.staat_plan.proofs.walker.+step_past.Goals as goal
 
 pub part_step_rings-requires-clause-linked : goal.part_step_rings-requires-clause-linked
@@ -67,7 +68,7 @@ step_past-step-requires g t c κs within =
                     omega (arith, lt),
                     (
                       unlinked_past c.args.k c.args.rings.now c.unlink.new.self c.unlink.ensures.is c.args.table.now.planes c.requires.past,
-                      λ parts made. unlinked_before c.args.k c.args.rings.now c.unlink.new.self c.unlink.ensures.is parts c.args.table.now.planes c.args.w (c.requires.before parts made) (λ n at. told_false (c.if-used.ensures.plane parts n made at)),
+                      λ parts made. unlinked_before c.args.k c.args.rings.now c.unlink.new.self c.unlink.ensures.is parts c.args.table.now.planes c.args.w (c.requires.before parts made) (λ n at. no_more _ (c.if-used.ensures.plane parts n made at)),
                     ),
                   ),
                 ),

@@ -1,4 +1,4 @@
-use Rattle.std.proofs.Common.{◌≡◌, ℕ, ◌+◌, ◌*◌, arith, ap, ◌∙◌, refl, length, ◌<◌, subst, length-set, sym}
+use Rattle.std.proofs.Common.{◌+◌, ◌*◌, arith, ap, ◌∙◌, refl, length, ◌<◌, subst, length-set, sym}
 use Rattle.staat_pairs.specs.Tables.{facets_of}
 use Rattle.staat_ring.proofs.IndexLemmas.{no_positives, pair_told, partly_more, partly_room, same_but, told_start}
 use Rattle.std.proofs.lemmas.Result.{err_from_is_err_and}
@@ -12,9 +12,6 @@ loop-m-init c = record {
   all = c.facet_count-count.ensures.is;
   partly = told_start c.args.table.now.planes (facets_of c.args.table.now c.args.arc) c.args.signs.now c.want.new.self c.args.q c.facet_count-count.result (32 * c.args.arc.a + c.args.arc.b) c.want.ensures c.requires.zero c.requires.fresh;
 }
-
-sides_now : (a b n : ℕ) → a ≡ b → b ≡ n → a ≡ n
-sides_now a b n e f = e ∙ f
 
 pub push_facet-requires-clause-room : goal.push_facet-requires-clause-room
 push_facet-requires-clause-room c =

@@ -1,5 +1,5 @@
 use Rattle.std.proofs.Common.{[], ℕ, ℤ, ◌<◌, Bool, false, get_or, length, map, pos, subst, sym, take, ◌+◌}
-use Rattle.std.proofs.lemmas.List.{get_or_default, map_more}
+use Rattle.std.proofs.lemmas.List.{get_or_default, map_more, take_all}
 use Rattle.std.proofs.lemmas.List.Elements.{All-contains, All-take}
 use Rattle.staat_vec.proofs.ListLaws.{Contains-from_map}
 use Rattle.staat_ring.specs.declared.entry.Entry.{Entry}
@@ -27,3 +27,11 @@ insert-requires-clause-es c = λ k d lt.
     let (x, cx, ex) = Contains-from_map key_entry keys (get_or c.loop-key.entries.items k d) (c.loop-key.invariant.only (get_or c.loop-key.entries.items k d) (k, lt, get_or_default c.loop-key.entries.items k (get_or c.loop-key.entries.items k d) d lt)) in
     subst (λ (e : Entry). e.plane < length c.args.table.now.planes) ex
     (All-contains (λ (k : ℤ × ℕ × Bool). k.1 < length c.args.table.now.planes) keys x (All-take (λ (k : ℤ × ℕ × Bool). k.1 < length c.args.table.now.planes) c.loop-key.key-index c.args.keys.now c.requires.keys) cx)
+
+pub insert-requires-clause-e : goal.insert-requires-clause-e
+insert-requires-clause-e c = c.requires.keys c.loop-key.key-index no_key c.loop-key-test.true
+
+pub returns : goal.returns
+returns c =
+    subst (λ l. IsOrderOf c.args.table.now.planes c.args.g (map key_entry l) c.loop-key.entries.items)
+    (take_all c.loop-key.key-index c.args.keys.now c.loop-key-test.false) c.loop-key.invariant

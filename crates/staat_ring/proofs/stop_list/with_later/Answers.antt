@@ -1,17 +1,42 @@
-use Rattle.std.proofs.Common.{◌≡◌, ◌∙◌, ◌+◌, ◌<◌, ap, arith, get_or, length, map, subst, take}
-use Rattle.std.proofs.lemmas.List.{get_or_append_left, get_or_read, length-append}
+use Rattle.std.proofs.Common.{◌∙◌, ◌+◌, ◌<◌, arith, length, sym, ℕ}
+use Rattle.std.proofs.lemmas.List.{append-nil, get_or_read}
 use Rattle.staat_ring.proofs.Divided.{end_within}
+use Rattle.staat_ring.proofs.Images.{image_all, image_at, image_more, image_room}
 use Rattle.staat_ring.proofs.stop_list.with_later.Goals as goal
+
+pub loop-k-init : goal.loop-k-init
+loop-k-init c = record { all = c.len-k-end.ensures ∙ c.args.half.ok.0; so_far = sym (append-nil c.args.half.items) }
+
+pub index-requires : goal.index-requires
+index-requires c =
+    let half = c.args.half.items in
+    let lt : c.loop-k.k < length half = omega (arith, c.loop-k-test.true, c.loop-k.invariant.all) in
+    let room = image_room (λ (end : ℕ). c.args.count + end) half c.loop-k.ends.items c.loop-k.k c.loop-k.invariant.so_far lt in
+    omega (arith, room, c.loop-k.ends.ok.0)
 
 pub overflow_add-end : goal.overflow_add-end
 overflow_add-end c =
     let half = c.args.half.items in
     let k = c.loop-k.k in
-    let inv = c.loop-k.invariant in
-    let lt : k < length half = subst (λ n. k < n) inv.all c.loop-k-test.true in
-    let more = map (λ end. c.args.count + end) (take k half) in
-    let long : k < length c.loop-k.ends.items = omega (arith, ap length inv.so_far, length-append half more, lt) in
-    let at : c.index.result.now ≡ get_or half k 0 = get_or_read c.loop-k.ends.items k c.index.result.now long c.index.ensures 0
-    ∙ ap (λ l. get_or l k 0) inv.so_far ∙ get_or_append_left half more 0 k lt in
-    let most = end_within 0 c.args.count k half c.requires.stops lt in
-    omega (arith, at, most, c.requires.small)
+    let lt : k < length half = omega (arith, c.loop-k-test.true, c.loop-k.invariant.all) in
+    let later = λ (end : ℕ). c.args.count + end in
+    let at = get_or_read half k c.index.result.now lt (image_at later half c.loop-k.ends.items k c.loop-k.invariant.so_far c.index.result.now lt c.index.ensures) 0 in
+    omega (arith, at, end_within 0 c.args.count k half c.requires.stops lt, c.requires.small)
+
+pub loop-k-preserved : goal.loop-k-preserved
+loop-k-preserved c =
+    let half = c.args.half.items in
+    let k = c.loop-k.k in
+    let so_far = c.loop-k.invariant.so_far in
+    let lt : k < length half = omega (arith, c.loop-k-test.true, c.loop-k.invariant.all) in
+    let later = λ (end : ℕ). c.args.count + end in
+    let at = image_at later half c.loop-k.ends.items k so_far c.index.result.now lt c.index.ensures in
+    record {
+      all = c.loop-k.invariant.all;
+      so_far = image_more later half c.loop-k.ends.items k so_far c.index.result.now c.push.new.self.items lt at c.in_ok-push.ensures.items;
+    }
+
+pub returns : goal.returns
+returns c =
+    image_all (λ (end : ℕ). c.args.count + end) c.args.half.items c.loop-k.ends.items c.loop-k.k c.loop-k.invariant.so_far
+    (omega (arith, c.loop-k-test.false, c.loop-k.invariant.all))

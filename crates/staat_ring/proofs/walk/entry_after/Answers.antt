@@ -1,7 +1,7 @@
-use Rattle.std.proofs.Common.{ℕ, ◌<◌, ◌≤◌, arith, sym, subst, List, length, take, All}
+use Rattle.std.proofs.Common.{◌<◌, ◌≤◌, arith, sym, subst, take}
 use Rattle.std.proofs.lemmas.Option.{slice_get_within, get_or_from_slice_get}
 use Rattle.std.proofs.lemmas.List.Elements.{All-contains, All-more, All-nil}
-use Rattle.std.proofs.lemmas.List.{take_all}
+use Rattle.staat_vec.proofs.ListLaws.{All-taken}
 use Rattle.staat_ring.specs.declared.entry.Entry.{Entry}
 use Rattle.staat_ring.proofs.StopSigns.{first_after}
 use Rattle.staat_ring.proofs.walk.entry_after.Goals as goal
@@ -22,19 +22,16 @@ next_entry-at-requires c =
     let h = c.requires.at in
     (c.args.circle, c.args.node, record { stop = h; entry = c.loop-passed._passed; here = c.loop-passed.invariant.left h.place h.stop h.at h.is })
 
-whole : (P : Entry → Type 0) (es : List Entry) (i : ℕ) → length es ≤ i → All P (take i es) → All P es
-whole P es i le h = subst (All P) (take_all i es le) h
-
 pub returns-in-None : goal.returns-in-None
 returns-in-None c m s at is =
     let e = c.in-None.ensures m s at is c.loop-passed._passed (c.loop-passed.invariant.left m s at is) in
-    whole (λ e. e.plane ≤ c.args.i) s.entries c.loop-passed._passed (omega (arith, e)) (c.loop-passed.invariant.passed m s at is)
+    All-taken (λ e. e.plane ≤ c.args.i) s.entries c.loop-passed._passed (omega (arith, e)) (c.loop-passed.invariant.passed m s at is)
 
 pub returns : goal.returns
 returns c m s at is =
     let f = c.requires.few m s at is in
     let t = c.loop-passed-test.false in
-    whole (λ e. e.plane ≤ c.args.i) s.entries c.loop-passed._passed (omega (arith, f, t)) (c.loop-passed.invariant.passed m s at is)
+    All-taken (λ e. e.plane ≤ c.args.i) s.entries c.loop-passed._passed (omega (arith, f, t)) (c.loop-passed.invariant.passed m s at is)
 
 pub returns-then-i-entry : goal.returns-then-i-entry
 returns-then-i-entry c m s at is =
