@@ -126,9 +126,12 @@ places_none normal normals vectors places e = record { count = ap length e; each
 places_listed : (normal : V3 → V3) (old new vectors : List V3) (facet : V3) (p : ℕ) (places : List ℕ) → IsListed old facet new p → ArePlacesBy normal old vectors places → ArePlacesBy normal new vectors places
 places_listed normal old new vectors facet p places is before = record {
   count = before.count;
-  each = λ m v at. (let (k, here, there) = before.each m v at in (k, here,
-      ⊎_elim {C = slice_get new k ≡ Some (normal v)} (λ same. subst (λ l. slice_get l k ≡ Some (normal v)) (sym same) there)
-      (λ pushed. subst (λ l. slice_get l k ≡ Some (normal v)) (sym pushed) (get_front old (canon facet ∷ []) k (normal v) there)) is.more));
+  each = λ m v at. (let (k, here, there) = before.each m v at in (
+    k,
+    here,
+    ⊎_elim {C = slice_get new k ≡ Some (normal v)} (λ same. subst (λ l. slice_get l k ≡ Some (normal v)) (sym same) there)
+        (λ pushed. subst (λ l. slice_get l k ≡ Some (normal v)) (sym pushed) (get_front old (canon facet ∷ []) k (normal v) there)) is.more,
+  ));
 }
 
 push_place : (normal : V3 → V3) (normals vectors : List V3) (places : List ℕ) (v : V3) (p : ℕ) → ArePlacesBy normal normals vectors places → slice_get normals p ≡ Some (normal v) → ArePlacesBy normal normals (vectors ++ v ∷ []) (places ++ p ∷ [])

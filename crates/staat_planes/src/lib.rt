@@ -7,7 +7,6 @@ mod graph;
 mod leads;
 mod marked_planes;
 mod pairs;
-
 mod refusal;
 mod search;
 mod set_planes;

@@ -91,7 +91,13 @@ fn add_pair(
     let count = table.facet_count(arc);
     signs.want(q, count as u16, (32 * arc.a + arc.b) as u16);
     for m in 0..count {
-        push_facet(signs, table, table.facet(arc, m), table.facet_plane(arc, m), q)?;
+        push_facet(
+            signs,
+            table,
+            table.facet(arc, m),
+            table.facet_plane(arc, m),
+            q,
+        )?;
     }
     Ok(())
 }
