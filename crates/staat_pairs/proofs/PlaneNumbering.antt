@@ -1,5 +1,5 @@
 -- The planes of facets and their numbers, as they are collected.
-use Rattle.std.proofs.Common.{◌≡◌, ◌⊎◌, inl, inr, ⊎_elim, ◌↔◌, ℕ, ◌+◌, ◌<◌, ◌≤◌, ap, arith, sym, subst, ◌∙◌, refl, List, [], ◌∷◌, ◌++◌, length, get_or, take, All, Contains, drop, map}
+use Rattle.std.proofs.Common.{◌≡◌, ◌⊎◌, inl, inr, ⊎_elim, ◌↔◌, ℕ, ◌+◌, ◌<◌, ◌≤◌, ap, sym, subst, ◌∙◌, List, [], ◌∷◌, ◌++◌, length, get_or, take, All, Contains, drop, map}
 use Rattle.std.specs.Prelude.{Some, slice_get, slice_index}
 use Rattle.std.specs.List.Sorted.{IsStrictlySortedBy}
 use Rattle.std.proofs.lemmas.List.{length_push, take_all, take_more}
@@ -17,7 +17,7 @@ use Rattle.staat_model.proofs.GraphLemmas.{member_or_not}
 use Rattle.staat_model.proofs.Members.{All-from_members}
 use Rattle.staat_pairs.specs.PlaneNumbers.{AddsOther, AreInOrder, AreNumbers, AreOrdered, ArePlacesBy, IsAxisOrCanon, IsListed}
 use Rattle.staat_pairs.specs.Searches.{IsCanonOf}
-use Rattle.staat_pairs.specs.Tabulating.{AreCollected, AreOthers}
+use Rattle.staat_pairs.specs.Tabulating.{AreCollected}
 
 -- ---- the normals that are listed
 

@@ -1,5 +1,5 @@
 -- The marks of planes.
-use Rattle.std.proofs.Common.{◌≡◌, ◌↔◌, ◌⊎◌, inl, inr, ⊎_elim, ℕ, zero, suc, ◌+◌, ◌<◌, ◌≤◌, arith, ap, sym, subst, ◌∙◌, refl, Bool, true, false, List, ◌++◌, length, get_or, set, drop, replicate, true≢false, Contains}
+use Rattle.std.proofs.Common.{◌≡◌, ◌↔◌, ◌⊎◌, inl, inr, ⊎_elim, ℕ, zero, suc, ◌+◌, ◌<◌, ◌≤◌, arith, ap, sym, subst, ◌∙◌, refl, Bool, true, false, List, length, get_or, set, replicate, true≢false}
 use Rattle.std.specs.Prelude.{Some, slice_get}
 use Rattle.std.proofs.lemmas.Bool.{cases_lt}
 use Rattle.std.proofs.lemmas.Grind.{get_or-set_at}
@@ -18,7 +18,7 @@ use Rattle.staat_pairs.specs.Tables.{AreTablePlanes, Table}
 use Rattle.staat_planes.specs.MarkedPlanes.{AddsMarks, AreUsedMarks, IsPlaneMarked}
 use Rattle.staat_planes.specs.Tables.{IsPlaneOf}
 use Rattle.staat_planes.proofs.PairSteps.{whole_used}
-use Rattle.staat_planes.proofs.UsedLaw.{axis_used, other_at, other_used}
+use Rattle.staat_planes.proofs.UsedLaw.{axis_used, other_used}
 use Rattle.staat_vec.proofs.Naturals.{lt_one_more_cases, same_or}
 
 -- ---- over a loop

@@ -17,8 +17,8 @@ fn turned_place(count: u32, m: u32) -> u32
 }
 
 impl PlaneTable {
-    /// The number of the plane of the facet `m` of an ordered pair of pieces of different parts of the set. `m` is below
-    /// [`facet_count`](PlaneTable::facet_count).
+    /// The number of the plane of the facet `m` of an ordered pair of pieces of different parts of the set. `m` is
+    /// below [`facet_count`](PlaneTable::facet_count).
     pub fn facet_plane(&self, arc: Arc, m: u32) -> u32
         requires across { IsTableArc self.now arc }
         requires place { m < length (facets_of self.now arc) }

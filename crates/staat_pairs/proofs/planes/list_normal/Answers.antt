@@ -1,4 +1,4 @@
-use Rattle.std.proofs.Common.{inl, inr, refl, subst, sym, ◌∙◌, ◌++◌, ◌∷◌, [], ap}
+use Rattle.std.proofs.Common.{inr, ◌∙◌, ◌++◌, ◌∷◌, [], ap}
 use Rattle.std.specs.Prelude.{Some, slice_get}
 use Rattle.staat_vec.proofs.ListLaws.{push_end}
 use Rattle.staat_vec.proofs.Primitives.{IsPrimitive-some}

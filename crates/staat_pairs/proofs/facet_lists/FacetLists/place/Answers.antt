@@ -1,8 +1,6 @@
-use Rattle.std.proofs.Common.{◌≡◌, ◌+◌, ◌<◌, ◌≤◌, ◌∙◌, arith, ap, subst, sym, [], ◌∷◌, length, get_or}
-use Rattle.std.specs.Prelude.{Some, flat_map, slice_get}
-use Rattle.staat_vec.specs.declared.vector.V3.{V3}
+use Rattle.std.proofs.Common.{◌+◌, ◌∙◌, arith, ap, ◌∷◌, length, get_or}
+use Rattle.std.specs.Prelude.{flat_map, slice_get}
 use Rattle.staat_vec.specs.Vectors.{origin}
-use Rattle.std.proofs.lemmas.Option.{slice_get-get_or, slice_get_within}
 use Rattle.staat_pairs.proofs.CutLemmas.{cut_within, place_at, place_in}
 use Rattle.staat_pairs.proofs.facet_lists.FacetLists.place.Goals as goal
 

@@ -3,7 +3,6 @@ use Rattle.std.specs.Prelude.{Some, slice_get}
 use Rattle.std.proofs.lemmas.List.Elements.{All-contains}
 use Rattle.std.proofs.lemmas.Option.{slice_get-get_or}
 use Rattle.staat_vec.specs.declared.vector.V3.{V3}
-use Rattle.staat_vec.specs.Primitives.{canon}
 use Rattle.staat_vec.specs.Vectors.{negative, origin}
 use Rattle.staat_vec.proofs.Canons.{canon-negative, negative-negative}
 use Rattle.staat_vec.proofs.Options.{some_injective}
