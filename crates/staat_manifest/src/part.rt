@@ -57,7 +57,6 @@ pub(crate) struct Form<'v> {
 }
 
 /// The form of part `k`, unless the part breaks a rule by itself.
-#[tactic(auto, unfolding(crate::specs::Rules::form_rules))]
 pub(crate) fn form_of<'v>(
     alloc: Global,
     k: u32,

@@ -1,4 +1,4 @@
-use Rattle.std.proofs.Common.{◌<◌, All, length, subst, sym}
+use Rattle.std.proofs.Common.{◌<◌, All, arith, length, subst, sym}
 use Rattle.std.specs.Prelude.{Err, Ok, OnOk, Result}
 use Rattle.std.specs.List.Sorted.{IsStrictlySortedBy}
 use Rattle.std.specs.Ordering.{nat_cmp}
@@ -25,3 +25,10 @@ returns-clause-asked g c =
     on_ok c.takes_all_apart.result
     (subst (All (AreAskedRows c.args.scene.now.parts.now)) (sym c.in_ok-push.ensures.items)
     (All-push (AreAskedRows c.args.scene.now.parts.now) c.args.asked.now.items c.in_ok-asked_along.field-0 c.requires.asked c.in_ok-asked_along.ensures.asked))
+
+pub takes_all_apart-requires-clause-asked : goal.takes_all_apart-requires-clause-asked
+takes_all_apart-requires-clause-asked g c =
+    let P = AreAskedRows c.args.scene.now.parts.now in
+    let one = c.in_ok-asked_along.field-0 in
+    let all = subst (All P) (sym c.in_ok-push.ensures.items) (All-push P c.args.asked.now.items one c.requires.asked c.in_ok-asked_along.ensures.asked) in
+    subst P (sym c.index.ensures) (all c.len-k.result c.index.result.now (omega (arith, c.in_ok-push.ensures.len)))

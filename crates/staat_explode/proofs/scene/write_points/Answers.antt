@@ -1,10 +1,11 @@
 use Rattle.std.proofs.Common.{◌≡◌, ◌∙◌, List, ℕ, take, flat_map, get_or, ap, subst, sym, arith}
+use Rattle.std.proofs.lemmas.List.{take_all}
 use Rattle.staat_vec.specs.declared.vector.V3.{V3}
 use Rattle.staat_vec.specs.declared.vector.TheConstants.{POINT}
 use Rattle.staat_vec.specs.Vectors.{IsWithin, plus}
 use Rattle.staat_explode.specs.Scenes.{point_line}
 use Rattle.staat_explode.specs.Sheets.{AddsText}
-use Rattle.staat_explode.proofs.Lines.{adds_then, line_more}
+use Rattle.staat_explode.proofs.Lines.{adds_none, adds_then, line_more}
 use Rattle.staat_explode.proofs.scene.write_points.Goals as goal
 
 pub loop-vertex-preserved : goal.loop-vertex-preserved
@@ -34,3 +35,10 @@ placed-requires-clause-at c = c.requires.at
 
 pub placed-requires-clause-shift : goal.placed-requires-clause-shift
 placed-requires-clause-shift c = c.requires.shift
+
+pub loop-vertex-init : goal.loop-vertex-init
+loop-vertex-init c = record { text = adds_none c.args.sheet.now; room = omega arith }
+
+pub returns-clause-text : goal.returns-clause-text
+returns-clause-text c =
+    subst (λ (ps : List V3). AddsText c.args.sheet.now c.loop-vertex.sheet (flat_map (λ p. point_line (plus (plus p c.args.at) c.args.shift)) ps)) (take_all c.loop-vertex.vertex-index c.args.vertices.now (omega (arith, c.loop-vertex-test.false))) c.loop-vertex.invariant.text

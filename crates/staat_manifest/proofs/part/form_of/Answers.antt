@@ -20,6 +20,10 @@ is_named part name r {b = b} same tested is = sym (ap is_name same) ∙ sym test
 at_member : (k : ℕ) (name : Text) → Some (BadShape (part_path k ++ (codes "/" ++ name))) ≡ Some (BadShape (part_path k ++ codes "/" ++ name))
 at_member k name = ap (λ p. Some (BadShape p)) (sym (append_assoc (part_path k) (codes "/") name))
 
+no_object : (k : ℕ) (part : Data) → is_some (as_object part) ≡ false → first_refusal (form_rules k part) ≡ Some (BadShape (part_path k))
+unfolding form_rules
+no_object k part wrong = rw wrong
+
 -- the rules before the first that is broken
 module _ (k : ℕ) (part : Data) (object : is_some (as_object part) ≡ true) where
   bad_name : is_name (name_of part) ≡ false → first_refusal (form_rules k part) ≡ Some (BadShape (part_path k ++ codes "/" ++ codes "name"))
@@ -51,6 +55,11 @@ module _ (k : ℕ) (part : Data) (object : is_some (as_object part) ≡ true) wh
           by_pieces : nat_lt 0 (length ps) ≡ true → first_refusal (form_rules k part) ≡ first_refusal (piece_rules k 0 ps)
           unfolding form_rules
           by_pieces some = rw (object, named, ← array, ← placed, only, some)
+
+pub returns-then-not-is_object-clause-rules : goal.returns-then-not-is_object-clause-rules
+returns-then-not-is_object-clause-rules c =
+    subst (λ o. RefusesPart o c.bad_part.result)
+    (sym (no_object c.args.k (view c.args.part.now) (sym c.is_object.ensures ∙ c.if-not-is_object.true))) c.bad_part.ensures
 
 pub returns-then-not-is_name-clause-rules : goal.returns-then-not-is_name-clause-rules
 returns-then-not-is_name-clause-rules c =

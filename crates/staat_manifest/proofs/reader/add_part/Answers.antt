@@ -1,6 +1,8 @@
-use Rattle.std.proofs.Common.{◌≡◌, ◌++◌, ◌∷◌, [], None, Some, ap, arith, length, map, subst, sym, ◌∙◌}
+use Rattle.std.proofs.Common.{◌≡◌, ◌+◌, ◌++◌, ℕ, Bool, true, false, not, List, if◌then◌else◌, ◌∷◌, [], None, Some, ap, arith, length, map, subst, sym, ◌∙◌}
 use Rattle.std.specs.Str.{bytes_eq}
-use Rattle.std.proofs.lemmas.List.{length-map}
+use Rattle.std.proofs.lemmas.List.{length-map, map_push}
+use Rattle.std.proofs.lemmas.List.Sums.{sum_by_push}
+use Rattle.std.specs.List.{sum_by}
 use Rattle.serde_json.specs.Data.{Data}
 use Rattle.serde_json.specs.View.{view}
 use Rattle.staat_manifest.specs.declared.listing.ListedPart.{ListedPart}
@@ -70,3 +72,31 @@ returns-clause-added c =
     c.in_ok-push.ensures.items ∙ ap (λ part. c.args.list.now.items ++ part ∷ [])
     (is_listed c.in_ok-listed.field-0 (view c.args.part.now) (c.in_ok-listed.ensures.name ∙ c.in_ok-form.ensures.name)
     (c.in_ok-listed.ensures.pieces ∙ ap (map text_in) c.in_ok-form.ensures.pieces) (c.in_ok-listed.ensures.at ∙ c.in_ok-form.ensures.at))
+
+-- a name that was put in is behind those that were in
+put_behind : {X : Type 0} (seen put : Bool) (keys more now : List X) → put ≡ not seen → put ≡ true
+    → now ≡ (if seen then keys else more) → now ≡ more
+put_behind true put keys more now is new at = absurd (cc)
+put_behind false put keys more now is new at = at
+
+counted_more : (count n : ℕ) (list now : List ListedPart) (part : ListedPart) → count ≡ sum_by (λ p. length p.pieces) list
+    → now ≡ list ++ part ∷ [] → length part.pieces ≡ n → count + n ≡ sum_by (λ p. length p.pieces) now
+counted_more count n list now part counted is size =
+    omega (arith, counted, size, ap (sum_by (λ p. length p.pieces)) is, sum_by_push (λ p. length p.pieces) list part)
+
+pub returns-clause-tallied : goal.returns-clause-tallied
+returns-clause-tallied c =
+    let list = c.args.list.now.items in
+    let part = c.in_ok-listed.field-0 in
+    let items = c.in_ok-push.ensures.items in
+    let new : c.in_ok-insert.field-0 ≡ true = cc in
+    let keys = put_behind _ c.in_ok-insert.field-0 c.args.names.now.keys _ c.insert.new.self.keys c.in_ok-insert.ensures.added new c.in_ok-insert.ensures.keys in
+    let size : length part.pieces ≡ length c.in_ok-form.form.pieces.now = ap length c.in_ok-listed.ensures.pieces ∙ simp length-map in
+    record {
+      named = ap (map (λ s. s.now)) keys ∙ map_push (λ s. s.now) c.args.names.now.keys c.in_ok-form.form.name
+          ∙ ap (λ names. names ++ c.in_ok-form.form.name.now ∷ []) c.requires.tallied.named
+          ∙ ap (λ name. map (λ p. p.name) list ++ name ∷ []) (sym c.in_ok-listed.ensures.name)
+          ∙ sym (map_push (λ (p : ListedPart). p.name) list part) ∙ ap (map (λ p. p.name)) (sym items);
+      counted = counted_more c.args.piece_count (length c.in_ok-form.form.pieces.now) list c.push.new.self.items part c.requires.tallied.counted items size;
+      within = c.if-piece_count-most_pieces.false;
+    }
