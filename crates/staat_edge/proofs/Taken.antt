@@ -1,12 +1,17 @@
 -- What the bytes that were taken of an open file tell of the files that fit, and of the name at which a call failed.
-use Rattle.std.proofs.Common.{◌≡◌, ◌∙◌, ◌<◌, ℕ, true, false, List, ◌++◌, Option, Some, None, Result, Ok, Err}
+use Rattle.std.proofs.Common.{◌≡◌, ◌∙◌, ◌<◌, ◌≤◌, ℕ, true, false, List, ◌++◌, Option, Some, None, Result, Ok, Err}
 use Rattle.std.proofs.Common.{append-nil, ap, arith, length, refl, subst, sym}
 use Rattle.std.specs.Prelude.{IsSome, IsSomeAnd, OnErr, is_err, option_map}
 use Rattle.std.specs.Io.KnownBytes.{Consumes, IsAtEnd}
 use Rattle.std.proofs.lemmas.List.{length-append}
 use Rattle.std.proofs.lemmas.Option.{none-some}
 use Rattle.staat_vec.proofs.Truth.{false_true_clash}
+use Rattle.staat_edge.specs.Causes.{Rose}
 use Rattle.staat_edge.specs.Files.{bytes_of, content_of, held_name, told_name, Lacks}
+
+-- a count that rose since a later time
+pub rose_since : (first before now : ℕ) → first ≤ before → Rose before now → Rose first now
+rose_since first before now le rose = omega (arith, le, rose)
 
 pub where_refused : {X E P : Type 0} (r : Result X E) → is_err r ≡ true → OnErr r P → P
 where_refused (Ok x) wrong holds = absurd (false_true_clash false refl wrong)

@@ -5,9 +5,9 @@ use Rattle.std.proofs.Common.{lit≤}
 use Rattle.std.proofs.lemmas.List.{drop_more, drop_all, map_more, map-append, length-map}
 use Rattle.std.proofs.lemmas.List.Elements.{All-nil, All-cons, All-head, All-tail, All-append}
 use Rattle.std.proofs.lemmas.List.Sums.{sum_by-cons}
-use Rattle.staat_edge.specs.Causes.{Rose}
 use Rattle.staat_edge.specs.Files.{Lacks, held_name, told_name}
 use Rattle.staat_edge.specs.Told.{ShelfTold}
+use Rattle.staat_edge.proofs.Taken.{rose_since}
 use Rattle.staat_vec.specs.declared.vector.TheConstants.{POINT}
 use Rattle.staat_vec.specs.Vectors.{IsWithin, origin}
 use Rattle.staat_model.specs.declared.assembly.Part.{Part}
@@ -83,10 +83,7 @@ then_failed First Second f (Err e) h fails = subst (λ g. Follows (Then First Se
 pub cause_from : (before mid after : ShelfTold) (f : Fault) → before.faults ≤ mid.faults → mid.holds ≡ before.holds → HasCause (over mid after) f → HasCause (over before after) f
 cause_from before mid after fault.Usage le same h = h
 cause_from before mid after (fault.ReadFault name) le same (inl lacks) = inl (subst (λ holds. Lacks holds name) same lacks)
-cause_from before mid after (fault.ReadFault name) le same (inr (rose, at)) = inr (risen before.faults mid.faults after.faults le rose, λ e. at (ap (λ holds. held_name holds name) same ∙ e))
-  where
-    risen : (before mid after : ℕ) → before ≤ mid → Rose mid after → Rose before after
-    risen before mid after le rose = omega (arith, le, rose)
+cause_from before mid after (fault.ReadFault name) le same (inr (rose, at)) = inr (rose_since before.faults mid.faults after.faults le rose, λ e. at (ap (λ holds. held_name holds name) same ∙ e))
 cause_from before mid after (fault.TooLong name) le same h = record { place = h.place; opened = h.opened ∙ ap (λ holds. told_name holds name) same }
 cause_from before mid after fault.WriteFault le same h = h
 cause_from before mid after f le same h = h

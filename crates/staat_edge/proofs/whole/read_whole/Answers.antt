@@ -5,7 +5,6 @@ use Rattle.std.specs.Prelude.{option_map, IfOk, IfSome, IsErrAnd, IsSomeAnd}
 use Rattle.std.specs.Io.KnownBytes.{Consumes}
 use Rattle.std.proofs.KnownBytes.{Consumes-trans}
 use Rattle.std.proofs.lemmas.List.{length-append, length-take, take-append-le}
-use Rattle.staat_edge.specs.Causes.{Rose}
 use Rattle.staat_edge.specs.Files.{failed_at, held_name, told_name}
 use Rattle.staat_edge.specs.Fitting.{IsWhole}
 use Rattle.staat_edge.specs.Opening.{OpensAll}
@@ -14,12 +13,8 @@ use Rattle.staat_edge.specs.declared.whole.ReadRefusal.{ReadRefusal}
 use Rattle.staat_edge.specs.declared.whole.ReadRefusal.TheVariants.{OutOfMemory, ReadFault, TooLong}
 use Rattle.staat_edge.proofs.Fitted.{as_it_is, ended_by, grown_by, longer_fits, still_one, whole_fits}
 use Rattle.staat_edge.proofs.OpeningLemmas.{all_some, narrowed, refused}
-use Rattle.staat_edge.proofs.Taken.{not_lacking, taken_longer, taken_whole, told_held, where_refused}
+use Rattle.staat_edge.proofs.Taken.{not_lacking, rose_since, taken_longer, taken_whole, told_held, where_refused}
 use Rattle.staat_edge.proofs.whole.read_whole.Goals as goal
-
--- a count that rose since a later time
-rose_since : (first before now : ℕ) → first ≤ before → Rose before now → Rose first now
-rose_since first before now le rose = omega arith
 
 none_open : (P : ℕ → Type 0) (place : Option ℕ) → place ≡ None → IfSome place P
 none_open P place is = subst (λ o. IfSome o P) (sym is) tt
