@@ -1,16 +1,19 @@
 -- The facets of the arcs of a witness, by their numbers.
-use Rattle.std.proofs.Common.{◌≡◌, ◌⊎◌, ◌↔◌, inl, inr, ⊎_elim, ℕ, ◌+◌, ◌<◌, ◌≤◌, arith, refl, sym, ap, subst, ◌∙◌, List, [], ◌∷◌, ◌++◌, append-nil, append_assoc, length, get_or, take, pos, ◌<ℤ◌, All, Contains}
+use Rattle.std.proofs.Common.{◌≡◌, ◌↔◌, ⊎_elim, ℕ, ◌+◌, ◌<◌, ◌≤◌, arith, refl, sym, ap, subst, ◌∙◌, List, [], ◌∷◌, ◌++◌, append-nil, append_assoc, length, get_or, take, pos, ◌<ℤ◌, true≢false, All, Contains}
 use Rattle.std.specs.Prelude.{Bool, Err, Ok, OnOk, Result, Some, false, flat_map, map, slice_get, true}
 use Rattle.staat_vec.specs.declared.memory.OutOfMemory.{OutOfMemory}
-use Rattle.std.proofs.lemmas.List.{flat_map_more, get_or-map, get_or_append_left, get_or_push, length-append, length-map, take_all, take_more}
+use Rattle.std.proofs.lemmas.List.{drop_at, flat_map_more, get_or-map, get_or_append_left, get_or_push, length-append, length-map, take_all, take_more}
 use Rattle.std.proofs.lemmas.Option.{get_or_from_slice_get}
-use Rattle.std.proofs.lemmas.List.Elements.{All-append, All-cons, All-contains, All-head, All-nil, All-tail, Contains-append_cases, Contains-append_left, Contains-append_right, Contains-push, Contains-push_cases}
+use Rattle.std.proofs.lemmas.List.Elements.{All-append, All-cons, All-contains, All-head, All-map, All-nil, All-tail, All-weaker, Contains-append_cases, Contains-append_left, Contains-append_right, Contains-push, Contains-push_cases}
 use Rattle.staat_vec.specs.declared.vector.V3.{V3}
 use Rattle.staat_vec.specs.declared.vector.TheConstants.{NORMAL}
-use Rattle.staat_vec.specs.Lists.{Lists}
-use Rattle.staat_vec.specs.Vectors.{IsWithin, dot, negative, origin, vector_cmp}
+use Rattle.staat_vec.specs.Primitives.{canon}
+use Rattle.staat_vec.specs.Vectors.{IsWithin, dot, negative, origin}
 use Rattle.staat_vec.proofs.Bounds.{IsWithin-negative}
 use Rattle.staat_vec.proofs.Canons.{canon-either, negative-negative}
+use Rattle.staat_vec.proofs.ListLaws.{Contains-map, get_drop, get_front, map_at_place}
+use Rattle.staat_vec.proofs.Naturals.{lt_one_more_cases}
+use Rattle.staat_vec.proofs.Options.{some_injective}
 use Rattle.staat_vec.proofs.Unique.{Contains-nothing}
 use Rattle.staat_model.specs.declared.assembly.Part.{Part}
 use Rattle.staat_model.specs.declared.certificate.Arc.{Arc}
@@ -20,148 +23,72 @@ use Rattle.staat_model.specs.Facets.{IsFacet}
 use Rattle.staat_model.proofs.Differences.{from_map}
 use Rattle.staat_model.proofs.Members.{All-from_members, all_back, all_front}
 use Rattle.staat_model.proofs.Places.{one_at_place, place_within}
-use Rattle.staat_pairs.specs.declared.table.TheConstants.{SLOTS}
-use Rattle.staat_pairs.specs.Tables.{IsTableArc, IsTable, IsTableFacet, Table, WasMadeFrom, back, facets_of, reversed_facets, slot}
-use Rattle.staat_pairs.proofs.TableLemmas.{facets_ahead, facets_reversed}
+use Rattle.staat_pairs.specs.Tables.{IsTableArc, Table, WasMadeFrom, back, facets_of, reversed_facets}
+use Rattle.staat_pairs.proofs.TableLemmas.{facets_reversed}
 use Rattle.staat_pairs.proofs.ReversedFacets.{from_reversed, in_reversed}
-use Rattle.staat_check.specs.declared.conditions.FacetNumbers.{FacetNumbers}
-use Rattle.staat_check.specs.Conditions.{AddsNumbers, AreConditions, AreFacetNumbers, AreLists, AreNumbers, AreSlotNumbers, HasNumber, HasOpposites, IsAcrossAll, IsEitherOf, IsNumbered, LeadsAheadOf, asked_facets, facets_at, turned_all, turned_if}
-use Rattle.staat_check.specs.Negatives.{AddsNegatives}
-use Rattle.staat_vec.proofs.Naturals.{lt_one_more_cases, lt_from_le}
-use Rattle.staat_vec.proofs.ListLaws.{Contains-map}
-use Rattle.staat_vec.proofs.Options.{some_injective}
+use Rattle.staat_check.specs.Conditions.{AddsNumbers, AreConditions, AreLists, AreNumbers, HasNumber, IsAcrossAll, IsNumbered, LeadsAheadOf, asked_facets, both_sides, turned_all, turned_if}
 
--- ---- negatives
+-- ---- both sides of planes
 
-pub negatives_more : (facets first old new : List V3) (k : ℕ) (d n : V3) → k < length facets → AddsNegatives (take k facets) first old → n ≡ negative (get_or facets k d) → new ≡ old ++ n ∷ [] → AddsNegatives (take (k + 1) facets) first new
-negatives_more facets first old new k d n lt adds e is = subst (λ l. AddsNegatives l first new) (sym (take_more facets k d lt)) (record {
-  from = λ x c. ⊎_elim {C = Contains first x ⊎ Contains (take k facets ++ get_or facets k d ∷ []) (negative x)}
-      (λ early. ⊎_elim {C = Contains first x ⊎ Contains (take k facets ++ get_or facets k d ∷ []) (negative x)} (λ h. inl h) (λ h. inr (Contains-append_left (take k facets) (get_or facets k d ∷ []) (negative x) h)) (adds.from x early))
-      (λ same. inr (subst (Contains (take k facets ++ get_or facets k d ∷ [])) (sym (ap negative (sym same ∙ e) ∙ negative-negative (get_or facets k d))) (Contains-push (take k facets) (get_or facets k d))))
-      (Contains-push_cases old n x (subst (λ l. Contains l x) is c));
-  kept = λ x c. subst (λ l. Contains l x) (sym is) (Contains-append_left old (n ∷ []) x (adds.kept x c));
-  all = λ x c. ⊎_elim
-      (λ early. subst (λ l. Contains l (negative x)) (sym is) (Contains-append_left old (n ∷ []) (negative x) (adds.all x early)))
-      (λ same. subst (λ l. Contains l (negative x)) (sym is) (subst (Contains (old ++ n ∷ [])) (e ∙ ap negative same) (Contains-push old n)))
-      (Contains-push_cases (take k facets) (get_or facets k d) x c);
-})
+pub side_ahead : (planes : List V3) (k : ℕ) (n : V3) → slice_get planes k ≡ Some n → slice_get (both_sides planes) k ≡ Some n
+side_ahead planes k n at = get_front planes (map negative planes) k n at
+
+pub side_behind : (planes : List V3) (k : ℕ) (n : V3) → slice_get planes k ≡ Some n → slice_get (both_sides planes) (length planes + k) ≡ Some (negative n)
+side_behind planes k n at =
+    sym (get_drop (both_sides planes) (length planes) k) ∙ ap (λ l. slice_get l k) (drop_at planes (map negative planes) (length planes) refl) ∙ map_at_place negative planes k n at
+
+pub sides_within : (planes normals : List V3) → All (IsWithin NORMAL) planes → normals ≡ both_sides planes → All (IsWithin NORMAL) normals
+sides_within planes normals within e = subst (All (IsWithin NORMAL)) (sym e)
+    (All-append (IsWithin NORMAL) planes (map negative planes) within (All-map (IsWithin NORMAL) negative planes (All-weaker (IsWithin NORMAL) (λ n. IsWithin NORMAL (negative n)) (IsWithin-negative NORMAL) planes within)))
+
+-- what is seen of a facet whose canonical vector is another
+pub turned_of : (facet seen : V3) (same : Bool) → seen ≡ canon facet → (seen ≡ facet → same ≡ true) → same ≡ false → canon facet ≡ negative facet
+turned_of facet seen same e told is = ⊎_elim {C = canon facet ≡ negative facet} (λ here. absurd (true≢false (sym (told (e ∙ here)) ∙ is))) (λ turned. turned) (canon-either facet)
 
 -- ---- numbers
 
-pub both_are : (planes none old all sorted : List V3) → none ≡ [] → old ≡ none ++ planes → AddsNegatives planes old all → Lists vector_cmp (Contains all) sorted → Lists vector_cmp (IsEitherOf planes) sorted
-both_are planes none old all sorted empty is adds lists =
-    let same : old ≡ planes = is ∙ ap (λ l. l ++ planes) empty in
-    record {
-      ascending = lists.ascending;
-      each = λ n c. ⊎_elim {C = IsEitherOf planes n} (λ h. inl (subst (λ l. Contains l n) same h)) (λ h. inr h) (adds.from n (lists.each n c));
-      all = λ n h. ⊎_elim {C = Contains sorted n}
-          (λ c. lists.all n (adds.kept n (subst (λ l. Contains l n) (sym same) c)))
-          (λ c. lists.all n (subst (Contains all) (negative-negative n) (adds.all (negative n) c)))
-          h;
-    }
-
-pub either_within : (planes normals : List V3) → All (IsWithin NORMAL) planes → Lists vector_cmp (IsEitherOf planes) normals → All (IsWithin NORMAL) normals
-either_within planes normals within lists = All-from_members (IsWithin NORMAL) normals (λ n c. ⊎_elim
-    (λ h. All-contains (IsWithin NORMAL) planes n within h)
-    (λ h. subst (IsWithin NORMAL) (negative-negative n) (IsWithin-negative NORMAL (negative n) (All-contains (IsWithin NORMAL) planes (negative n) within h)))
-    (lists.each n c))
-
-pub opposites_there : (planes normals : List V3) → Lists vector_cmp (IsEitherOf planes) normals → HasOpposites normals
-opposites_there planes normals lists = λ n c. lists.all (negative n) (⊎_elim {C = IsEitherOf planes (negative n)}
-    (λ h. inr (subst (Contains planes) (sym (negative-negative n)) h))
-    (λ h. inl h)
-    (lists.each n c))
-
-number_more : (normals facets : List V3) (old new : List ℕ) (k number : ℕ) (d : V3) → k < length facets → AreNumbers normals (take k facets) old → slice_get normals number ≡ Some (get_or facets k d) → new ≡ old ++ number ∷ [] → AreNumbers normals (take (k + 1) facets) new
-number_more normals facets old new k number d lt are at is =
-    let x : V3 = get_or facets k d in
-    subst (λ l. AreNumbers normals l new) (sym (take_more facets k d lt)) (record {
-      from = λ m c. ⊎_elim
-          (λ early. let h = are.from m early in record { facet = h.facet; at = h.at; listed = Contains-append_left (take k facets) (x ∷ []) h.facet h.listed })
-          (λ same. record { facet = x; at = subst (λ j. slice_get normals j ≡ Some x) same at; listed = Contains-push (take k facets) x })
-          (Contains-push_cases old number m (subst (λ l. Contains l m) is c));
-      all = λ n c. ⊎_elim
-          (λ early. let h = are.all n early in record { number = h.number; listed = subst (λ l. Contains l h.number) (sym is) (Contains-append_left old (number ∷ []) h.number h.listed); at = h.at })
-          (λ same. record { number = number; listed = subst (λ l. Contains l number) (sym is) (Contains-push old number); at = at ∙ ap Some same })
-          (Contains-push_cases (take k facets) x n c);
-    })
-
 no_numbers : (normals : List V3) (none : List ℕ) → none ≡ [] → AreNumbers normals [] none
 no_numbers normals none empty = subst (AreNumbers normals []) (sym empty) (record { from = λ k c. absurd (Contains-nothing k c); all = λ n c. absurd (Contains-nothing n c) })
-
--- with more facets, where all of these are among the normals
-numbers_more : (normals facets : List V3) (old new : List ℕ) (k number : ℕ) (d : V3) → k < length facets
-    → (All (Contains normals) (take k facets) → AreNumbers normals (take k facets) old)
-    → (Contains normals (get_or facets k d) → slice_get normals number ≡ Some (get_or facets k d))
-    → new ≡ old ++ number ∷ [] → All (Contains normals) (take (k + 1) facets) → AreNumbers normals (take (k + 1) facets) new
-numbers_more normals facets old new k number d lt before found is all =
-    let x : V3 = get_or facets k d in
-    let both : All (Contains normals) (take k facets ++ x ∷ []) = subst (All (Contains normals)) (take_more facets k d lt) all in
-    let here : Contains normals x = All-head (Contains normals) x [] (all_back (Contains normals) (take k facets) (x ∷ []) both) in
-    number_more normals facets old new k number d lt (before (all_front (Contains normals) (take k facets) (x ∷ []) both)) (found here) is
-
-opposites_more : (normals facets : List V3) (old new : List ℕ) (k number : ℕ) (d : V3) → k < length facets
-    → (All (Contains normals) (take k (map negative facets)) → AreNumbers normals (take k (map negative facets)) old)
-    → (Contains normals (negative (get_or facets k d)) → slice_get normals number ≡ Some (negative (get_or facets k d)))
-    → new ≡ old ++ number ∷ [] → All (Contains normals) (take (k + 1) (map negative facets)) → AreNumbers normals (take (k + 1) (map negative facets)) new
-opposites_more normals facets old new k number d lt before found is =
-    let same : get_or (map negative facets) k (negative d) ≡ negative (get_or facets k d) = get_or-map negative facets k d (negative d) lt in
-    numbers_more normals (map negative facets) old new k number (negative d) (omega (arith, lt, length-map facets negative)) before
-    (subst (λ x. Contains normals x → slice_get normals number ≡ Some x) (sym same) found) is
-
-pub turned_none : (normals facets : List V3) (none : List ℕ) → none ≡ [] → All (Contains normals) (take 0 facets) → AreNumbers normals (take 0 facets) none
-turned_none normals facets none empty all = no_numbers normals none empty
-
-pub turned_more : (turned : Bool) (normals facets : List V3) (old new : List ℕ) (k number : ℕ) (d : V3) → k < length facets
-    → (All (Contains normals) (take k (turned_all turned facets)) → AreNumbers normals (take k (turned_all turned facets)) old)
-    → (Contains normals (turned_if turned (get_or facets k d)) → slice_get normals number ≡ Some (turned_if turned (get_or facets k d)))
-    → new ≡ old ++ number ∷ [] → All (Contains normals) (take (k + 1) (turned_all turned facets)) → AreNumbers normals (take (k + 1) (turned_all turned facets)) new
-turned_more false normals facets old new k number d lt before found is = numbers_more normals facets old new k number d lt before found is
-turned_more true normals facets old new k number d lt before found is = opposites_more normals facets old new k number d lt before found is
 
 turned_size : (turned : Bool) (facets : List V3) → length (turned_all turned facets) ≡ length facets
 turned_size false facets = refl
 turned_size true facets = length-map facets negative
 
-pub turned_end : (turned : Bool) (normals facets : List V3) (numbers list : List ℕ) (k : ℕ) → length facets ≤ k → list ≡ numbers
-    → (All (Contains normals) (take k (turned_all turned facets)) → AreNumbers normals (take k (turned_all turned facets)) numbers)
-    → All (Contains normals) (turned_all turned facets) → AreNumbers normals (turned_all turned facets) list
-turned_end turned normals facets numbers list k le e are =
-    let all : length (turned_all turned facets) ≤ k = omega (arith, le, turned_size turned facets) in
-    subst (λ n. All (Contains normals) (turned_all turned facets) → AreNumbers normals (turned_all turned facets) n) (sym e)
-    (subst (λ l. All (Contains normals) l → AreNumbers normals l numbers) (take_all k (turned_all turned facets) all) are)
+turned_at : (turned : Bool) (facets : List V3) (k : ℕ) (d : V3) → k < length facets → get_or (turned_all turned facets) k (turned_if turned d) ≡ turned_if turned (get_or facets k d)
+turned_at false facets k d lt = refl
+turned_at true facets k d lt = get_or-map negative facets k d (negative d) lt
 
--- ---- numbers by slots
+-- one more number
+adds_one : (normals more : List V3) (old mid new : List ℕ) (p : ℕ) (n : V3) → AddsNumbers normals more old mid → slice_get normals p ≡ Some n → new ≡ mid ++ p ∷ [] → AddsNumbers normals (more ++ n ∷ []) old new
+adds_one normals more old mid new p n adds at is = λ facets before.
+    let are = adds facets before in
+    subst (λ l. AreNumbers normals l new) (append_assoc facets more (n ∷ [])) (record {
+      from = λ m c. ⊎_elim {C = IsNumbered normals ((facets ++ more) ++ n ∷ []) m}
+          (λ early. let h = are.from m early in record { facet = h.facet; at = h.at; listed = Contains-append_left (facets ++ more) (n ∷ []) h.facet h.listed })
+          (λ same. record { facet = n; at = subst (λ j. slice_get normals j ≡ Some n) same at; listed = Contains-push (facets ++ more) n })
+          (Contains-push_cases mid p m (subst (λ l. Contains l m) is c));
+      all = λ x c. ⊎_elim {C = HasNumber normals new x}
+          (λ early. let h = are.all x early in record { number = h.number; listed = subst (λ l. Contains l h.number) (sym is) (Contains-append_left mid (p ∷ []) h.number h.listed); at = h.at })
+          (λ same. record { number = p; listed = subst (λ l. Contains l p) (sym is) (Contains-push mid p); at = at ∙ ap Some same })
+          (Contains-push_cases (facets ++ more) n x c);
+    })
 
-pub slots_none : (normals : List V3) (at : ℕ → List V3) (lists : List (List ℕ)) → lists ≡ [] → AreSlotNumbers normals at 0 lists
-slots_none normals at lists e = record { count = ap length e; each = λ slot lt. absurd (omega (arith, lt)) }
+pub facets_none : (turned : Bool) (normals facets : List V3) (old : List ℕ) → AddsNumbers normals (take 0 (turned_all turned facets)) old old
+facets_none turned normals facets old = λ before are. subst (λ l. AreNumbers normals l old) (sym (append-nil before)) are
 
-pub slots_more : (normals : List V3) (at : ℕ → List V3) (k : ℕ) (lists more : List (List ℕ)) (list : List ℕ) → AreSlotNumbers normals at k lists
-    → (All (Contains normals) (at k) → AreNumbers normals (at k) list) → more ≡ lists ++ list ∷ [] → AreSlotNumbers normals at (k + 1) more
-slots_more normals at k lists more list are here e = record {
-  count = ap length e ∙ length-append lists (list ∷ []) ∙ ap (λ n. n + 1) are.count;
-  each = λ m lt all. subst (λ l. AreNumbers normals (at m) (get_or l m [])) (sym e) (⊎_elim
-      (λ early. subst (AreNumbers normals (at m)) (sym (get_or_append_left lists (list ∷ []) [] m (omega (arith, early, are.count)))) (are.each m early all))
-      (λ now. subst (AreNumbers normals (at m)) (sym (get_or_push lists list [] m (are.count ∙ sym now))) (subst (λ j. All (Contains normals) (at j) → AreNumbers normals (at j) list) (sym now) here all))
-      (lt_one_more_cases m k lt));
-}
+pub facets_more : (turned : Bool) (normals facets seen : List V3) (k p : ℕ) (d : V3) (old mid new : List ℕ) → seen ≡ facets → k < length seen → AddsNumbers normals (take k (turned_all turned facets)) old mid
+    → slice_get normals p ≡ Some (turned_if turned (get_or seen k d)) → new ≡ mid ++ p ∷ [] → AddsNumbers normals (take (k + 1) (turned_all turned facets)) old new
+facets_more turned normals facets seen k p d old mid new e lt adds at is =
+    let turned_facets : List V3 = turned_all turned facets in
+    let within : k < length facets = subst (λ l. k < length l) e lt in
+    let below : k < length turned_facets = subst (λ n. k < n) (sym (turned_size turned facets)) within in
+    subst (λ l. AddsNumbers normals l old new) (sym (take_more turned_facets k (turned_if turned d) below))
+    (adds_one normals (take k turned_facets) old mid new p (get_or turned_facets k (turned_if turned d)) adds
+    (at ∙ ap (λ l. Some (turned_if turned (get_or l k d))) e ∙ ap Some (sym (turned_at turned facets k d within))) is)
 
-pub slots_end : (normals : List V3) (at : ℕ → List V3) (k n : ℕ) (lists : List (List ℕ)) → n ≤ k → k ≤ n → AreSlotNumbers normals at k lists → AreSlotNumbers normals at n lists
-slots_end normals at k n lists le ge are = subst (λ m. AreSlotNumbers normals at m lists) (omega (arith, le, ge)) are
-
--- a facet of the table has a plane there, on one of its two sides
-facets_listed : (t : Table) (normals : List V3) (arc : Arc) → IsTable t → Lists vector_cmp (IsEitherOf t.planes) normals → IsTableArc t arc → All (Contains normals) (facets_of t arc)
-facets_listed t normals arc is lists across = All-from_members (Contains normals) (facets_of t arc) (λ n c.
-    let facet = All-contains (IsTableFacet t.planes) (facets_of t arc) n (is.facets arc across).each c in
-    lists.all n (⊎_elim {C = IsEitherOf t.planes n} (λ e. inl (subst (Contains t.planes) e facet.plane)) (λ e. inr (subst (Contains t.planes) e facet.plane)) (canon-either n)))
-
-pub numbers_ahead : (t : Table) (f : FacetNumbers) (arc : Arc) (k : ℕ) (list : List ℕ) → IsTable t → AreFacetNumbers t f → IsTableArc t arc → arc.a < arc.b → k ≡ slot t.pieces arc → k < SLOTS
-    → list ≡ get_or f.kept.items k [] → AreNumbers f.normals.items (facets_of t arc) list
-numbers_ahead t f arc k list is are across lt e small list_is =
-    let normals : List V3 = f.normals.items in
-    let same : facets_of t arc ≡ facets_at t k = facets_ahead t arc lt ∙ ap (facets_at t) (sym e) in
-    subst (AreNumbers normals (facets_of t arc)) (sym list_is) (subst (λ l. AreNumbers normals l (get_or f.kept.items k [])) (sym same)
-    (are.kept.each k small (subst (All (Contains normals)) same (facets_listed t normals arc is are.normals across))))
+pub facets_end : (turned : Bool) (normals facets seen : List V3) (k : ℕ) (old new : List ℕ) → seen ≡ facets → length seen ≤ k → AddsNumbers normals (take k (turned_all turned facets)) old new → AddsNumbers normals (turned_all turned facets) old new
+facets_end turned normals facets seen k old new e le adds =
+    subst (λ l. AddsNumbers normals l old new) (take_all k (turned_all turned facets) (omega (arith, le, turned_size turned facets, ap length e))) adds
 
 -- lists with the same members
 same_numbers : (normals facets others : List V3) (numbers : List ℕ) → ((n : V3) → Contains facets n → Contains others n) → ((n : V3) → Contains others n → Contains facets n)
@@ -177,39 +104,32 @@ to_reversed facets n c = let (x, listed, e) = from_map negative facets n c in su
 to_opposites : (facets : List V3) (n : V3) → Contains (reversed_facets facets) n → Contains (map negative facets) n
 to_opposites facets n c = subst (Contains (map negative facets)) (negative-negative n) (Contains-map negative facets (negative n) (from_reversed facets n c))
 
-pub numbers_back : (t : Table) (f : FacetNumbers) (arc other : Arc) (k : ℕ) (list : List ℕ) → IsTable t → AreFacetNumbers t f → IsTableArc t arc → arc.b ≤ arc.a → other ≡ back arc → k ≡ slot t.pieces other → k < SLOTS
-    → list ≡ get_or f.opposite.items k [] → AreNumbers f.normals.items (facets_of t arc) list
-numbers_back t f arc other k list is are across le e slot_is small list_is =
-    let normals : List V3 = f.normals.items in
-    let facets : List V3 = facets_at t k in
-    let here : facets ≡ facets_of t other = ap (facets_at t) slot_is ∙ sym (facets_ahead t other (subst (λ (o : Arc). o.a < o.b) (sym e) (lt_from_le arc.a arc.b across.different le))) in
-    let turns : facets_of t arc ≡ reversed_facets facets = facets_reversed t arc other facets across le e here in
-    let all : All (Contains normals) (map negative facets) = All-from_members (Contains normals) (map negative facets) (λ n c.
-    All-contains (Contains normals) (facets_of t arc) n (facets_listed t normals arc is are.normals across) (subst (λ l. Contains l n) (sym turns) (to_reversed facets n c))) in
-    subst (AreNumbers normals (facets_of t arc)) (sym list_is) (subst (λ l. AreNumbers normals l (get_or f.opposite.items k [])) (sym turns)
-    (same_numbers normals (map negative facets) (reversed_facets facets) (get_or f.opposite.items k []) (to_reversed facets) (to_opposites facets) (are.opposite.each k small all)))
+same_members : (before xs ys : List V3) → ((n : V3) → Contains xs n → Contains ys n) → (n : V3) → Contains (before ++ xs) n → Contains (before ++ ys) n
+same_members before xs ys to n c = ⊎_elim {C = Contains (before ++ ys) n} (λ early. Contains-append_left before ys n early) (λ now. Contains-append_right before ys n (to n now)) (Contains-append_cases before xs n c)
+
+-- the facets of an arc to a lesser part are the opposites of those that are kept
+adds_back : (t : Table) (normals : List V3) (arc other : Arc) (old new : List ℕ) → IsTableArc t arc → arc.b ≤ arc.a → other ≡ back arc → AddsNumbers normals (map negative (facets_of t other)) old new → AddsNumbers normals (facets_of t arc) old new
+adds_back t normals arc other old new across le e adds = λ before are.
+    let facets : List V3 = facets_of t other in
+    let turns : facets_of t arc ≡ reversed_facets facets = facets_reversed t arc other facets across le e refl in
+    subst (λ l. AreNumbers normals (before ++ l) new) (sym turns)
+    (same_numbers normals (before ++ map negative facets) (before ++ reversed_facets facets) new (same_members before (map negative facets) (reversed_facets facets) (to_reversed facets))
+    (same_members before (reversed_facets facets) (map negative facets) (to_opposites facets)) (adds before are))
+
+pub adds_back_if_ok : (t : Table) (normals : List V3) (arc other : Arc) (old new : List ℕ) (r : Result (Unit {0}) OutOfMemory) → IsTableArc t arc → arc.b ≤ arc.a → other ≡ back arc
+    → OnOk r (AddsNumbers normals (map negative (facets_of t other)) old new) → OnOk r (AddsNumbers normals (facets_of t arc) old new)
+adds_back_if_ok t normals arc other old new (Ok u) across le e adds = adds_back t normals arc other old new across le e adds
+adds_back_if_ok t normals arc other old new (Err x) across le e adds = tt
 
 -- ---- numbers of arcs
 
-numbers_joined : (normals more : List V3) (old list new : List ℕ) → AreNumbers normals more list → new ≡ old ++ list → AddsNumbers normals more old new
-numbers_joined normals more old list new are is = λ facets before. record {
-  from = λ k c. ⊎_elim {C = IsNumbered normals (facets ++ more) k}
-      (λ early. let h = before.from k early in record { facet = h.facet; at = h.at; listed = Contains-append_left facets more h.facet h.listed })
-      (λ now. let h = are.from k now in record { facet = h.facet; at = h.at; listed = Contains-append_right facets more h.facet h.listed })
-      (Contains-append_cases old list k (subst (λ l. Contains l k) is c));
-  all = λ n c. ⊎_elim {C = HasNumber normals new n}
-      (λ early. let h = before.all n early in record { number = h.number; listed = subst (λ l. Contains l h.number) (sym is) (Contains-append_left old list h.number h.listed); at = h.at })
-      (λ now. let h = are.all n now in record { number = h.number; listed = subst (λ l. Contains l h.number) (sym is) (Contains-append_right old list h.number h.listed); at = h.at })
-      (Contains-append_cases facets more n c);
-}
-
-pub arcs_more : (t : Table) (normals : List V3) (arcs : List Arc) (k : ℕ) (d : Arc) (old mid new list : List ℕ) → k < length arcs → AddsNumbers normals (flat_map (facets_of t) (take k arcs)) old mid
-    → AreNumbers normals (facets_of t (get_or arcs k d)) list → new ≡ mid ++ list → AddsNumbers normals (flat_map (facets_of t) (take (k + 1) arcs)) old new
-arcs_more t normals arcs k d old mid new list lt adds are is = λ facets before.
+pub arcs_more : (t : Table) (normals : List V3) (arcs : List Arc) (k : ℕ) (d : Arc) (old mid new : List ℕ) → k < length arcs → AddsNumbers normals (flat_map (facets_of t) (take k arcs)) old mid
+    → AddsNumbers normals (facets_of t (get_or arcs k d)) mid new → AddsNumbers normals (flat_map (facets_of t) (take (k + 1) arcs)) old new
+arcs_more t normals arcs k d old mid new lt adds more = λ facets before.
     let early : List V3 = flat_map (facets_of t) (take k arcs) in
     let now : List V3 = facets_of t (get_or arcs k d) in
     let whole : flat_map (facets_of t) (take (k + 1) arcs) ≡ early ++ now = ap (flat_map (facets_of t)) (take_more arcs k d lt) ∙ sym (flat_map_more (facets_of t) [] (take k arcs) (get_or arcs k d)) in
-    subst (λ l. AreNumbers normals l new) (append_assoc facets early now ∙ ap (λ l. facets ++ l) (sym whole)) (numbers_joined normals now mid list new are is (facets ++ early) (adds facets before))
+    subst (λ l. AreNumbers normals l new) (append_assoc facets early now ∙ ap (λ l. facets ++ l) (sym whole)) (more (facets ++ early) (adds facets before))
 
 pub arcs_none : (t : Table) (normals : List V3) (arcs : List Arc) (old : List ℕ) → AddsNumbers normals (flat_map (facets_of t) (take 0 arcs)) old old
 arcs_none t normals arcs old = λ facets before. subst (λ l. AreNumbers normals l old) (sym (append-nil facets)) before

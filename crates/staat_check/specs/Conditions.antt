@@ -1,20 +1,17 @@
 -- What a witness asks of the directions that name it.
-use Rattle.std.specs.Prelude.{◌≡◌, ◌⊎◌, ◌<◌, ℕ, ◌<ℤ◌, ◌++◌, []}
+use Rattle.std.specs.Prelude.{◌≡◌, ◌<◌, ℕ, ◌<ℤ◌, ◌++◌, []}
 use Rattle.std.specs.Prelude.{Bool, false, true}
 use Rattle.std.specs.Prelude.{pos, List, All, Contains, flat_map, length, map, Some, slice_get, slice_index_or}
 use Rattle.staat_vec.specs.declared.vector.V3.{V3}
 use Rattle.staat_vec.specs.declared.vector.TheConstants.{DIRECTION}
-use Rattle.staat_vec.specs.Lists.{Lists}
-use Rattle.staat_vec.specs.Vectors.{IsWithin, dot, negative, origin, vector_cmp}
+use Rattle.staat_vec.specs.Vectors.{IsWithin, dot, negative, origin}
 use Rattle.staat_model.specs.declared.certificate.Dir.{Dir}
 use Rattle.staat_model.specs.declared.certificate.Witness.{Witness}
-use Rattle.staat_pairs.specs.declared.table.TheConstants.{SLOTS}
 use Rattle.staat_pairs.specs.Tables.{IsTableArc, Table, facets_of}
-use Rattle.staat_check.specs.declared.conditions.FacetNumbers.{FacetNumbers}
 
--- the vector or its opposite is one of these
-abbrev pub IsEitherOf : List V3 → V3 → Type 0
-IsEitherOf vs v = Contains vs v ⊎ Contains vs (negative v)
+-- the normals of both sides of planes: those of the planes, and then their opposites
+abbrev pub both_sides : List V3 → List V3
+both_sides planes = planes ++ map negative planes
 
 -- the arcs of the witness join parts of the table's set
 pub record IsAcrossAll (t : Table) (witness : Witness) : Type 0 where
@@ -45,19 +42,6 @@ abbrev pub AddsNumbers : (normals more : List V3) → (old new : List ℕ) → T
 AddsNumbers normals more old new =
     (facets : List V3) → AreNumbers normals facets old → AreNumbers normals (facets ++ more) new
 
--- with each normal there is its opposite
-abbrev pub HasOpposites : List V3 → Type 0
-HasOpposites normals = (n : V3) → Contains normals n → Contains normals (negative n)
-
--- ---- the facets of a table by numbers
-
--- the facets at a slot, and their opposites
-abbrev pub facets_at : Table → ℕ → List V3
-facets_at t slot = slice_index_or t.facets slot []
-
-abbrev pub opposites_at : Table → ℕ → List V3
-opposites_at t slot = map negative (facets_at t slot)
-
 -- a vector or, if it is turned, its opposite
 abbrev pub turned_if : Bool → V3 → V3
 turned_if false v = v
@@ -66,21 +50,6 @@ turned_if true v = negative v
 abbrev pub turned_all : Bool → List V3 → List V3
 turned_all false vs = vs
 turned_all true vs = map negative vs
-
-abbrev pub turned_at : Bool → Table → ℕ → List V3
-turned_at turned t slot = turned_all turned (facets_at t slot)
-
--- a list for each of the first k slots: the numbers of the vectors there, if all of these are among the normals
-pub record AreSlotNumbers (normals : List V3) (at : ℕ → List V3) (k : ℕ) (lists : List (List ℕ)) : Type 0 where
-  pub count : length lists ≡ k
-  pub each : (slot : ℕ) → slot < k → All (Contains normals) (at slot)
-      → AreNumbers normals (at slot) (slice_index_or lists slot [])
-
--- the normals are those of both sides of the table's planes, and at each slot stand the numbers of the facets there
-pub record AreFacetNumbers (t : Table) (facets : FacetNumbers) : Type 0 where
-  pub normals : Lists vector_cmp (IsEitherOf t.planes) facets.normals.items
-  pub kept : AreSlotNumbers facets.normals.items (facets_at t) SLOTS facets.kept.items
-  pub opposite : AreSlotNumbers facets.normals.items (opposites_at t) SLOTS facets.opposite.items
 
 -- ---- witnesses
 
