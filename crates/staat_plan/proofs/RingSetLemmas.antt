@@ -1,6 +1,6 @@
 -- Which planes are linked while those that are none of a set of parts are taken out.
 use Rattle.std.proofs.Common.{◌≡◌, ◌≢◌, ◌↔◌, inl, ⊎_elim, ℕ, ◌+◌, ◌<◌, ◌≤◌, true, not, arith, ap, refl, sym, subst, ◌∙◌, List, [], ◌++◌, length, Contains, get_or}
-use Rattle.std.specs.Prelude.{◌==◌, IsTrue, Some, slice_get}
+use Rattle.std.specs.Prelude.{◌==◌, Some, slice_get}
 use Rattle.std.specs.List.{filter}
 use Rattle.std.proofs.lemmas.List.{get_or_append_left, get_or_default}
 use Rattle.std.proofs.lemmas.Option.{same_Some, slice_get-get_or, slice_get_within}
@@ -100,8 +100,3 @@ module _ (k : ℕ) (a b : Arrangement) (is : IsUnlinked k a b) where
 pub all_past : (parts : List Part) (planes : List V3) (w : PartSet) (linked : List ℕ) (k : ℕ) → AreThoseLinked parts planes w linked k → length planes ≤ k
     → (j : ℕ) (n : V3) → slice_get planes j ≡ Some n → Contains linked j ↔ IsPlaneOf parts w n
 all_past parts planes w linked k before le j n at = before j n at (let lt = slice_get_within planes j n at in omega (arith, lt, le))
-
--- ---- what tests say
-
-pub told_true : {P : Type 0} → IsTrue true ↔ P → P
-told_true h = h.0 refl

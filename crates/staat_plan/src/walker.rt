@@ -7,6 +7,7 @@ ghost use Rattle.staat_model.specs.declared.assembly.Part.{Part as PartValue};
 ghost use Rattle.staat_model.specs.Outcomes.{HasNoStep, IsStep, try_vertex};
 ghost use Rattle.staat_model.specs.Sets.{IsSubset};
 ghost use Rattle.staat_pairs.specs.Tables.{WasMadeFrom};
+ghost use Rattle.staat_planes.specs.MarkedPlanes.{AreUsedMarks};
 ghost use Rattle.staat_plan.specs.RingSets.{AreAllLinkedFrom, AreForTable, AreThoseLinked};
 ghost use Rattle.staat_ring.specs.Rings.{WereMadeFrom, linked_of};
 ghost use Rattle.staat_ring.specs.Walked.{WalkWasMadeFrom};
@@ -28,19 +29,21 @@ pub(crate) struct Walker {
     walk: Walk,
 }
 
-// The step of w where of the planes before k those of w alone are linked. Each plane from k on that is none of w is
-// taken out before the later ones and put back after them, so that the rings are left as they were.
+// The step of w, whose planes are marked, where of the planes before k those of w alone are linked. Each plane from k on
+// that is none of w is taken out before the later ones and put back after them, so that the rings are left as they were.
 fn step_past<L: Ledger>(
     table: &PlaneTable,
     rings: &mut Rings,
     walk: &mut Walk,
     w: PartSet,
+    marks: &[bool; 1024],
     k: u32,
     steps: &mut Steps<L>,
 ) -> Option<Step>
     requires made { WalkWasMadeFrom table.now walk.old }
     requires rings { WereMadeFrom table.now.planes rings.old }
     requires within { IsSubset w table.now.of }
+    requires marks { AreUsedMarks table.now w marks.now }
     requires two { 2 ≤ set.len w }
     requires axes { LEAST_PLANES ≤ k }
     requires place { k ≤ length table.now.planes }
@@ -56,11 +59,11 @@ fn step_past<L: Ledger>(
     if k >= table.len() {
         return part_step_rings(table, rings, walk, w, steps);
     }
-    if table.used(k, w) {
-        return step_past(table, rings, walk, w, k + 1, steps);
+    if marks[k as usize] {
+        return step_past(table, rings, walk, w, marks, k + 1, steps);
     }
     rings.unlink(k);
-    let step = step_past(table, rings, walk, w, k + 1, steps);
+    let step = step_past(table, rings, walk, w, marks, k + 1, steps);
     rings.relink(k);
     step
 }
@@ -88,7 +91,8 @@ fn counted_step<L: Ledger>(
     if table.set().within(w) {
         return part_step_rings(table, rings, walk, w, &mut steps);
     }
-    step_past(table, rings, walk, w, LEAST_PLANES, &mut steps)
+    let marks = table.used_marks(w);
+    step_past(table, rings, walk, w, &marks, LEAST_PLANES, &mut steps)
 }
 
 impl Walker {

@@ -12,7 +12,6 @@ mod search;
 mod set_planes;
 mod steps;
 mod table;
-mod used;
 
 pub use build::tabulate;
 pub use leads::{Heading, Leads};

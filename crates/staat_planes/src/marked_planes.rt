@@ -1,12 +1,17 @@
 // The planes of a smaller set of parts, marked in one pass over its facets.
-ghost use Rattle.std.specs.Prelude.{◌≡◌, ◌<◌, ◌≤◌, ℕ, false, slice_index_or};
+ghost use Rattle.std.specs.Prelude.{◌≡◌, ◌<◌, ◌≤◌, ◌↔◌, ℕ, List, Contains, IsTrue, Some, false, length};
+ghost use Rattle.std.specs.Prelude.{slice_get, slice_index_or};
+ghost use Rattle.staat_vec.specs.declared.vector.V3.{V3 as Vector};
+ghost use Rattle.staat_model.specs.declared.assembly.Part.{Part as PartValue};
+ghost use Rattle.staat_model.specs.Planes.{ArePlanes};
 ghost use Rattle.staat_model.specs.Sets.{Has, IsSubset};
 ghost use Rattle.staat_pairs.specs.Searches.{HasPlane, HasPlaneBetween, HasPlaneFrom, HasPlaneOf, IsCanonOf};
-ghost use Rattle.staat_pairs.specs.Tables.{IsTableArc, facets_of, pieces_of};
+ghost use Rattle.staat_pairs.specs.Tables.{IsTableArc, WasMadeFrom, facets_of, pieces_of};
 ghost use Rattle.staat_planes.specs.MarkedPlanes.{AddsMarks, AreUsedMarks, IsPlaneMarked};
+ghost use Rattle.staat_planes.specs.Tables.{IsPlaneOf};
 
 use crate::table::PlaneTable;
-use staat_limits::MOST_PARTS;
+use staat_limits::{MOST_PARTS, MOST_PLANES};
 use staat_model::{Arc, PartSet};
 
 // marks the coordinate planes
@@ -87,10 +92,11 @@ impl PlaneTable {
 
     /// Which planes are those of the set `w` of parts, which lies in the table's set: the mark of each.
     ///
-    /// Each facet of two pieces of `w` is looked up once. It takes no memory.
-    pub(crate) fn used_marks(&self, w: PartSet) -> [bool; 1024]
+    /// Each facet of two pieces of `w` is looked at once. It takes no memory.
+    pub fn used_marks(&self, w: PartSet) -> [bool; 1024]
         requires { IsSubset w self.now.of }
-        ensures { AreUsedMarks self.now w result }
+        ensures is { AreUsedMarks self.now w result }
+        ensures most { length self.now.planes ≤ MOST_PLANES }
     {
         if self.set().within(w) {
             return [true; 1024];
@@ -99,5 +105,21 @@ impl PlaneTable {
         self.mark_in(w, &mut marks);
         mark_axes(&mut marks);
         marks
+    }
+
+    /// Whether the plane `k` is one of the planes of the set `w` of parts.
+    ///
+    /// `k` is below [`len`](PlaneTable::len), and `w` lies in the table's set. It takes no memory.
+    pub fn used(&self, k: u32, w: PartSet) -> bool
+        requires plane { k < length self.now.planes }
+        requires set { IsSubset w self.now.of }
+        ensures plane { (parts : List PartValue) (n : Vector) → WasMadeFrom parts self.now →
+            slice_get self.now.planes k ≡ Some n → IsTrue result ↔ IsPlaneOf parts w n }
+        ensures planes { (parts : List PartValue) (planes : List Vector) (n : Vector) →
+            WasMadeFrom parts self.now → slice_get self.now.planes k ≡ Some n →
+            ArePlanes parts w planes → IsTrue result ↔ Contains planes n }
+    {
+        let marks = self.used_marks(w);
+        marks[k as usize]
     }
 }

@@ -1,9 +1,8 @@
-use Rattle.std.proofs.Common.{◌<◌, ◌-◌, ◌+◌, ◌∙◌, ap, arith, length, subst}
+use Rattle.std.proofs.Common.{◌<◌, ◌-◌, ◌+◌, ◌∙◌, ap, arith, length, subst, sym, true≢false}
 use Rattle.staat_ring.specs.Rings.{Arrangement, linked_of}
 use Rattle.staat_ring.specs.Without.{IsRelinked}
 use Rattle.staat_ring.proofs.Made.{relinked_back}
-use Rattle.staat_plan.proofs.RingSetLemmas.{all_past, past_next, told_true, unlinked_before, unlinked_past, used_before}
-use Rattle.staat_planes.proofs.NotFound.{no_more}
+use Rattle.staat_plan.proofs.RingSetLemmas.{all_past, past_next, unlinked_before, unlinked_past, used_before}
 use Rattle.staat_plan.proofs.walker.+step_past.Goals as goal
 
 pub part_step_rings-requires-clause-linked : goal.part_step_rings-requires-clause-linked
@@ -25,14 +24,17 @@ step_past-requires g t c κs within =
             (
               c.requires.within,
               (
-                c.requires.two,
+                c.requires.marks,
                 (
-                  omega (arith, axes),
+                  c.requires.two,
                   (
-                    omega (arith, lt),
+                    omega (arith, axes),
                     (
-                      past_next c.args.table.now.planes (linked_of c.args.rings.now.rings) c.args.k c.requires.past,
-                      λ parts made. used_before parts c.args.table.now.planes c.args.w (linked_of c.args.rings.now.rings) c.args.k c.requires.past (c.requires.before parts made) (λ n at. told_true (c.if-used.ensures.plane parts n made at)),
+                      omega (arith, lt),
+                      (
+                        past_next c.args.table.now.planes (linked_of c.args.rings.now.rings) c.args.k c.requires.past,
+                        λ parts made. used_before parts c.args.table.now.planes c.args.w (linked_of c.args.rings.now.rings) c.args.k c.requires.past (c.requires.before parts made) (λ n at. (c.requires.marks.each parts c.args.k n made at).0 c.if-marks-k.true),
+                      ),
                     ),
                   ),
                 ),
@@ -61,14 +63,17 @@ step_past-step-requires g t c κs within =
             (
               c.requires.within,
               (
-                c.requires.two,
+                c.requires.marks,
                 (
-                  omega (arith, axes),
+                  c.requires.two,
                   (
-                    omega (arith, lt),
+                    omega (arith, axes),
                     (
-                      unlinked_past c.args.k c.args.rings.now c.unlink.new.self c.unlink.ensures.is c.args.table.now.planes c.requires.past,
-                      λ parts made. unlinked_before c.args.k c.args.rings.now c.unlink.new.self c.unlink.ensures.is parts c.args.table.now.planes c.args.w (c.requires.before parts made) (λ n at. no_more _ (c.if-used.ensures.plane parts n made at)),
+                      omega (arith, lt),
+                      (
+                        unlinked_past c.args.k c.args.rings.now c.unlink.new.self c.unlink.ensures.is c.args.table.now.planes c.requires.past,
+                        λ parts made. unlinked_before c.args.k c.args.rings.now c.unlink.new.self c.unlink.ensures.is parts c.args.table.now.planes c.args.w (c.requires.before parts made) (λ n at p. true≢false (sym ((c.requires.marks.each parts c.args.k n made at).1 p) ∙ c.if-marks-k.false)),
+                      ),
                     ),
                   ),
                 ),
@@ -86,11 +91,11 @@ relink-requires g t c = record {
   is = ap (λ (rings : Arrangement). rings.unlinked) c.step_past-step.ensures.rings ∙ c.unlink.ensures.is.unlinked;
 }
 
-pub returns-then-used-clause-rings : goal.returns-then-used-clause-rings
-returns-then-used-clause-rings g t c = c.step_past.ensures.rings
+pub returns-then-marks-k-clause-rings : goal.returns-then-marks-k-clause-rings
+returns-then-marks-k-clause-rings g t c = c.step_past.ensures.rings
 
-pub returns-then-used-clause-step : goal.returns-then-used-clause-step
-returns-then-used-clause-step g t c = c.step_past.ensures.step
+pub returns-then-marks-k-clause-step : goal.returns-then-marks-k-clause-step
+returns-then-marks-k-clause-step g t c = c.step_past.ensures.step
 
 pub returns-then-k-len-clause-step : goal.returns-then-k-len-clause-step
 returns-then-k-len-clause-step g t c = c.part_step_rings.ensures.step

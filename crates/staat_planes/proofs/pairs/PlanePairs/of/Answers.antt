@@ -12,13 +12,13 @@ loop-k-preserved c = elim c.if-marks-k.branch [
     room = ap length w.numbers-is ∙ w.push_number.array_long;
     few = let a = c.loop-k.invariant.few in let e = w.count-is in omega (arith, a, e);
     used = subst (AreUsedBelow c.args.table.now c.args.w (c.loop-k.k + 1)) (sym ((λ i. take (w.count-is i) (w.numbers-is i)) ∙ w.push_number.ensures))
-        (one_used c.args.table.now c.args.w c.loop-k.k (take c.loop-k.count c.loop-k.numbers) (get_or c.used_marks-marks.result c.loop-k.k false) c.loop-k.invariant.used (λ parts n made at. c.used_marks-marks.ensures.each parts c.loop-k.k n made at) w.if-marks-k.true);
+        (one_used c.args.table.now c.args.w c.loop-k.k (take c.loop-k.count c.loop-k.numbers) (get_or c.used_marks-marks.result c.loop-k.k false) c.loop-k.invariant.used (λ parts n made at. c.used_marks-marks.ensures.is.each parts c.loop-k.k n made at) w.if-marks-k.true);
   })
   | else-marks-k w ↦ (record {
     room = ap length w.numbers-is ∙ c.loop-k.invariant.room;
     few = let a = c.loop-k.invariant.few in let e = w.count-is in omega (arith, a, e);
     used = subst (AreUsedBelow c.args.table.now c.args.w (c.loop-k.k + 1)) (sym (λ i. take (w.count-is i) (w.numbers-is i)))
-        (none_more c.args.table.now c.args.w c.loop-k.k (take c.loop-k.count c.loop-k.numbers) (get_or c.used_marks-marks.result c.loop-k.k false) c.loop-k.invariant.used (λ parts n made at. c.used_marks-marks.ensures.each parts c.loop-k.k n made at) (λ told. true≢false (sym told ∙ w.if-marks-k.false)));
+        (none_more c.args.table.now c.args.w c.loop-k.k (take c.loop-k.count c.loop-k.numbers) (get_or c.used_marks-marks.result c.loop-k.k false) c.loop-k.invariant.used (λ parts n made at. c.used_marks-marks.ensures.is.each parts c.loop-k.k n made at) (λ told. true≢false (sym told ∙ w.if-marks-k.false)));
   })
 ]
 

@@ -15,7 +15,7 @@ loop-k-preserved c =
     let k = c.loop-k.k in
     let planes = c.loop-k.planes.items in
     let mark = get_or c.used_marks-marks.result k false in
-    let marks = c.used_marks-marks.ensures in
+    let marks = c.used_marks-marks.ensures.is in
     let tells : Tells t c.args.w k mark = λ parts n made at. marks.each parts k n made at in
     elim c.if-marks-k.branch [
       | then-marks-k+in_ok-push w ↦ subst (ArePicked t c.args.w (k + 1))

@@ -1,9 +1,0 @@
-use Rattle.std.proofs.Common.{◌<◌, arith}
-use Rattle.staat_pairs.specs.Tables.{pieces_of}
-use Rattle.staat_pairs.specs.Searches.{HasPlaneBetween}
-use Rattle.staat_planes.proofs.NotFound.{not_found}
-use Rattle.staat_planes.proofs.table.PlaneTable.has_plane_between.Goals as goal
-
-pub returns : goal.returns
-returns c = not_found (HasPlaneBetween c.args.self.now c.args.n c.args.a c.args.b)
-    (λ h. c.loop-i.invariant h.i (let lt : h.i < pieces_of c.args.self.now c.args.a = h.from.across.i_is in omega (arith, c.pieces-i-end.ensures.is, lt)) h.from)
