@@ -73,9 +73,6 @@ adds_one normals more old mid new p n adds at is = λ facets before.
           (Contains-push_cases (facets ++ more) n x c);
     })
 
-pub facets_none : (turned : Bool) (normals facets : List V3) (old : List ℕ) → AddsNumbers normals (take 0 (turned_all turned facets)) old old
-facets_none turned normals facets old = λ before are. subst (λ l. AreNumbers normals l old) (sym (append-nil before)) are
-
 pub facets_more : (turned : Bool) (normals facets seen : List V3) (k p : ℕ) (d : V3) (old mid new : List ℕ) → seen ≡ facets → k < length seen → AddsNumbers normals (take k (turned_all turned facets)) old mid
     → slice_get normals p ≡ Some (turned_if turned (get_or seen k d)) → new ≡ mid ++ p ∷ [] → AddsNumbers normals (take (k + 1) (turned_all turned facets)) old new
 facets_more turned normals facets seen k p d old mid new e lt adds at is =
@@ -85,10 +82,6 @@ facets_more turned normals facets seen k p d old mid new e lt adds at is =
     subst (λ l. AddsNumbers normals l old new) (sym (take_more turned_facets k (turned_if turned d) below))
     (adds_one normals (take k turned_facets) old mid new p (get_or turned_facets k (turned_if turned d)) adds
     (at ∙ ap (λ l. Some (turned_if turned (get_or l k d))) e ∙ ap Some (sym (turned_at turned facets k d within))) is)
-
-pub facets_end : (turned : Bool) (normals facets seen : List V3) (k : ℕ) (old new : List ℕ) → seen ≡ facets → length seen ≤ k → AddsNumbers normals (take k (turned_all turned facets)) old new → AddsNumbers normals (turned_all turned facets) old new
-facets_end turned normals facets seen k old new e le adds =
-    subst (λ l. AddsNumbers normals l old new) (take_all k (turned_all turned facets) (omega (arith, le, turned_size turned facets, ap length e))) adds
 
 -- lists with the same members
 same_numbers : (normals facets others : List V3) (numbers : List ℕ) → ((n : V3) → Contains facets n → Contains others n) → ((n : V3) → Contains others n → Contains facets n)

@@ -1,17 +1,16 @@
 -- The planes of facets and their numbers, as they are collected.
-use Rattle.std.proofs.Common.{◌≡◌, ◌⊎◌, inl, inr, ⊎_elim, ◌↔◌, ℕ, ◌+◌, ◌<◌, ◌≤◌, ap, sym, subst, ◌∙◌, List, [], ◌∷◌, ◌++◌, length, get_or, take, All, Contains, drop, map}
+use Rattle.std.proofs.Common.{◌≡◌, ◌⊎◌, inl, inr, ⊎_elim, ◌↔◌, ℕ, ◌+◌, ◌<◌, ◌≤◌, ap, sym, subst, ◌∙◌, List, [], ◌∷◌, ◌++◌, length, get_or, take, All, Contains, map}
 use Rattle.std.specs.Prelude.{Some, slice_get, slice_index}
-use Rattle.std.specs.List.Sorted.{IsStrictlySortedBy}
 use Rattle.std.proofs.lemmas.List.{length_push, take_all, take_more}
-use Rattle.std.proofs.lemmas.List.Elements.{Contains-append_cases, Contains-append_left, Contains-append_right, Contains-push, Contains-push_cases}
-use Rattle.std.proofs.lemmas.Option.{get_or_from_slice_get, none-some, slice_get_within, slice_get-get_or}
+use Rattle.std.proofs.lemmas.List.Elements.{Contains-append_left, Contains-append_right, Contains-push, Contains-push_cases}
+use Rattle.std.proofs.lemmas.Option.{get_or_from_slice_get, slice_get_within, slice_get-get_or}
 use Rattle.staat_vec.specs.declared.vector.V3.{V3}
 use Rattle.staat_vec.specs.Lists.{Lists}
 use Rattle.staat_vec.specs.Primitives.{canon}
 use Rattle.staat_vec.specs.Vectors.{origin, vector_cmp}
-use Rattle.staat_vec.proofs.ListLaws.{get_drop, get_front, map_at_place, map_length, push_cases, push_end, push_front}
+use Rattle.staat_vec.proofs.ListLaws.{get_front, map_at_place, map_length, push_cases, push_end, push_front}
 use Rattle.staat_vec.proofs.Options.{some_injective}
-use Rattle.staat_vec.proofs.Unique.{Contains-nothing, from_place}
+use Rattle.staat_vec.proofs.Unique.{from_place}
 use Rattle.staat_model.specs.Planes.{axes}
 use Rattle.staat_model.proofs.GraphLemmas.{member_or_not}
 use Rattle.staat_model.proofs.Members.{All-from_members}
@@ -31,12 +30,6 @@ members_more old new facet p is n = (
   λ h. ⊎_elim {C = Contains new n}
       (λ c. ⊎_elim {C = Contains new n} (λ same. subst (λ l. Contains l n) (sym same) c) (λ pushed. subst (λ l. Contains l n) (sym pushed) (Contains-append_left old (canon facet ∷ []) n c)) is.more)
       (λ e. subst (Contains new) (sym e) (from_place new p (canon facet) is.there)) h,
-)
-
-pub collects_none : (facets listed : List V3) → listed ≡ axes → Collects (take 0 facets) listed
-collects_none facets listed e n = (
-  λ c. inl (subst (λ l. Contains l n) e c),
-  λ h. ⊎_elim {C = Contains listed n} (λ axis. subst (λ l. Contains l n) (sym e) axis) (λ other. absurd (Contains-nothing other.facet other.listed)) h,
 )
 
 push_collects : (facets old new : List V3) (facet : V3) (p : ℕ) → Collects facets old → IsListed old facet new p → Collects (facets ++ facet ∷ []) new
@@ -64,9 +57,6 @@ collected facets listed k le = subst (λ l. Collects l listed) (take_all k facet
 -- the normals that are no axes
 abbrev pub Keeps : List V3 → List V3 → Type 0
 Keeps listed others = (n : V3) → Contains others n ↔ (Contains listed n × (Contains axes n → ⊥))
-
-pub keeps_none : (listed : List V3) → Keeps (take 0 listed) []
-keeps_none listed n = (λ c. absurd (Contains-nothing n c), λ h. absurd (Contains-nothing n h.0))
 
 skip_axis : (listed others : List V3) (x : V3) → Contains axes x → Keeps listed others → Keeps (listed ++ x ∷ []) others
 skip_axis listed others x axis before n = (
@@ -120,9 +110,6 @@ all_ordered listed seen planes e order = All-from_members (Contains planes) seen
 
 -- ---- places
 
-pub places_none : (normal : V3 → V3) (normals vectors : List V3) (places : List ℕ) → places ≡ [] → ArePlacesBy normal normals (take 0 vectors) places
-places_none normal normals vectors places e = record { count = ap length e; each = λ m v at. absurd (none-some v at) }
-
 places_listed : (normal : V3 → V3) (old new vectors : List V3) (facet : V3) (p : ℕ) (places : List ℕ) → IsListed old facet new p → ArePlacesBy normal old vectors places → ArePlacesBy normal new vectors places
 places_listed normal old new vectors facet p places is before = record {
   count = before.count;
@@ -174,19 +161,3 @@ places_within listed facets places ranks are e = All-from_members (λ p. p < len
         let (k, here, stands) = are.each m (get_or facets m origin) facet in
         let same : k ≡ p = some_injective k p (sym here ∙ there) in
         subst (λ n. p < n) (sym e) (subst (λ n. n < length listed) same (slice_get_within listed k (canon (get_or facets m origin)) stands))
-
--- ---- the number of a plane
-
-pub beyond_axes : (planes later : List V3) (n : V3) (k : ℕ) → later ≡ drop 3 planes → slice_get later k ≡ Some n → slice_get planes (3 + k) ≡ Some n
-beyond_axes planes later n k e at = sym (get_drop planes 3 k) ∙ ap (λ l. slice_get l k) (sym e) ∙ at
-
-pub among_axes : (planes later : List V3) (n : V3) → AreInOrder planes → later ≡ drop 3 planes → Contains planes n → (Contains later n → ⊥) → Contains axes n
-among_axes planes later n order e there none =
-    ⊎_elim {C = Contains axes n} (λ axis. axis) (λ other. absurd (none (subst (λ l. Contains l n) (sym (e ∙ ap (drop 3) order.is)) other)))
-    (Contains-append_cases axes order.others n (subst (λ l. Contains l n) order.is there))
-
-pub axis_at : (planes : List V3) (n : V3) (k : ℕ) → AreInOrder planes → slice_get axes k ≡ Some n → slice_get planes k ≡ Some n
-axis_at planes n k order at = subst (λ l. slice_get l k ≡ Some n) (sym order.is) (get_front axes order.others k n at)
-
-pub later_ascends : (planes later : List V3) → AreInOrder planes → later ≡ drop 3 planes → IsStrictlySortedBy vector_cmp later
-later_ascends planes later order e = subst (IsStrictlySortedBy vector_cmp) (sym (e ∙ ap (drop 3) order.is)) order.ascending

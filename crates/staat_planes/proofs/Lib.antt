@@ -1,5 +1,4 @@
 pub mod FacetCounts
-pub mod CanonSearch
 pub mod BothWays
 pub mod GraphLaw
 pub mod GraphSteps
