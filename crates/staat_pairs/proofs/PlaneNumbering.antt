@@ -14,7 +14,7 @@ use Rattle.staat_vec.proofs.Unique.{from_place}
 use Rattle.staat_model.specs.Planes.{axes}
 use Rattle.staat_model.proofs.GraphLemmas.{member_or_not}
 use Rattle.staat_model.proofs.Members.{All-from_members}
-use Rattle.staat_pairs.specs.PlaneNumbers.{AddsOther, AreInOrder, AreNumbers, AreOrdered, ArePlacesBy, IsAxisOrCanon, IsListed}
+use Rattle.staat_pairs.specs.PlaneNumbers.{AddsOther, AreAxesFirst, ArePlaneNumbers, AreOrdered, ArePlacesBy, IsAxisOrCanon, IsNormalListed}
 use Rattle.staat_pairs.specs.Searches.{IsCanonOf}
 use Rattle.staat_pairs.specs.Tabulating.{AreCollected}
 
@@ -23,7 +23,7 @@ use Rattle.staat_pairs.specs.Tabulating.{AreCollected}
 abbrev pub Collects : List V3 → List V3 → Type 0
 Collects facets listed = (n : V3) → Contains listed n ↔ IsAxisOrCanon facets n
 
-members_more : (old new : List V3) (facet : V3) (p : ℕ) → IsListed old facet new p → (n : V3) → Contains new n ↔ (Contains old n ⊎ (n ≡ canon facet))
+members_more : (old new : List V3) (facet : V3) (p : ℕ) → IsNormalListed old facet new p → (n : V3) → Contains new n ↔ (Contains old n ⊎ (n ≡ canon facet))
 members_more old new facet p is n = (
   λ c. ⊎_elim {C = Contains old n ⊎ (n ≡ canon facet)} (λ same. inl (subst (λ l. Contains l n) same c))
       (λ pushed. ⊎_elim {C = Contains old n ⊎ (n ≡ canon facet)} (λ early. inl early) (λ last. inr (sym last)) (Contains-push_cases old (canon facet) n (subst (λ l. Contains l n) pushed c))) is.more,
@@ -32,7 +32,7 @@ members_more old new facet p is n = (
       (λ e. subst (Contains new) (sym e) (from_place new p (canon facet) is.there)) h,
 )
 
-push_collects : (facets old new : List V3) (facet : V3) (p : ℕ) → Collects facets old → IsListed old facet new p → Collects (facets ++ facet ∷ []) new
+push_collects : (facets old new : List V3) (facet : V3) (p : ℕ) → Collects facets old → IsNormalListed old facet new p → Collects (facets ++ facet ∷ []) new
 push_collects facets old new facet p before is n =
     let more = members_more old new facet p is n in (
       λ c. ⊎_elim {C = IsAxisOrCanon (facets ++ facet ∷ []) n}
@@ -45,7 +45,7 @@ push_collects facets old new facet p before is n =
           (λ same. more.1 (inr (other.is ∙ ap canon (sym same)))) (Contains-push_cases facets facet other.facet other.listed)) h,
     )
 
-pub collects_more : (facets old new : List V3) (k p : ℕ) (d : V3) → k < length facets → Collects (take k facets) old → IsListed old (get_or facets k d) new p → Collects (take (k + 1) facets) new
+pub collects_more : (facets old new : List V3) (k p : ℕ) (d : V3) → k < length facets → Collects (take k facets) old → IsNormalListed old (get_or facets k d) new p → Collects (take (k + 1) facets) new
 collects_more facets old new k p d lt before is =
     subst (λ l. Collects l new) (sym (take_more facets k d lt)) (push_collects (take k facets) old new (get_or facets k d) p before is)
 
@@ -95,7 +95,7 @@ planes_collected facets listed planes collects order = record {
   is = order.is;
 }
 
-pub in_order_of : (listed planes : List V3) → AreOrdered listed planes → AreInOrder planes
+pub in_order_of : (listed planes : List V3) → AreOrdered listed planes → AreAxesFirst planes
 in_order_of listed planes order = record { others = order.others; is = order.is; ascending = order.others_are.ascending }
 
 -- an axis, or one of the others
@@ -110,7 +110,7 @@ all_ordered listed seen planes e order = All-from_members (Contains planes) seen
 
 -- ---- places
 
-places_listed : (normal : V3 → V3) (old new vectors : List V3) (facet : V3) (p : ℕ) (places : List ℕ) → IsListed old facet new p → ArePlacesBy normal old vectors places → ArePlacesBy normal new vectors places
+places_listed : (normal : V3 → V3) (old new vectors : List V3) (facet : V3) (p : ℕ) (places : List ℕ) → IsNormalListed old facet new p → ArePlacesBy normal old vectors places → ArePlacesBy normal new vectors places
 places_listed normal old new vectors facet p places is before = record {
   count = before.count;
   each = λ m v at. (let (k, here, there) = before.each m v at in (
@@ -134,7 +134,7 @@ pub places_more : (normal : V3 → V3) (normals vectors : List V3) (old new : Li
 places_more normal normals vectors old new k p d lt before there is =
     subst (λ l. ArePlacesBy normal normals l new) (sym (take_more vectors k d lt)) (subst (ArePlacesBy normal normals (take k vectors ++ get_or vectors k d ∷ [])) (sym is) (push_place normal normals (take k vectors) old (get_or vectors k d) p before there))
 
-pub facet_placed : (old new facets : List V3) (places more : List ℕ) (k p : ℕ) (d : V3) → k < length facets → AreNumbers old (take k facets) places → IsListed old (get_or facets k d) new p → more ≡ places ++ p ∷ [] → AreNumbers new (take (k + 1) facets) more
+pub facet_placed : (old new facets : List V3) (places more : List ℕ) (k p : ℕ) (d : V3) → k < length facets → ArePlaneNumbers old (take k facets) places → IsNormalListed old (get_or facets k d) new p → more ≡ places ++ p ∷ [] → ArePlaneNumbers new (take (k + 1) facets) more
 facet_placed old new facets places more k p d lt before is e =
     places_more canon new facets places more k p d lt (places_listed canon old new (take k facets) (get_or facets k d) p places is before) is.there e
 
@@ -142,8 +142,8 @@ pub all_placed : (normal : V3 → V3) (normals vectors : List V3) (places : List
 all_placed normal normals vectors places k le = subst (λ l. ArePlacesBy normal normals l places) (take_all k vectors le)
 
 -- the place of each facet's normal, and the number of the plane of each normal, give the number of each facet's plane
-pub numbers_through : (listed planes facets : List V3) (places ranks numbers : List ℕ) → AreNumbers listed facets places → ArePlacesBy (λ n. n) planes listed ranks → numbers ≡ map (slice_index ranks) places → AreNumbers planes facets numbers
-numbers_through listed planes facets places ranks numbers first second e = subst (AreNumbers planes facets) (sym e) (record {
+pub numbers_through : (listed planes facets : List V3) (places ranks numbers : List ℕ) → ArePlaneNumbers listed facets places → ArePlacesBy (λ n. n) planes listed ranks → numbers ≡ map (slice_index ranks) places → ArePlaneNumbers planes facets numbers
+numbers_through listed planes facets places ranks numbers first second e = subst (ArePlaneNumbers planes facets) (sym e) (record {
   count = map_length (slice_index ranks) places ∙ first.count;
   each = λ m v at. (
       let (p, here, stands) = first.each m v at in
@@ -151,7 +151,7 @@ numbers_through listed planes facets places ranks numbers first second e = subst
       (r, map_at_place (slice_index ranks) places m p here ∙ ap Some (get_or_from_slice_get ranks p r 0 there), is));
 })
 
-pub places_within : (listed facets : List V3) (places ranks : List ℕ) → AreNumbers listed facets places → length ranks ≡ length listed → All (λ p. p < length ranks) places
+pub places_within : (listed facets : List V3) (places ranks : List ℕ) → ArePlaneNumbers listed facets places → length ranks ≡ length listed → All (λ p. p < length ranks) places
 places_within listed facets places ranks are e = All-from_members (λ p. p < length ranks) places (λ p c. within p c)
   where
     within : (p : ℕ) → Contains places p → p < length ranks

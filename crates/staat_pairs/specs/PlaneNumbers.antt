@@ -1,5 +1,6 @@
 -- What the numbers of the planes of facets are.
-use Rattle.std.specs.Prelude.{◌≡◌, ◌⊎◌, ℕ, List, [], ◌∷◌, ◌++◌, Contains, Some, length, slice_get}
+use Rattle.std.specs.Prelude.{◌≡◌, ◌⊎◌, ℕ, List, [], ◌∷◌, ◌++◌, Contains, Some, length}
+use Rattle.std.specs.Prelude.{slice_get}
 use Rattle.std.specs.List.Sorted.{IsStrictlySortedBy}
 use Rattle.staat_vec.specs.declared.vector.V3.{V3}
 use Rattle.staat_vec.specs.Lists.{Lists}
@@ -15,11 +16,11 @@ pub record ArePlacesBy (normal : V3 → V3) (normals vectors : List V3) (places 
       → (k : ℕ) × (slice_get places m ≡ Some k) × (slice_get normals k ≡ Some (normal v))
 
 -- the numbers of the planes of the facets
-abbrev pub AreNumbers : List V3 → List V3 → List ℕ → Type 0
-AreNumbers planes facets numbers = ArePlacesBy canon planes facets numbers
+abbrev pub ArePlaneNumbers : List V3 → List V3 → List ℕ → Type 0
+ArePlaneNumbers planes facets numbers = ArePlacesBy canon planes facets numbers
 
 -- the list with the canonical vector of a facet, which stands at the place and is added unless it was there
-pub record IsListed (old : List V3) (facet : V3) (new : List V3) (place : ℕ) : Type 0 where
+pub record IsNormalListed (old : List V3) (facet : V3) (new : List V3) (place : ℕ) : Type 0 where
   pub more : (new ≡ old) ⊎ (new ≡ old ++ canon facet ∷ [])
   pub there : slice_get new place ≡ Some (canon facet)
 
@@ -38,7 +39,7 @@ pub record AreOrdered (listed planes : List V3) : Type 0 where
   pub is : planes ≡ axes ++ others
 
 -- the axes, then others ascending
-pub record AreInOrder (planes : List V3) : Type 0 where
+pub record AreAxesFirst (planes : List V3) : Type 0 where
   pub others : List V3
   pub is : planes ≡ axes ++ others
   pub ascending : IsStrictlySortedBy vector_cmp others

@@ -1,7 +1,7 @@
 use Rattle.std.proofs.Common.{◌≡◌, ℕ, Contains, ◌<◌, ◌∙◌, All, ap, length, map, subst, sym, List}
 use Rattle.std.specs.Prelude.{slice_index}
 use Rattle.staat_vec.specs.declared.vector.V3.{V3}
-use Rattle.staat_pairs.specs.PlaneNumbers.{AreInOrder, AreOrdered, ArePlacesBy}
+use Rattle.staat_pairs.specs.PlaneNumbers.{AreAxesFirst, AreOrdered, ArePlacesBy}
 use Rattle.staat_pairs.proofs.PlaneNumbering.{all_ordered, in_order_of, numbers_through, places_within, planes_collected}
 use Rattle.staat_pairs.proofs.planes.planes_of.Goals as goal
 
@@ -10,8 +10,8 @@ module _ (listed seen planes found : List V3) (e : seen ≡ listed) (f : found �
   ordered : AreOrdered listed planes
   ordered = subst (λ l. AreOrdered l planes) e order
 
-  order_of : AreInOrder found
-  order_of = subst AreInOrder (sym f) (in_order_of listed planes ordered)
+  order_of : AreAxesFirst found
+  order_of = subst AreAxesFirst (sym f) (in_order_of listed planes ordered)
 
   all_there : (also : List V3) → also ≡ listed → All (Contains found) also
   all_there also g = subst (λ ps. All (Contains ps) also) (sym f) (all_ordered listed also planes g ordered)

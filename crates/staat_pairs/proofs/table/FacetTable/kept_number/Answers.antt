@@ -6,16 +6,16 @@ use Rattle.staat_vec.specs.Primitives.{canon}
 use Rattle.staat_vec.specs.Vectors.{origin}
 use Rattle.staat_vec.proofs.ListLaws.{place_is}
 use Rattle.staat_vec.proofs.Options.{some_injective}
-use Rattle.staat_pairs.specs.PlaneNumbers.{AreNumbers}
+use Rattle.staat_pairs.specs.PlaneNumbers.{ArePlaneNumbers}
 use Rattle.staat_pairs.specs.Tables.{IsTable, facets_of}
 use Rattle.staat_pairs.proofs.TableLemmas.{kept_is}
 use Rattle.staat_pairs.proofs.table.FacetTable.kept_number.Goals as goal
 
 -- a number beside a facet is that of its plane
-number_within : (planes facets : List V3) (numbers : List ℕ) (p : ℕ) (n : V3) → AreNumbers planes facets numbers → slice_get facets p ≡ Some n → p < length numbers
+number_within : (planes facets : List V3) (numbers : List ℕ) (p : ℕ) (n : V3) → ArePlaneNumbers planes facets numbers → slice_get facets p ≡ Some n → p < length numbers
 number_within planes facets numbers p n are at = subst (λ l. p < l) (sym are.count) (slice_get_within facets p n at)
 
-number_is : (planes facets : List V3) (numbers : List ℕ) (p k : ℕ) (n : V3) → AreNumbers planes facets numbers → slice_get facets p ≡ Some n → k ≡ get_or numbers p k → slice_get planes k ≡ Some (canon n)
+number_is : (planes facets : List V3) (numbers : List ℕ) (p k : ℕ) (n : V3) → ArePlaneNumbers planes facets numbers → slice_get facets p ≡ Some n → k ≡ get_or numbers p k → slice_get planes k ≡ Some (canon n)
 number_is planes facets numbers p k n are at e =
     let (j, here, there) = are.each p n at in
     let same : j ≡ k = some_injective j k (sym here ∙ place_is numbers p k (number_within planes facets numbers p n are at) e) in
