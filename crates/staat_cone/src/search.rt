@@ -11,7 +11,7 @@ use staat_model::Piece;
 use staat_vec::{DIFF, NORMAL, ORIGIN, POINT, V3, add, neg};
 
 // how often a normal is tested, and corrected where something lies behind it
-const CORRECTIONS: u32 = 24;
+const CORRECTIONS: u32 = 16;
 
 // how many times the difference that lies behind it is added to the first normal
 const WEIGHT: i128 = 1 << 12;

@@ -28,15 +28,42 @@ fn links(pair: Arc, p: u32, q: u32) -> bool {
     pair.a == p && pair.b == q || pair.a == q && pair.b == p
 }
 
-// how many pairs there are of a piece of p and one of q
-fn count_links<S: PairSource>(source: &S, p: u32, q: u32) -> u32 {
-    let mut count: u32 = 0;
-    for pair in source.pairs() {
-        if links(*pair, p, q) {
-            count = count.saturating_add(1);
+// How many pairs link each two parts. It says which are worth a look, no more.
+#[derive(Drop)]
+struct LinkCounts {
+    counts: [u32; 1024],
+}
+
+// the place of the count of p and q
+fn place_of(p: u32, q: u32) -> usize {
+    (p % 32 * 32 + q % 32) as usize
+}
+
+impl LinkCounts {
+    // counts one more link from p to q
+    fn add(&mut self, p: u32, q: u32) {
+        if let Some(count) = self.counts.get_mut(place_of(p, q)) {
+            *count = count.saturating_add(1);
         }
     }
-    count
+
+    // those of the pairs
+    fn of<S: PairSource>(source: &S) -> LinkCounts {
+        let mut links = LinkCounts { counts: [0; 1024] };
+        for pair in source.pairs() {
+            links.add(pair.a, pair.b);
+            links.add(pair.b, pair.a);
+        }
+        links
+    }
+
+    // how many pairs link p and q
+    fn between(&self, p: u32, q: u32) -> u32 {
+        match self.counts.get(place_of(p, q)) {
+            Some(count) => *count,
+            None => 0,
+        }
+    }
 }
 
 impl Core {
@@ -65,14 +92,14 @@ fn core_of_two<S: PairSource>(source: &S, p: u32, q: u32, count: u32) -> Core
 }
 
 // whether the parts p and q are seen to hold each other along all directions
-fn is_bond<S: PairSource>(source: &S, p: u32, q: u32) -> bool
+fn is_bond<S: PairSource>(source: &S, links: &LinkCounts, p: u32, q: u32) -> bool
     requires p { p < MOST_PARTS }
     requires q { q < MOST_PARTS }
     ensures { IsTrue result → (parts : List PartValue) (w : PartSetValue) (d : Vector)
         → S.speaks source.now parts → d ≢ origin → Has w p → Has w q
         → AreTogether parts (both_ways (S.pairs source.now)) w d p q }
 {
-    let count = count_links(source, p, q);
+    let count = links.between(p, q);
     if count < LEAST_LINKS {
         return false;
     }
@@ -85,7 +112,14 @@ fn is_bond<S: PairSource>(source: &S, p: u32, q: u32) -> bool
 }
 
 // the parts that are bound, with q if it is one of some parts to which p is seen to be bound
-fn with_bond<S: PairSource>(source: &S, p: u32, q: u32, among: PartSet, bound: PartSet) -> PartSet
+fn with_bond<S: PairSource>(
+    source: &S,
+    links: &LinkCounts,
+    p: u32,
+    q: u32,
+    among: PartSet,
+    bound: PartSet,
+) -> PartSet
     requires p { p < MOST_PARTS }
     requires q { q < MOST_PARTS }
     ensures within { (x : ℕ) → Has result x → Has bound x ⊎ Has among x }
@@ -96,14 +130,14 @@ fn with_bond<S: PairSource>(source: &S, p: u32, q: u32, among: PartSet, bound: P
     if !among.has(q) {
         return bound;
     }
-    if !is_bond(source, p, q) {
+    if !is_bond(source, links, p, q) {
         return bound;
     }
     bound.union(PartSet::single(q))
 }
 
 // those of some parts that p is seen to be bound to
-fn bound_to<S: PairSource>(source: &S, p: u32, among: PartSet) -> PartSet
+fn bound_to<S: PairSource>(source: &S, links: &LinkCounts, p: u32, among: PartSet) -> PartSet
     requires { p < MOST_PARTS }
     ensures within { IsSubset result among }
     ensures bound { (parts : List PartValue) (w : PartSetValue) (d : Vector) (q : ℕ) → S.speaks source.now parts
@@ -112,7 +146,7 @@ fn bound_to<S: PairSource>(source: &S, p: u32, among: PartSet) -> PartSet
 {
     let mut bound = PartSet::empty();
     for q in 0..MOST_PARTS {
-        bound = with_bond(source, p, q, among, bound);
+        bound = with_bond(source, links, p, q, among, bound);
     }
     bound
 }
@@ -128,6 +162,7 @@ pub(crate) fn stays_together<S: PairSource>(source: &S, w: PartSet) -> bool
 {
     // all members are below the number of bits
     let _bits = w.bits();
+    let links = LinkCounts::of(source);
     let root = w.least();
     let mut joined = PartSet::single(root);
     let mut left = joined;
@@ -137,7 +172,7 @@ pub(crate) fn stays_together<S: PairSource>(source: &S, w: PartSet) -> bool
         }
         let p = left.least();
         let rest = w.without(joined);
-        let bound = bound_to(source, p, rest);
+        let bound = bound_to(source, &links, p, rest);
         joined = joined.union(bound);
         let more = left.union(bound);
         let gone = PartSet::single(p);

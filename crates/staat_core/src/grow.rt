@@ -216,7 +216,8 @@ impl Core {
     }
 
     // The core grows until nothing of w moves along the direction, as far as it tells; false where it cannot. The graph
-    // of its pairs along it is given.
+    // of its pairs along it is given. What blocks is kept on the stack and is large, and most directions need none.
+    #[inline(never)]
     fn grow_at<S: PairSource>(
         &mut self,
         source: &S,

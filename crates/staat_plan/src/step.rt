@@ -46,7 +46,7 @@ pub(crate) fn step_of(table: &PlaneTable, w: PartSet) -> Option<Step>
 }
 
 /// How many pairs of planes are tried one by one before a core is asked.
-const FEW_PAIRS: u32 = 24;
+const FEW_PAIRS: u32 = 8;
 
 /// How many pairs of planes are tried, at most, where a core passes over planes.
 const LATE_PAIRS: u32 = 4096;

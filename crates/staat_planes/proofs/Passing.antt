@@ -1,30 +1,52 @@
--- What a loop that tests each member of a list has found of those it has passed.
-use Rattle.std.proofs.Common.{◌≡◌, ◌↔◌, ◌<◌, ◌≤◌, ℕ, ◌+◌, ◌∙◌, ◌∷◌, [], ◌++◌, ap, refl, sym, subst, Bool, List, All, get_or, length, take, true≢false}
-use Rattle.std.specs.Prelude.{IsTrue, not, true}
-use Rattle.std.proofs.Math.Seq.{take-append_seam}
-use Rattle.std.proofs.lemmas.List.Elements.{All-more, All-nil, All-take}
-use Rattle.std.proofs.lemmas.Option.{slice_get-get_or}
-use Rattle.staat_vec.proofs.ListLaws.{All-at, All-taken, push_end, take_next}
+-- How a direction leads past facets, by the first of them and the others.
+use Rattle.std.proofs.Common.{◌≡◌, ◌↔◌, ◌∷◌, ◌∙◌, ℤ, pos, ◌<ℤ◌, Bool, FitsSigned, arith, subst, sym, List, All, of_z, to_z}
+use Rattle.std.specs.Prelude.{IsTrue, false, true}
+use Rattle.std.specs.Int.{Width}
+use Rattle.std.specs.Int.Signed.{le_z, lt_z}
+use Rattle.std.proofs.lemmas.Bool.{false≢true}
+use Rattle.std.proofs.lemmas.Int.{ints, to_z-of_z}
+use Rattle.std.proofs.lemmas.List.Elements.{All-cons, All-head, All-rest, All-same}
+use Rattle.staat_vec.proofs.Integers.{is_less}
 
-pub none_passed : {X : Type 0} (P : X → Type 0) → IsTrue true ↔ All P []
-none_passed P = (λ t. All-nil P, λ all. refl)
+below : (z : ℤ) → le_z (pos 0) z ≡ false → z <ℤ pos 0
+below z h = grind (arith, ints, h)
 
-module _ {X : Type 0} (P : X → Type 0) (xs : List X) (k : ℕ) (passed : Bool) (told : IsTrue passed ↔ All P (take k xs)) where
-  pub one_passed : (d : X) (one next : Bool) → k < length xs → IsTrue one ↔ P (get_or xs k d) → IsTrue next ↔ (IsTrue passed × IsTrue one) → IsTrue next ↔ All P (take (k + 1) xs)
-  one_passed d one next lt here both = (
-    λ t. All-more P xs k d lt (told.0 (both.0 t).0) (here.0 (both.0 t).1),
-    λ all.
-        let x : X = get_or xs k d in
-        let pushed : All P (take k xs ++ x ∷ []) = subst (All P) (take_next xs k x (slice_get-get_or xs k d lt)) all in
-        both.1 (
-          told.1 (subst (All P) (take-append_seam (take k xs) (x ∷ [])) (All-take P (length (take k xs)) (take k xs ++ x ∷ []) pushed)),
-          here.1 (All-at P (take k xs ++ x ∷ []) (length (take k xs)) x (push_end (take k xs) x) pushed),
-        ),
+not_below : (z : ℤ) → le_z (pos 0) z ≡ true → z <ℤ pos 0 → ⊥
+not_below z h k = grind (arith, ints, h, k)
+
+pub not_both : (z : ℤ) → pos 0 <ℤ z → z <ℤ pos 0 → ⊥
+not_both z h k = grind (arith, ints, h, k)
+
+-- a product, as the word that has it
+module _ (w : Width) (r x : ℤ) (fits : FitsSigned w r) (e : r ≡ x) where
+  read : to_z w (of_z w r) ≡ x
+  read = to_z-of_z w r fits ∙ e
+
+  pub is_behind : le_z (pos 0) (to_z w (of_z w r)) ≡ false → x <ℤ pos 0
+  is_behind h = below x (subst (λ z. le_z (pos 0) z ≡ false) read h)
+
+  pub not_behind : le_z (pos 0) (to_z w (of_z w r)) ≡ true → x <ℤ pos 0 → ⊥
+  not_behind h = not_below x (subst (λ z. le_z (pos 0) z ≡ true) read h)
+
+  pub told_ahead : IsTrue (lt_z (pos 0) (to_z w (of_z w r))) ↔ (pos 0 <ℤ x)
+  told_ahead = subst (λ z. IsTrue (lt_z (pos 0) z) ↔ (pos 0 <ℤ x)) (sym read) (is_less (pos 0) x)
+
+  pub told_behind : IsTrue (lt_z (to_z w (of_z w r)) (pos 0)) ↔ (x <ℤ pos 0)
+  told_behind = subst (λ z. IsTrue (lt_z z (pos 0)) ↔ (x <ℤ pos 0)) (sym read) (is_less x (pos 0))
+
+pub untold : {X : Type 0} (b : Bool) → b ≡ false → IsTrue b ↔ X → X → ⊥
+untold b h told x = false≢true (sym h ∙ told.1 x)
+
+-- a first member and others
+module _ {X : Type 0} (P : X → Type 0) (members others : List X) (first : X) (are : members ≡ first ∷ others) where
+  pub by_others : (b : Bool) → P first → IsTrue b ↔ All P others → IsTrue b ↔ All P members
+  by_others b here told = (
+    λ t. All-same P members (first ∷ others) are (All-cons P first others here (told.0 t)),
+    λ all. told.1 (All-rest P first others members are all),
   )
 
-  -- a member that was passed fails
-  pub one_fails : not passed ≡ true → IsTrue passed ↔ All P xs
-  one_fails fails = (λ t. absurd (true≢false (sym fails ∙ ap not t)), λ all. told.1 (All-take P k xs all))
-
-  pub all_passed : length xs ≤ k → IsTrue passed ↔ All P xs
-  all_passed le = (λ t. All-taken P xs k le (told.0 t), λ all. told.1 (All-take P k xs all))
+  pub by_first : (b : Bool) → (IsTrue b → ⊥) → (P first → ⊥) → IsTrue b ↔ All P members
+  by_first b none fails = (
+    λ t. absurd (none t),
+    λ all. absurd (fails (All-head P first others (All-same P (first ∷ others) members (sym are) all))),
+  )

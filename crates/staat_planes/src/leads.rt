@@ -27,17 +27,6 @@ impl Leads {
         }
     }
 
-    /// What is so of both.
-    pub(crate) fn and(self, o: Leads) -> Leads
-        ensures ahead { IsTrue result.ahead ↔ (IsTrue self.ahead × IsTrue o.ahead) }
-        ensures behind { IsTrue result.behind ↔ (IsTrue self.behind × IsTrue o.behind) }
-    {
-        Leads {
-            ahead: self.ahead & o.ahead,
-            behind: self.behind & o.behind,
-        }
-    }
-
     /// What is so of one of the two.
     pub(crate) fn or(self, o: Leads) -> Leads
         ensures ahead { IsTrue result.ahead ↔ (IsTrue self.ahead ⊎ IsTrue o.ahead) }
@@ -96,41 +85,64 @@ impl Heading {
         }
     }
 
-    // how it leads past one facet
-    fn past_one(&self, n: V3) -> Leads
-        requires normal { IsWithin NORMAL n }
-        requires small { IsTrue self.now.fair → IsWithin SMALL n }
-        ensures ahead { IsTrue result.ahead ↔ (pos 0 <ℤ dot n self.now.d) }
-        ensures behind { IsTrue result.behind ↔ (dot n self.now.d <ℤ pos 0) }
+    // whether it leads ahead of all the facets
+    fn is_ahead(&self, facets: &[V3]) -> bool
+        requires normals { All (IsWithin NORMAL) facets.now }
+        requires small { IsTrue self.now.fair → All (IsWithin SMALL) facets.now }
+        ensures { IsTrue result ↔ All (λ n. pos 0 <ℤ dot n self.now.d) facets.now }
     {
-        let along = self.along(n);
-        Leads {
-            ahead: along > 0,
-            behind: along < 0,
+        for n in facets {
+            if self.along(*n) <= 0 {
+                return false;
+            }
         }
+        true
+    }
+
+    // whether it leads behind all the facets
+    fn is_behind(&self, facets: &[V3]) -> bool
+        requires normals { All (IsWithin NORMAL) facets.now }
+        requires small { IsTrue self.now.fair → All (IsWithin SMALL) facets.now }
+        ensures { IsTrue result ↔ All (λ n. dot n self.now.d <ℤ pos 0) facets.now }
+    {
+        for n in facets {
+            if self.along(*n) >= 0 {
+                return false;
+            }
+        }
+        true
     }
 
     /// Whether it leads ahead of all the facets, and whether it leads behind all. Of the facets of two pieces it says
     /// whether the first, moved along the direction, meets the second, and whether the second meets the first.
     ///
-    /// The components of the facets are at most [`NORMAL`] in absolute value, and at most [`SMALL`] if it is fair. Each
-    /// facet is looked at once, and the search ends where neither is left.
+    /// The components of the facets are at most [`NORMAL`] in absolute value, and at most [`SMALL`] if it is fair. The
+    /// first facet tells which of the two may be so, and the search ends at one of which it is not.
     pub fn past(&self, facets: &[V3]) -> Leads
         requires normals { All (IsWithin NORMAL) facets.now }
         requires small { IsTrue self.now.fair → All (IsWithin SMALL) facets.now }
         ensures ahead { IsTrue result.ahead ↔ All (λ n. pos 0 <ℤ dot n self.now.d) facets.now }
         ensures behind { IsTrue result.behind ↔ All (λ n. dot n self.now.d <ℤ pos 0) facets.now }
     {
-        let mut leads = Leads {
-            ahead: true,
-            behind: true,
+        let Some((first, others)) = facets.split_first() else {
+            return Leads {
+                ahead: true,
+                behind: true,
+            };
         };
-        for n in facets {
-            leads = leads.and(self.past_one(*n));
-            if !leads.ahead && !leads.behind {
-                return leads;
+        let along = self.along(*first);
+        if along > 0 {
+            Leads {
+                ahead: self.is_ahead(others),
+                behind: false,
             }
+        } else if along < 0 {
+            Leads {
+                ahead: false,
+                behind: self.is_behind(others),
+            }
+        } else {
+            Leads::neither()
         }
-        leads
     }
 }

@@ -1,29 +1,50 @@
-use Rattle.std.proofs.Common.{◌+◌, ◌<ℤ◌, pos}
-use Rattle.staat_vec.specs.Vectors.{dot, origin}
-use Rattle.staat_planes.proofs.Passing.{all_passed, none_passed, one_fails, one_passed}
+use Rattle.std.proofs.Common.{◌<ℤ◌, pos}
+use Rattle.std.specs.Prelude.{false}
+use Rattle.std.proofs.lemmas.Bool.{false≢true}
+use Rattle.std.proofs.lemmas.List.Elements.{All-rest}
+use Rattle.std.specs.Int.{w128}
+use Rattle.staat_vec.specs.declared.vector.TheConstants.{NORMAL}
+use Rattle.staat_vec.specs.declared.words.TheConstants.{SMALL}
+use Rattle.staat_vec.specs.Vectors.{IsWithin, dot}
+use Rattle.staat_planes.proofs.Passing.{by_first, by_others, not_both, told_ahead, told_behind, untold}
 use Rattle.staat_planes.proofs.leads.Heading.past.Goals as goal
 
-pub loop-n-init : goal.loop-n-init
-loop-n-init c = record { ahead = none_passed (λ n. pos 0 <ℤ dot n c.args.self.now.d); behind = none_passed (λ n. dot n c.args.self.now.d <ℤ pos 0) }
+pub is_ahead-requires-clause-small : goal.is_ahead-requires-clause-small
+is_ahead-requires-clause-small c fair = All-rest (IsWithin SMALL) c.in-Some.first.now c.in-Some.others.now c.args.facets.now c.in-Some.ensures.cases.0 (c.requires.small fair)
 
-pub loop-n-preserved : goal.loop-n-preserved
-loop-n-preserved c = record {
-  ahead = one_passed (λ n. pos 0 <ℤ dot n c.args.self.now.d) c.args.facets.now c.loop-n.n-index c.loop-n.leads.ahead c.loop-n.invariant.ahead origin c.past_one.result.ahead c.and-leads.result.ahead c.loop-n-test.true c.past_one.ensures.ahead c.and-leads.ensures.ahead;
-  behind = one_passed (λ n. dot n c.args.self.now.d <ℤ pos 0) c.args.facets.now c.loop-n.n-index c.loop-n.leads.behind c.loop-n.invariant.behind origin c.past_one.result.behind c.and-leads.result.behind c.loop-n-test.true c.past_one.ensures.behind c.and-leads.ensures.behind;
-}
+pub is_behind-requires-clause-normals : goal.is_behind-requires-clause-normals
+is_behind-requires-clause-normals c = All-rest (IsWithin NORMAL) c.in-Some.first.now c.in-Some.others.now c.args.facets.now c.in-Some.ensures.cases.0 c.requires.normals
 
-pub returns-then-not-leads-2-clause-ahead : goal.returns-then-not-leads-2-clause-ahead
-returns-then-not-leads-2-clause-ahead c =
-    let told = one_passed (λ n. pos 0 <ℤ dot n c.args.self.now.d) c.args.facets.now c.loop-n.n-index c.loop-n.leads.ahead c.loop-n.invariant.ahead origin c.past_one.result.ahead c.and-leads.result.ahead c.loop-n-test.true c.past_one.ensures.ahead c.and-leads.ensures.ahead in
-    one_fails (λ n. pos 0 <ℤ dot n c.args.self.now.d) c.args.facets.now (c.loop-n.n-index + 1) c.and-leads.result.ahead told c.if-not-leads.true
+pub is_behind-requires-clause-small : goal.is_behind-requires-clause-small
+is_behind-requires-clause-small c fair = All-rest (IsWithin SMALL) c.in-Some.first.now c.in-Some.others.now c.args.facets.now c.in-Some.ensures.cases.0 (c.requires.small fair)
 
-pub returns-then-not-leads-2-clause-behind : goal.returns-then-not-leads-2-clause-behind
-returns-then-not-leads-2-clause-behind c =
-    let told = one_passed (λ n. dot n c.args.self.now.d <ℤ pos 0) c.args.facets.now c.loop-n.n-index c.loop-n.leads.behind c.loop-n.invariant.behind origin c.past_one.result.behind c.and-leads.result.behind c.loop-n-test.true c.past_one.ensures.behind c.and-leads.ensures.behind in
-    one_fails (λ n. dot n c.args.self.now.d <ℤ pos 0) c.args.facets.now (c.loop-n.n-index + 1) c.and-leads.result.behind told c.if-not-leads-2.true
+pub returns-then-along-gt0-clause-ahead : goal.returns-then-along-gt0-clause-ahead
+returns-then-along-gt0-clause-ahead c =
+    by_others (λ n. pos 0 <ℤ dot n c.args.self.now.d) c.args.facets.now c.in-Some.others.now c.in-Some.first.now c.in-Some.ensures.cases.0 c.is_ahead.result
+    ((told_ahead w128 c.along-along.result (dot c.in-Some.first.now c.args.self.now.d) (record { sfits = c.along-along.type_inv }) c.along-along.ensures).0 c.if-along-gt0.true) c.is_ahead.ensures
 
-pub returns-clause-ahead : goal.returns-clause-ahead
-returns-clause-ahead c = all_passed (λ n. pos 0 <ℤ dot n c.args.self.now.d) c.args.facets.now c.loop-n.n-index c.loop-n.leads.ahead c.loop-n.invariant.ahead c.loop-n-test.false
+pub returns-then-along-gt0-clause-behind : goal.returns-then-along-gt0-clause-behind
+returns-then-along-gt0-clause-behind c =
+    let along = dot c.in-Some.first.now c.args.self.now.d in
+    by_first (λ n. dot n c.args.self.now.d <ℤ pos 0) c.args.facets.now c.in-Some.others.now c.in-Some.first.now c.in-Some.ensures.cases.0 false false≢true
+    (not_both along ((told_ahead w128 c.along-along.result along (record { sfits = c.along-along.type_inv }) c.along-along.ensures).0 c.if-along-gt0.true))
 
-pub returns-clause-behind : goal.returns-clause-behind
-returns-clause-behind c = all_passed (λ n. dot n c.args.self.now.d <ℤ pos 0) c.args.facets.now c.loop-n.n-index c.loop-n.leads.behind c.loop-n.invariant.behind c.loop-n-test.false
+pub returns-then-along-lt0-clause-ahead : goal.returns-then-along-lt0-clause-ahead
+returns-then-along-lt0-clause-ahead c =
+    by_first (λ n. pos 0 <ℤ dot n c.args.self.now.d) c.args.facets.now c.in-Some.others.now c.in-Some.first.now c.in-Some.ensures.cases.0 false false≢true
+    (untold _ c.if-along-gt0.false (told_ahead w128 c.along-along.result (dot c.in-Some.first.now c.args.self.now.d) (record { sfits = c.along-along.type_inv }) c.along-along.ensures))
+
+pub returns-then-along-lt0-clause-behind : goal.returns-then-along-lt0-clause-behind
+returns-then-along-lt0-clause-behind c =
+    by_others (λ n. dot n c.args.self.now.d <ℤ pos 0) c.args.facets.now c.in-Some.others.now c.in-Some.first.now c.in-Some.ensures.cases.0 c.is_behind.result
+    ((told_behind w128 c.along-along.result (dot c.in-Some.first.now c.args.self.now.d) (record { sfits = c.along-along.type_inv }) c.along-along.ensures).0 c.if-along-lt0.true) c.is_behind.ensures
+
+pub returns-else-along-lt0-clause-ahead : goal.returns-else-along-lt0-clause-ahead
+returns-else-along-lt0-clause-ahead c =
+    by_first (λ n. pos 0 <ℤ dot n c.args.self.now.d) c.args.facets.now c.in-Some.others.now c.in-Some.first.now c.in-Some.ensures.cases.0 c.neither.result.ahead c.neither.ensures.ahead
+    (untold _ c.if-along-gt0.false (told_ahead w128 c.along-along.result (dot c.in-Some.first.now c.args.self.now.d) (record { sfits = c.along-along.type_inv }) c.along-along.ensures))
+
+pub returns-else-along-lt0-clause-behind : goal.returns-else-along-lt0-clause-behind
+returns-else-along-lt0-clause-behind c =
+    by_first (λ n. dot n c.args.self.now.d <ℤ pos 0) c.args.facets.now c.in-Some.others.now c.in-Some.first.now c.in-Some.ensures.cases.0 c.neither.result.behind c.neither.ensures.behind
+    (untold _ c.if-along-lt0.false (told_behind w128 c.along-along.result (dot c.in-Some.first.now c.args.self.now.d) (record { sfits = c.along-along.type_inv }) c.along-along.ensures))
