@@ -17,6 +17,7 @@ use Rattle.staat_vec.proofs.ListLaws.{only_one}
 use Rattle.staat_vec.proofs.Naturals.{lt_one_more_cases, lt_or_le, same_or, trichotomy}
 use Rattle.staat_vec.proofs.Unique.{Contains-front, Contains-nothing}
 use Rattle.staat_vec.proofs.VectorLaws.{det_back}
+use Rattle.staat_planes.proofs.Passing.{not_both}
 use Rattle.staat_ring.specs.declared.entry.Entry.{Entry}
 use Rattle.staat_ring.specs.Order.{AreInOrder, HasEntryOfPlane, IsBreak, IsInserted, IsOrderOf, IsTransitive, CrossesBefore, entry_at, facet_of, no_entry, order_det}
 use Rattle.staat_ring.proofs.NextVertexWithout.{three}
@@ -26,10 +27,7 @@ pub order_sign : (planes : List V3) (g : V3) (e f : Entry) (a b : V3) (s t : Sig
 order_sign planes g e f a b s t ea eb told is = sym (told ∙ (λ i. sign (det g (ea i) (eb i)))) ∙ is
 
 pub not_precedes : (planes : List V3) (g : V3) (e f : Entry) → order_det planes g e f <ℤ pos 0 → CrossesBefore planes g e f → ⊥
-not_precedes planes g e f n (inl p) = opposed (order_det planes g e f) p n
-  where
-    opposed : (z : ℤ) → pos 0 <ℤ z → z <ℤ pos 0 → ⊥
-    opposed z p n = omega (arith, ints)
+not_precedes planes g e f n (inl p) = not_both (order_det planes g e f) p n
 not_precedes planes g e f n (inr (z, lt)) = zero_not_negative (order_det planes g e f) z n
 
 -- of two entries of different planes one precedes the other
