@@ -14,7 +14,9 @@ use crate::marked::Marked;
 use crate::side_trial::{SideLook, SideTrial};
 use staat_core::served_on_axis;
 use staat_model::{PartSet, Step};
-use staat_planes::{PlanePairs, PlaneTable, Search, Trial, first_few, first_passing, first_vertex};
+use staat_planes::{
+    FEW_PAIRS, PlanePairs, PlaneTable, Search, Trial, first_few, first_passing, first_vertex,
+};
 use staat_vec::DIRECTION;
 
 /// The step of a set of at least two parts that lies in the table's set: the first of the vertices of its planes along
@@ -44,9 +46,6 @@ pub(crate) fn step_of(table: &PlaneTable, w: PartSet) -> Option<Step>
         }),
     }
 }
-
-/// How many pairs of planes are tried one by one before a core is asked.
-const FEW_PAIRS: u32 = 8;
 
 /// How many pairs of planes are tried, at most, where a core passes over planes.
 const LATE_PAIRS: u32 = 4096;

@@ -18,7 +18,7 @@ pub use leads::{Heading, Leads};
 pub use pairs::PlanePairs;
 pub use refusal::PlanesRefusal;
 pub use search::{
-    Search, Served, Trial, Tried, first_few, first_left, first_passing, first_vertex,
+    FEW_PAIRS, Search, Served, Trial, Tried, first_few, first_left, first_passing, first_vertex,
 };
 pub use steps::Steps;
 pub use table::PlaneTable;

@@ -101,7 +101,7 @@ pub trait Trial {
 }
 
 /// How many pairs of planes are tried one by one before it is asked whether no direction serves.
-const FEW_PAIRS: u32 = 24;
+pub const FEW_PAIRS: u32 = 8;
 
 // Passes over the rows of pairs whose plane has no direction that serves, from a row that begins at the place. On a row
 // that is not passed over nothing changes.
