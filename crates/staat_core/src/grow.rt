@@ -1,11 +1,11 @@
 // How a core grows at a direction.
-ghost use Rattle.std.specs.Prelude.{◌≡◌, List, All, Contains, IfSome, IsTrue};
+ghost use Rattle.std.specs.Prelude.{◌≡◌, ℕ, List, All, Contains, IfSome, IsTrue};
 ghost use Rattle.staat_vec.specs.declared.vector.V3.{V3 as Vector};
 ghost use Rattle.staat_vec.specs.Vectors.{IsWithin};
 ghost use Rattle.staat_model.specs.declared.assembly.Part.{Part as PartValue};
 ghost use Rattle.staat_model.specs.declared.certificate.Arc.{Arc as ArcValue};
 ghost use Rattle.staat_model.specs.Sets.{IsNonempty};
-ghost use Rattle.staat_graph.specs.Graphs.{AreReversed};
+ghost use Rattle.staat_graph.specs.Graphs.{AreReversed, HasArc};
 ghost use Rattle.staat_core.specs.Cores.{AreLeading, HasGrown, IsCore, core_pairs};
 ghost use Rattle.staat_core.specs.Moves.{HoldsMoves};
 ghost use Rattle.staat_core.specs.Sources.{IsNormal, IsSmallPair, both_ways};
@@ -131,21 +131,21 @@ fn is_link(pair: Arc, turned: bool, s: PartSet, r: PartSet) -> bool
 }
 
 impl Core {
-    // the graph of the pairs along the direction
-    fn joins_at<S: PairSource>(&self, source: &S, heading: &Heading) -> Joins
+    // adds the arcs of the pairs along the direction to a graph that has none
+    fn put_joins<S: PairSource>(&self, source: &S, heading: &Heading, joins: &mut Joins)
         requires core { IsCore (S.pairs source.now) (S.speaks source.now) self.now }
         requires low { IsTrue heading.now.fair → IsTrue (S.low source.now) }
-        ensures reversed { AreReversed result.ahead.rows result.back.rows }
+        requires none { (a b : ℕ) → HasArc joins.old.ahead.rows a b → ⊥ }
+        requires reversed { AreReversed joins.old.ahead.rows joins.old.back.rows }
+        ensures reversed { AreReversed joins.new.ahead.rows joins.new.back.rows }
         ensures leads { (parts : List PartValue) → S.speaks source.now parts
-            → AreLeading parts (core_pairs self.now) heading.now.d result.ahead.rows }
+            → AreLeading parts (core_pairs self.now) heading.now.d joins.new.ahead.rows }
     {
         // the parts of the pairs are below the number of rows
         let _pairs = source.pairs();
-        let mut joins = Joins::none();
         for pair in self.pairs() {
-            put_pair(&mut joins, source, *pair, heading);
+            put_pair(joins, source, *pair, heading);
         }
-        joins
     }
 
     // of the best pair so far and another the one whose planes are less wanting
@@ -276,7 +276,8 @@ impl Core {
             → HoldsMoves parts (both_ways (core_pairs self.new)) moving w d }
     {
         let heading = Heading::of(d, source.has_low_facets());
-        let joins = self.joins_at(source, &heading);
+        let mut joins = Joins::none();
+        self.put_joins(source, &heading, &mut joins);
         match joins.shut(w, moving) {
             None => true,
             Some(_) => self.grow_at(source, w, moving, &heading, joins),

@@ -7,8 +7,8 @@ use Rattle.staat_core.specs.Sources.{both_ways}
 use Rattle.staat_core.proofs.Holding.{held_by_arcs}
 use Rattle.staat_core.proofs.cores.Core.settle.Goals as goal
 
-pub joins_at-joins-requires-clause-low : goal.joins_at-joins-requires-clause-low
-joins_at-joins-requires-clause-low g c fair = subst IsTrue c.has_low_facets.ensures (c.of-heading.ensures.small fair)
+pub put_joins-requires-clause-low : goal.put_joins-requires-clause-low
+put_joins-requires-clause-low g c fair = subst IsTrue c.has_low_facets.ensures (c.of-heading.ensures.small fair)
 
 pub grow_at-requires-clause-low : goal.grow_at-requires-clause-low
 grow_at-requires-clause-low g c fair = subst IsTrue c.has_low_facets.ensures (c.of-heading.ensures.small fair)
@@ -16,7 +16,7 @@ grow_at-requires-clause-low g c fair = subst IsTrue c.has_low_facets.ensures (c.
 pub returns-in-None-clause-held : goal.returns-in-None-clause-held
 returns-in-None-clause-held g c told parts speaks =
     subst (λ (e : V3). HoldsMoves parts (both_ways (core_pairs c.args.self.now)) c.args.moving c.args.w e) c.of-heading.ensures.is
-    (held_by_arcs parts (core_pairs c.args.self.now) c.args.moving c.args.w c.of-heading.result.d c.joins_at-joins.result.ahead.rows (c.joins_at-joins.ensures.leads parts speaks) c.in-None.ensures)
+    (held_by_arcs parts (core_pairs c.args.self.now) c.args.moving c.args.w c.of-heading.result.d c.put_joins.new.joins.ahead.rows (c.put_joins.ensures.leads parts speaks) c.in-None.ensures)
 
 pub returns-in-Some-clause-held : goal.returns-in-Some-clause-held
 returns-in-Some-clause-held g c told parts speaks =

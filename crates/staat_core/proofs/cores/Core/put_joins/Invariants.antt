@@ -2,7 +2,7 @@ use Rattle.std.proofs.Common.{List}
 use Rattle.staat_model.specs.declared.assembly.Part.{Part}
 use Rattle.staat_graph.specs.Graphs.{AreReversed}
 use Rattle.staat_core.specs.Cores.{AreLeading, core_pairs}
-use Rattle.staat_core.proofs.cores.Core.joins_at.Given as goal
+use Rattle.staat_core.proofs.cores.Core.put_joins.Given as goal
 
 abbrev pub invariant-loop-pair : goal.invariant-loop-pair
 invariant-loop-pair g l = record {

@@ -3,7 +3,7 @@ use Rattle.std.proofs.lemmas.List.Elements.{All-contains, All-get_or, Contains-g
 use Rattle.staat_model.specs.declared.certificate.Arc.{Arc}
 use Rattle.staat_core.specs.Cores.{core_pairs}
 use Rattle.staat_core.specs.Sources.{IsSmallPair}
-use Rattle.staat_core.proofs.cores.Core.joins_at.Goals as goal
+use Rattle.staat_core.proofs.cores.Core.put_joins.Goals as goal
 
 abbrev nowhere : Arc
 nowhere = record { a = 0; i = 0; b = 0; j = 0 }
@@ -12,7 +12,7 @@ listed : (pairs some items : List Arc) (k : ℕ) (d : Arc) → items ≡ some �
 listed pairs some items k d e all lt = All-get_or (Contains pairs) items k d lt (subst (All (Contains pairs)) (sym e) all)
 
 pub loop-pair-init : goal.loop-pair-init
-loop-pair-init g c = record { reversed = c.none-joins.ensures.reversed; leads = λ parts speaks a b h. absurd (c.none-joins.ensures.ahead a b h) }
+loop-pair-init g c = record { reversed = c.requires.reversed; leads = λ parts speaks a b h. absurd (c.requires.none a b h) }
 
 pub put_pair-requires-clause-pair : goal.put_pair-requires-clause-pair
 put_pair-requires-clause-pair g c = listed (g.S.PairSource.pairs c.args.source.now) (core_pairs c.args.self.now) c.pairs-pair-items.result.now c.loop-pair.pair-index nowhere c.pairs-pair-items.ensures c.requires.core.among c.loop-pair-test.true
