@@ -80,11 +80,12 @@ impl Core {
     }
 }
 
-// a core to begin with, of two parts that have so many pairs
+// A core to begin with, of two parts that have so many pairs: if they are few it has all of them, and no other is looked
+// for.
 fn core_of_two<S: PairSource>(source: &S, p: u32, q: u32, count: u32) -> Core
     ensures { IsCore (S.pairs source.now) (S.speaks source.now) result }
 {
-    let mut core = Core::none();
+    let mut core = Core::empty(count > FEW_LINKS);
     if count <= FEW_LINKS {
         core.take_links(source, p, q);
     }

@@ -45,11 +45,20 @@ pub struct Core {
     used: u32,
     // the bits of the planes in use
     bits: u128,
+    // whether pairs are looked for where it does not hold
+    grows: bool,
 }
 
 impl Core {
     /// A core without pairs.
     pub fn none() -> Core
+        ensures { IsEmptyCore result }
+    {
+        Core::empty(true)
+    }
+
+    /// A core without pairs, which looks for some where it does not hold, or has but those that it is given.
+    pub(crate) fn empty(grows: bool) -> Core
         ensures { IsEmptyCore result }
     {
         let nowhere = Arc {
@@ -68,7 +77,13 @@ impl Core {
             planes,
             used: 3,
             bits: bit_of(planes[0]) | bit_of(planes[1]) | bit_of(planes[2]),
+            grows,
         }
+    }
+
+    /// Whether it looks for pairs where it does not hold.
+    pub(crate) fn grows(&self) -> bool {
+        self.grows
     }
 
     /// The pairs.

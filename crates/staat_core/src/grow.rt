@@ -237,6 +237,9 @@ impl Core {
         ensures held { IsTrue result → (parts : List PartValue) → S.speaks source.now parts
             → HoldsMoves parts (both_ways (core_pairs self.new)) moving w heading.now.d }
     {
+        if !self.grows() {
+            return false;
+        }
         // the parts of the pairs are below the number of rows
         let _pairs = source.pairs();
         let blocking = Blocking::at(source, w, heading);

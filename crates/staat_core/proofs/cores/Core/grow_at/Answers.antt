@@ -80,3 +80,6 @@ take-requires-clause-pair g c = c.in-Some-wanted.ensures
 
 pub shut-requires-clause-reversed : goal.shut-requires-clause-reversed
 shut-requires-clause-reversed g c = c.loop-k.invariant.reversed
+
+pub returns-then-not-grows-clause-grows : goal.returns-then-not-grows-clause-grows
+returns-then-not-grows-clause-grows g c = grows_not c.args.self.now
