@@ -1,10 +1,9 @@
 // What has been read of a text.
-use crate::stage::Stage;
 
-/// What has been read of a text: so many whole lines, and the front of the next one.
+/// What has been read of a text: so many whole lines, which a stage has taken, and the front of the next one.
 #[derive(Drop)]
-pub struct Progress {
-    pub stage: Stage,
+pub struct Progress<S> {
+    pub stage: S,
     pub line: Vec<u8>,
     /// Room for the numbers of a line.
     pub numbers: Vec<i128>,

@@ -3,8 +3,6 @@ pub mod FrontLines
 pub mod Completions
 pub mod ShortReadings
 pub mod Standing
-pub mod Steps
-pub mod Runs
 pub mod AddLemmas
 pub mod PlanTrees
 pub mod PlanSizes

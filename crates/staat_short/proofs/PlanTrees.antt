@@ -1,8 +1,7 @@
 -- The nodes of a plan are those of a whole tree without groups.
-use Rattle.std.proofs.Common.{◌≡◌, ◌++◌, ◌∷◌, List, [], All, ap, ap₂, refl}
+use Rattle.std.proofs.Common.{◌≡◌, ◌++◌, ◌∷◌, [], All, ap, ap₂, refl}
 use Rattle.std.proofs.lemmas.List.Elements.{All-append, All-cons, All-nil}
 use Rattle.staat_model.specs.Plans.{Plan, leaf, split}
-use Rattle.staat_short.specs.declared.short.ShortNode.{ShortNode}
 use Rattle.staat_short.specs.declared.short.ShortNode.TheVariants.{Leaf, Split}
 use Rattle.staat_short.specs.PlanNodes.{plan_nodes, without_groups}
 use Rattle.staat_short.specs.ShortTexts.{IsUngrouped, short_nodes_of}

@@ -1,12 +1,12 @@
 -- The text of a short certificate, and what is read in any bytes.
-use Rattle.std.specs.Prelude.{◌≡◌, ◌≢◌, ◌⊎◌, ℕ, ◌+◌, ◌*◌, ◌≤◌, List, [], ◌∷◌}
+use Rattle.std.specs.Prelude.{◌≡◌, ℕ, ◌+◌, ◌*◌, ◌≤◌, List, [], ◌∷◌}
 use Rattle.std.specs.Prelude.{◌++◌, map, length, flat_map, All}
 use Rattle.std.specs.List.Sorted.{IsStrictlySortedBy}
 use Rattle.std.specs.Ordering.{nat_cmp}
 use Rattle.staat_vec.specs.declared.vector.V3.{V3}
 use Rattle.staat_model.specs.Certificates.{arc_cmp}
-use Rattle.staat_model.specs.Texts.{IsLine, IsLongLine, joined}
 use Rattle.staat_holds.specs.declared.hold.Hold.{Hold}
+use Rattle.staat_cert.specs.TextLines.{IsCutShort, IsFirstBadOf}
 use Rattle.staat_short.specs.declared.short.ShortNode.{ShortNode}
 use Rattle.staat_short.specs.declared.short.ShortNode.TheVariants.{Leaf, Split, Group}
 use Rattle.staat_short.specs.declared.short.ShortAnswer.{ShortAnswer}
@@ -98,42 +98,10 @@ pub record IsShortTextOf (bytes : List ℕ) (c : ShortCertificate) : Type 0 wher
   pub form : IsShortInOrder c
   pub is : bytes ≡ short_text c
 
--- some certificate's text begins with the bytes
-pub record BeginsShortText (bytes : List ℕ) : Type 0 where
-  pub certificate : ShortCertificate
-  pub form : IsShortInOrder certificate
-  pub more : List ℕ
-  pub is : short_text certificate ≡ bytes ++ more
-
--- `ahead` begins with a whole line with which no certificate's text goes on after `before`
-pub record IsWrongShortLine (before ahead : List ℕ) : Type 0 where
-  pub line : List ℕ
-  pub rest : List ℕ
-  pub is : ahead ≡ line ++ rest
-  pub whole : IsLine line
-  pub wrong : BeginsShortText (before ++ line) → ⊥
-
--- `before` is a whole certificate's text, and bytes follow
-pub record IsShortExcess (before ahead : List ℕ) : Type 0 where
-  pub certificate : ShortCertificate
-  pub whole : IsShortTextOf before certificate
-  pub some : ahead ≢ []
-
--- the line that follows the text `before`, with which `ahead` begins, is bad
-abbrev pub IsBadShortAfter : List ℕ → List ℕ → Type 0
-IsBadShortAfter before ahead = IsWrongShortLine before ahead ⊎ (IsLongLine ahead ⊎ IsShortExcess before ahead)
-
 -- line number k, counted from 1, is the first bad one
-pub record IsFirstBadShortLine (bytes : List ℕ) (k : ℕ) : Type 0 where
-  pub before : List (List ℕ)
-  pub ahead : List ℕ
-  pub number : k ≡ length before + 1
-  pub is : bytes ≡ joined before ++ ahead
-  pub lines : All IsLine before
-  pub begins : BeginsShortText (joined before)
-  pub bad : IsBadShortAfter (joined before) ahead
+abbrev pub IsFirstBadShortLine : List ℕ → ℕ → Type 0
+IsFirstBadShortLine = IsFirstBadOf IsShortTextOf
 
 -- the bytes are no certificate's text and have no bad line: they end too soon
-pub record EndsTooSoon (bytes : List ℕ) : Type 0 where
-  pub no_text : (c : ShortCertificate) → IsShortTextOf bytes c → ⊥
-  pub no_bad_line : (k : ℕ) → IsFirstBadShortLine bytes k → ⊥
+abbrev pub EndsTooSoon : List ℕ → Type 0
+EndsTooSoon = IsCutShort IsShortTextOf

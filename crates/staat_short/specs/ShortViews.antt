@@ -1,5 +1,5 @@
--- The stages of reading as fronts, and what a reading has read.
-use Rattle.std.specs.Prelude.{◌≡◌, ◌++◌, ◌∷◌, [], ℕ, Bool, false, List, Option, Some, None}
+-- The stages of reading as fronts, and the lines that they have taken.
+use Rattle.std.specs.Prelude.{◌≡◌, ℕ, All, Bool, List, Option, Some, None, flat_map}
 use Rattle.staat_holds.specs.declared.hold.Hold.{Hold}
 use Rattle.staat_short.specs.declared.stage.OpenHold.{OpenHold}
 use Rattle.staat_short.specs.declared.stage.Place.{Place as StagePlace}
@@ -9,10 +9,11 @@ use Rattle.staat_short.specs.declared.stage.Holding.{Holding as StageHolding}
 use Rattle.staat_short.specs.declared.stage.PlanKind.{PlanKind}
 use Rattle.staat_short.specs.declared.stage.Stage.{Stage}
 use Rattle.staat_short.specs.declared.stage.Stage.TheVariants.{Untitled, Titled, Counting, Planning, Holding, Complete}
-use Rattle.staat_short.specs.declared.progress.Progress.{Progress}
+use Rattle.staat_short.specs.declared.line.ShortLine.{ShortLine}
+use Rattle.staat_short.specs.ShortLines.{IsShortLine, short_line_text}
 use Rattle.staat_short.specs.Fronts.{Place, whole_answer, in_plan}
-use Rattle.staat_short.specs.Fronts.{Front, untitled, titled, counting, planning, holding, complete}
-use Rattle.staat_short.specs.ShortStanding.{HasCome, MakesFront}
+use Rattle.staat_short.specs.Fronts.{Front, untitled, titled, counting, planning, holding, complete, after_lines}
+use Rattle.staat_short.specs.ShortStanding.{MakesFront}
 
 abbrev pub hold_of : OpenHold → Hold
 hold_of hold = record { nodes = hold.nodes.items; pairs = hold.pairs.items }
@@ -49,16 +50,9 @@ HoldGoesOn after old b new =
     (n : ℕ) (place : Place) (holds : List Hold) →
     MakesFront (after (holding n place holds (Some (hold_of old)))) b (holding n place holds (Some (hold_of new)))
 
--- the text was read
-abbrev pub HasReadShort : Progress → List ℕ → Type 0
-HasReadShort r text = HasCome (front_of r.stage) r.line.items r.count r.is_bad text
-
--- each text that was read is read on by these bytes
-abbrev pub ReadsShortOn : (old new : Progress) → List ℕ → Type 0
-ReadsShortOn old new more = (text : List ℕ) → HasReadShort old text → HasReadShort new (text ++ more)
-
--- the line is whole: a text that was read up to it is read on by its line feed
-abbrev pub EndsShortLine : (old new : Progress) → Type 0
-EndsShortLine old new =
-    (text front : List ℕ) → old.line.items ≡ front ++ 10 ∷ [] → old.is_bad ≡ false →
-    HasCome (front_of old.stage) front old.count false text → HasReadShort new (text ++ 10 ∷ [])
+-- the text is lines that lead to the stage
+pub record HasTakenShort (s : Stage) (text : List ℕ) : Type 0 where
+  pub lines : List ShortLine
+  pub is : text ≡ flat_map short_line_text lines
+  pub bounds : All IsShortLine lines
+  pub runs : after_lines (Some untitled) lines ≡ Some (front_of s)

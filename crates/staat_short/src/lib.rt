@@ -1,7 +1,6 @@
 //! The text of certificates that name holds and no walls, written and read.
 #![tactic(auto)]
 
-mod bytes;
 mod hold_lines;
 pub mod laws;
 mod line;
@@ -9,7 +8,6 @@ mod line_reading;
 mod machine;
 mod nodes;
 mod plan_lines;
-mod progress;
 mod reader;
 mod short;
 mod stage;

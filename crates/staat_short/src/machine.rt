@@ -3,14 +3,16 @@ ghost use Rattle.std.specs.Prelude.{◌≡◌, ℕ, IfOk, option_map};
 ghost use Rattle.staat_short.specs.Fronts.{after_end, after_kind, after_parts, after_stuck, after_title, complete};
 ghost use Rattle.staat_short.specs.Fronts.{planning, short_answer};
 ghost use Rattle.staat_short.specs.ShortStanding.{EndsGroup, MakesFront, TakesShortLine};
-ghost use Rattle.staat_short.specs.ShortStanding.{is_complete, whole_certificate};
-ghost use Rattle.staat_short.specs.ShortViews.{front_of, holding_of};
+ghost use Rattle.staat_short.specs.ShortTexts.{IsShortTextOf};
+ghost use Rattle.staat_short.specs.ShortViews.{HasTakenShort, front_of, holding_of};
 
 use crate::hold_lines::{close_hold, hold, pair, part};
 use crate::line::ShortLine;
+use crate::line_reading::line_of;
 use crate::plan_lines::{close_group, group, leaf, split};
 use crate::short::{ShortAnswer, ShortCertificate, ShortNode};
 use crate::stage::{Growth, Holding, Place, PlanKind, Stage, advance};
+use staat_cert::TextStage;
 use staat_vec::Listed;
 use std::alloc::{AllocError, Global};
 use std::mem;
@@ -163,8 +165,8 @@ fn line_behind(alloc: Global, stage: &mut Stage, line: ShortLine) -> Result<bool
     }
 }
 
-/// Whether the line may stand there. If so it is taken.
-pub fn take(alloc: Global, stage: &mut Stage, line: ShortLine) -> Result<bool, AllocError>
+// Whether the line may stand there. If so it is taken.
+fn take_line(alloc: Global, stage: &mut Stage, line: ShortLine) -> Result<bool, AllocError>
     ensures { IfOk result (λ b. TakesShortLine (front_of stage.old) line b (front_of stage.new)) }
 {
     match line {
@@ -180,19 +182,34 @@ pub fn take(alloc: Global, stage: &mut Stage, line: ShortLine) -> Result<bool, A
     }
 }
 
-/// Whether the certificate has ended.
-pub fn is_complete(stage: &Stage) -> bool
-    ensures { result ≡ is_complete (front_of stage.now) }
-{
-    matches!(stage, Stage::Complete(_))
-}
+impl TextStage for Stage {
+    type Whole = ShortCertificate;
 
-/// The certificate, where it has ended.
-pub fn certificate(stage: Stage) -> Option<ShortCertificate>
-    ensures { result ≡ whole_certificate (front_of stage) }
-{
-    match stage {
-        Stage::Complete(certificate) => Some(certificate),
-        _ => None,
+    ghost spells = { IsShortTextOf };
+
+    ghost has_taken = { HasTakenShort };
+
+    fn take(
+        &mut self,
+        alloc: Global,
+        numbers: &mut Vec<i128>,
+        line: &[u8],
+    ) -> Result<bool, AllocError> {
+        let found = line_of(numbers, line)?;
+        match found {
+            None => Ok(false),
+            Some(said) => take_line(alloc, self, said),
+        }
+    }
+
+    fn is_whole(&self) -> bool {
+        matches!(self, Stage::Complete(_))
+    }
+
+    fn whole(self) -> Option<ShortCertificate> {
+        match self {
+            Stage::Complete(certificate) => Some(certificate),
+            _ => None,
+        }
     }
 }

@@ -1,6 +1,6 @@
-use Rattle.std.proofs.Common.{◌≡◌, ◌∙◌, ℕ, ap, arith, length, sym}
+use Rattle.std.proofs.Common.{◌≡◌, ◌∙◌, ℕ, arith, length, sym}
 use Rattle.std.proofs.lemmas.Int.{ints, to_z-of_z}
-use Rattle.std.specs.Prelude.{None, Option, Some, option_and_then, option_map}
+use Rattle.std.specs.Prelude.{Option, option_and_then, option_map}
 use Rattle.staat_vec.specs.declared.vector.V3.{V3}
 use Rattle.staat_model.specs.declared.line.Line.{Line}
 use Rattle.staat_model.specs.declared.line.Line.TheVariants as line

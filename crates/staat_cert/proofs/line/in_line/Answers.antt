@@ -2,7 +2,7 @@ use Rattle.std.proofs.Common.{◌≡◌, ◌∙◌, ap, arith, length, sym}
 use Rattle.std.proofs.lemmas.Int.{ints, to_z-of_z}
 use Rattle.std.specs.Prelude.{option_map}
 use Rattle.staat_model.specs.declared.line.Line.TheVariants as line
-use Rattle.staat_cert.proofs.LineShapes.{Reads, arc_in, in_of}
+use Rattle.staat_cert.proofs.LineShapes.{Reads, in_of}
 use Rattle.staat_cert.proofs.line.in_line.Goals as goal
 
 pub returns-in_ok-arc_of-in-len4 : goal.returns-in_ok-arc_of-in-len4

@@ -1,4 +1,4 @@
-use Rattle.std.proofs.Common.{◌≡◌, ◌∙◌, ◌<◌, ◌≤◌, ◌∷◌, [], Bool, false, true, List, ℤ, ℕ, ap, arith, get_or, length}
+use Rattle.std.proofs.Common.{◌≡◌, ◌∙◌, ◌<◌, ◌≤◌, ◌∷◌, [], false, true, List, ℤ, ap, arith, get_or, length}
 use Rattle.std.proofs.Common.{pos, refl, sym, to_z, of_z, if◌then◌else◌}
 use Rattle.std.specs.Prelude.{None, Option, Some, nat_lt, option_and_then}
 use Rattle.std.specs.Int.{w128}
