@@ -1,6 +1,7 @@
 -- What has been read of a text line by line, whatever its lines say: `spells` tells what a whole text says, and `taken`
 -- which lines were taken.
-use Rattle.std.specs.Prelude.{◌≡◌, ◌≢◌, ◌⊎◌, ℕ, ◌+◌, ◌<◌, ◌≤◌, Bool, true, false, not, ◌==◌, List, [], ◌∷◌, ◌++◌}
+use Rattle.std.specs.Prelude.{◌≡◌, ◌≢◌, ◌⊎◌, ℕ, ◌+◌, ◌<◌, ◌≤◌, List, []}
+use Rattle.std.specs.Prelude.{◌==◌, ◌∷◌, ◌++◌, Bool, true, false, not}
 use Rattle.std.specs.Prelude.{length, All, Option, Some, None, Result, Ok, Err}
 use Rattle.staat_limits.specs.declared.limits.TheConstants.{LINE_LIMIT, TEXT_LIMIT}
 use Rattle.staat_model.specs.Texts.{HasNoFeed, IsLine, IsLongLine, joined}
@@ -70,7 +71,8 @@ pub record IsCutShort {C : Type 0} (spells : List ℕ → C → Type 0) (bytes :
 -- ---- a stage
 
 -- the line was taken after others, and some whole text goes on with it; or none does
-abbrev pub TakesLine : {C : Type 0} → (List ℕ → C → Type 0) → (old new : List ℕ → Type 0) → List ℕ → Bool → Type 0
+abbrev pub TakesLine : {C : Type 0} → (List ℕ → C → Type 0) → (old new : List ℕ → Type 0)
+    → List ℕ → Bool → Type 0
 TakesLine spells old new line true =
     (text : List ℕ) → old text → new (text ++ line) × BeginsWhole spells (text ++ line)
 TakesLine spells old new line false = (text : List ℕ) → old text → BeginsWhole spells (text ++ line) → ⊥
@@ -88,8 +90,8 @@ TellsWhole {C} spells text (Some c) = spells text c
 -- ---- what has been read
 
 -- the text is so many lines, which were taken, and bytes without a line feed
-pub record IsReadTo {C : Type 0} (spells : List ℕ → C → Type 0) (taken : List ℕ → Type 0) (rest : List ℕ) (count : ℕ)
-    (text : List ℕ) : Type 0 where
+pub record IsReadTo {C : Type 0} (spells : List ℕ → C → Type 0) (taken : List ℕ → Type 0) (rest : List ℕ)
+    (count : ℕ) (text : List ℕ) : Type 0 where
   pub lines : List (List ℕ)
   pub is : text ≡ joined lines ++ rest
   pub number : count ≡ length lines
@@ -101,23 +103,25 @@ pub record IsReadTo {C : Type 0} (spells : List ℕ → C → Type 0) (taken : L
   pub closed : (c : C) → spells (joined lines) c → rest ≡ []
 
 -- so many lines were taken, and the rest has come of the next line; or the next line is bad
-pub record Stands {C : Type 0} (spells : List ℕ → C → Type 0) (taken : List ℕ → Type 0) (rest : List ℕ) (count : ℕ)
-    (is_bad : Bool) (text : List ℕ) : Type 0 where
+pub record Stands {C : Type 0} (spells : List ℕ → C → Type 0) (taken : List ℕ → Type 0) (rest : List ℕ)
+    (count : ℕ) (is_bad : Bool) (text : List ℕ) : Type 0 where
   pub good : is_bad ≡ false → IsReadTo spells taken rest count text
   pub wrong : is_bad ≡ true → IsFirstBadOf spells text (count + 1)
 
 -- the text was read
-abbrev pub HasRead : {S C : Type 0} → (List ℕ → C → Type 0) → (S → List ℕ → Type 0) → Progress S → List ℕ → Type 0
+abbrev pub HasRead : {S C : Type 0} → (List ℕ → C → Type 0) → (S → List ℕ → Type 0) → Progress S
+    → List ℕ → Type 0
 HasRead spells taken r text = Stands spells (taken r.stage) r.line.items r.count r.is_bad text
 
 -- each text that was read is read on by these bytes
-abbrev pub ReadsOn : {S C : Type 0} → (List ℕ → C → Type 0) → (S → List ℕ → Type 0) → (old new : Progress S)
-    → List ℕ → Type 0
+abbrev pub ReadsOn : {S C : Type 0} → (List ℕ → C → Type 0) → (S → List ℕ → Type 0)
+    → (old new : Progress S) → List ℕ → Type 0
 ReadsOn spells taken old new more = (text : List ℕ) → HasRead spells taken old text
     → HasRead spells taken new (text ++ more)
 
 -- the line is whole: a text that was read up to it is read on by its line feed
-abbrev pub EndsLine : {S C : Type 0} → (List ℕ → C → Type 0) → (S → List ℕ → Type 0) → (old new : Progress S) → Type 0
+abbrev pub EndsLine : {S C : Type 0} → (List ℕ → C → Type 0) → (S → List ℕ → Type 0)
+    → (old new : Progress S) → Type 0
 EndsLine spells taken old new =
     (text front : List ℕ) → old.line.items ≡ front ++ 10 ∷ [] → old.is_bad ≡ false →
     Stands spells (taken old.stage) front old.count false text → HasRead spells taken new (text ++ 10 ∷ [])
@@ -134,8 +138,8 @@ pub record IsRun (bytes run rest : List ℕ) : Type 0 where
 -- ---- a reader in pieces
 
 -- this text was fed: it was read, or it is too long, or there was no memory
-pub record TookIn {S C : Type 0} (spells : List ℕ → C → Type 0) (taken : S → List ℕ → Type 0) (r : LineReader S)
-    (text : List ℕ) : Type 0 where
+pub record TookIn {S C : Type 0} (spells : List ℕ → C → Type 0) (taken : S → List ℕ → Type 0)
+    (r : LineReader S) (text : List ℕ) : Type 0 where
   pub long : r.is_out ≡ false → r.is_long ≡ true → TEXT_LIMIT < length text
   pub total : r.is_out ≡ false → r.is_long ≡ false → r.total ≡ length text
   pub read : r.is_out ≡ false → r.is_long ≡ false → HasRead spells taken r.progress text
@@ -151,7 +155,8 @@ lacks_memory (Ok x) = false
 lacks_memory (Err e) = is_no_memory e
 
 -- what `feed` answers where the text is now this one
-abbrev pub IsAnswerSoFar : {C : Type 0} → (List ℕ → C → Type 0) → List ℕ → Result (Unit {0}) CertRefusal → Type 0
+abbrev pub IsAnswerSoFar : {C : Type 0} → (List ℕ → C → Type 0) → List ℕ → Result (Unit {0}) CertRefusal
+    → Type 0
 IsAnswerSoFar spells text (Ok x) = (length text ≤ TEXT_LIMIT) × ((k : ℕ) → IsFirstBadOf spells text k → ⊥)
 IsAnswerSoFar spells text (Err (BadLine k)) = (length text ≤ TEXT_LIMIT) × IsFirstBadOf spells text k
 IsAnswerSoFar spells text (Err ShortCert) = ⊥
