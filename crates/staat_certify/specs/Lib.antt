@@ -4,5 +4,6 @@ pub mod Plans
 pub mod Numbers
 pub mod Witnesses
 pub mod WitnessListings
+pub mod Standing
 pub mod Visits
 pub mod Certifying

@@ -1,4 +1,4 @@
--- What a walk over the vertices of a table's planes has found: the directions that it has visited, and their
+-- What a survey of the vertices of a table's planes has found: the directions that it has visited, and their
 -- witnesses.
 use Rattle.std.specs.Prelude.{◌≡◌, ℕ, ◌<◌, List, [], All, Contains, Some, length, map, slice_get, true}
 use Rattle.std.specs.List.Sorted.{IsStrictlySortedBy}
@@ -16,25 +16,8 @@ use Rattle.staat_certify.specs.declared.visits.Found.{Found}
 use Rattle.staat_certify.specs.declared.visits.Visit.{Visit}
 use Rattle.staat_certify.specs.declared.witnesses.GraphTrees.{GraphTrees}
 use Rattle.staat_certify.specs.WitnessListings.{AreKeys}
-use Rattle.staat_ring.specs.Places.{IsStopAt}
-use Rattle.staat_ring.specs.Rings.{Arrangement, Ring, RingStop, WereMadeFrom, linked_of, vertex_of}
-use Rattle.staat_ring.specs.Walked.{IsEntered, WalkWasMadeFrom, Walked}
-
--- the table was made from the parts and the walk from the table, and it stands at a vertex of circles on which all
--- planes of the table are linked
-pub record StandsAmong (parts : List Part) (t : Table) (w : Walked) : Type 0 where
-  pub from : WasMadeFrom parts t
-  pub made : WalkWasMadeFrom t w
-  pub rings : List Ring
-  pub entered : IsEntered t.planes rings w
-  pub all : (k : ℕ) → k < length t.planes → Contains (linked_of rings) k
-
--- the parts, some of which are stuck, the table of these, and the circles of all its planes
-pub record IsSurvey (parts : List Part) (t : Table) (circles : Arrangement) : Type 0 where
-  pub made : WasMadeFrom parts t
-  pub stuck : IsStuck parts t.of
-  pub rings : WereMadeFrom t.planes circles
-  pub all : circles.unlinked ≡ []
+use Rattle.staat_ring.specs.Rings.{Ring, crossing}
+use Rattle.staat_ring.specs.WholeCircles.{vertex_at}
 
 -- the trees are those of the graph, if any graph was looked at
 pub record KeepsTrees (w : PartSet) (kept : GraphTrees) : Type 0 where
@@ -70,15 +53,19 @@ IsVisitedDirection version visited v = (version ≡ 2 → IsCanon v) → Contain
 abbrev pub AreStillVisited : List Visit → List Visit → Type 0
 AreStillVisited old new = (v : V3) → Contains (visited_directions old) v → Contains (visited_directions new) v
 
--- the vertices on the circles of the planes below c have been visited
-abbrev pub AreVisitedBelow : List V3 → List Ring → ℕ → List Visit → ℕ → Type 0
-AreVisitedBelow planes rings version visited c = (b m : ℕ) (s : RingStop) → b < c → IsStopAt rings b m s
-    → IsVisitedDirection version visited (vertex_of planes b s.entries)
+-- the number that is told, if any is, names the witness at d
+abbrev pub IsTold : List Part → PartSet → List Witness → V3 → Option ℕ → Type 0
+IsTold parts w witnesses d told = IfSome told (λ i. NamesWitness parts w witnesses (record { d = d; witness = i }))
 
--- those at the places below n of the circle c have been visited
-abbrev pub AreVisitedOn : List V3 → List Ring → ℕ → List Visit → ℕ → ℕ → Type 0
-AreVisitedOn planes rings version visited c n = (m : ℕ) (s : RingStop) → m < n → IsStopAt rings c m s
-    → IsVisitedDirection version visited (vertex_of planes c s.entries)
+-- the crossings of the planes below n with all others have been visited
+abbrev pub AreVisitedBelow : List V3 → ℕ → List Visit → ℕ → Type 0
+AreVisitedBelow planes version visited n = (k j : ℕ) (turned : Bool) → k < n → j < length planes → j ≢ k
+    → IsVisitedDirection version visited (crossing planes k (record { plane = j; turned = turned }))
+
+-- the vertices at the places below n of the circle have been visited
+abbrev pub AreVisitedOn : List V3 → ℕ → List Visit → Ring → ℕ → Type 0
+AreVisitedOn planes version visited r n = (m : ℕ) → m < n
+    → IsVisitedDirection version visited (vertex_at planes r m)
 
 -- the new visits are some of the old ones, of each direction one, in the order of the directions
 pub record SortsVisits (old new : List Visit) : Type 0 where

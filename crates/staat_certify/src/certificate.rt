@@ -18,8 +18,6 @@ use staat_model::{Body, Certificate, Outcome, PartSet, Sound};
 use staat_planes::{PlaneTable, PlanesRefusal, tabulate};
 use staat_vec::OutOfMemory;
 use std::alloc::Global;
-use std::marker::Brand;
-use std::sync::ledger::Blank;
 
 // what the certificate says of a set that is stuck, with the table of its planes, where nothing is found yet
 fn refusal_at(
@@ -35,7 +33,7 @@ fn refusal_at(
     requires found { HasFound sound.now table.now version found.old }
     ensures { IfOk result (IsBodyOf sound.now version (stuck table.now.of)) }
 {
-    visit_all::<Brand>(alloc, sound, table, version, Blank::new(1), found)?;
+    visit_all(alloc, sound, table, version, found)?;
     sort_visits(&mut found.visited);
     listing_of(alloc, sound, table, found)
 }

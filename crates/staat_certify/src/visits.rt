@@ -4,6 +4,7 @@ ghost use Rattle.std.specs.Prelude.{
   ◌≢◌,
   ◌<◌,
   ◌+◌,
+  ◌-◌,
   ◌↔◌,
   Contains,
   IfOk,
@@ -18,14 +19,13 @@ ghost use Rattle.staat_vec.specs.declared.vector.V3.{V3 as Vector};
 ghost use Rattle.staat_vec.specs.Primitives.{IsCanon};
 ghost use Rattle.staat_vec.specs.Vectors.{origin};
 ghost use Rattle.staat_model.specs.Certify.{IsDirection, NamesWitness};
-ghost use Rattle.staat_model.specs.Planes.{vertices};
 ghost use Rattle.staat_model.specs.Plans.{IsStuck};
 ghost use Rattle.staat_pairs.specs.Tables.{WasMadeFrom};
-ghost use Rattle.staat_ring.specs.Walked.{IsEntered, WalkWasMadeFrom};
+ghost use Rattle.staat_ring.specs.Belonging.{BelongTo};
+ghost use Rattle.staat_ring.specs.WholeCircles.{AreSignsAt, HaveSameFull, IsWholeCircle, vertex_at};
 ghost use Rattle.staat_certify.specs.WitnessListings.{AreKeys};
-ghost use Rattle.staat_certify.specs.Visits.{AreStillVisited, AreVisitedBelow, HasFound};
-ghost use Rattle.staat_certify.specs.Visits.{IsNumberHere, IsSurvey, IsVisitedDirection, KeepsTrees};
-ghost use Rattle.staat_certify.specs.Visits.{SortsVisits, StandsAmong, visited_directions};
+ghost use Rattle.staat_certify.specs.Visits.{AreStillVisited, AreVisitedBelow, HasFound, IsNumberHere, IsTold};
+ghost use Rattle.staat_certify.specs.Visits.{IsVisitedDirection, KeepsTrees, SortsVisits, visited_directions};
 ghost use Rattle.staat_certify.specs.Witnesses.{AreTreesAlong};
 
 use crate::listing::number_witness;
@@ -33,27 +33,26 @@ use crate::vantage::Vantage;
 use crate::witnesses::{GraphTrees, is_witness, renew_trees, witness_here};
 use indexmap::IndexSet;
 use staat_model::{Sound, Witness};
-use staat_planes::{PlaneTable, Steps};
-use staat_ring::{Rings, Walk};
+use staat_planes::PlaneTable;
+use staat_ring::{Circle, CountedSigns, Vertex};
 use staat_vec::{OutOfMemory, V3};
 use std::alloc::Global;
-use std::sync::ledger::{Blank, Ledger};
 
-/// A vertex that a walk has come to, and the number of its witness among those that are found.
+/// A vertex that was visited, and the number of its witness among those that are found.
 #[derive(Clone, Copy)]
 pub struct Visit {
     pub d: V3,
     pub number: usize,
 }
 
-/// What a walk has found: the witnesses with their keys, and the directions with the numbers of theirs.
+/// What was found: the witnesses with their keys, and the directions with the numbers of theirs.
 #[derive(Drop)]
 pub struct Found {
     pub keys: IndexSet<Vec<u32>>,
     pub witnesses: Vec<Witness>,
     pub visited: Vec<Visit>,
     pub kept: GraphTrees,
-    // the number of the witness at the vertex that was visited last
+    // the number of the witness that was numbered last
     pub latest: usize,
 }
 
@@ -75,12 +74,11 @@ impl Found {
     }
 }
 
-// whether the witness at the vertex is the one at the vertex that was visited last
+// whether the witness at the vertex is the one that was numbered last
 fn is_latest(at: &Vantage, found: &Found) -> bool
-    requires at { StandsAmong at.now.sound.now at.now.table.now at.now.walk.now }
-    requires along { AreTreesAlong at.now.sound.now at.now.table.now at.now.walk.now.vertex found.now.kept.trees }
+    requires { AreTreesAlong at.now.sound.now at.now.table.now at.now.d found.now.kept.trees }
     ensures { IsTrue result → NamesWitness at.now.sound.now at.now.table.now.of found.now.witnesses.items
-        (record { d = at.now.walk.now.vertex; witness = found.now.latest }) }
+        (record { d = at.now.d; witness = found.now.latest }) }
 {
     if found.latest >= found.witnesses.len() {
         return false;
@@ -90,10 +88,9 @@ fn is_latest(at: &Vantage, found: &Found) -> bool
 
 // the number of the witness at the vertex, which is put at the end of the list if it is a new one
 fn number_anew(alloc: Global, at: &Vantage, found: &mut Found) -> Result<usize, OutOfMemory>
-    requires at { StandsAmong at.now.sound.now at.now.table.now at.now.walk.now }
-    requires along { AreTreesAlong at.now.sound.now at.now.table.now at.now.walk.now.vertex found.old.kept.trees }
+    requires along { AreTreesAlong at.now.sound.now at.now.table.now at.now.d found.old.kept.trees }
     requires keys { AreKeys (map (λ v. v.items) found.old.keys.keys) found.old.witnesses.items }
-    ensures number { IfOk result (IsNumberHere at.now.sound.now at.now.table.now.of at.now.walk.now.vertex
+    ensures number { IfOk result (IsNumberHere at.now.sound.now at.now.table.now.of at.now.d
         (map (λ v. v.items) found.new.keys.keys) found.old.witnesses.items found.new.witnesses.items) }
     ensures kept { found.new.kept ≡ found.old.kept }
     ensures visited { found.new.visited.items ≡ found.old.visited.items }
@@ -104,18 +101,21 @@ fn number_anew(alloc: Global, at: &Vantage, found: &mut Found) -> Result<usize, 
     Ok(number)
 }
 
-// the number of the witness at the vertex, made anew only where it is not the one at the vertex before
-fn number_here(alloc: Global, at: &Vantage, found: &mut Found) -> Result<usize, OutOfMemory>
-    requires at { StandsAmong at.now.sound.now at.now.table.now at.now.walk.now }
+// the number of the witness at the vertex, looked for where it is not told
+fn number_here(alloc: Global, at: &Vantage, told: Option<usize>, found: &mut Found) -> Result<usize, OutOfMemory>
     requires stuck { IsStuck at.now.sound.now at.now.table.now.of }
-    requires some { at.now.walk.now.vertex ≢ origin }
+    requires some { at.now.d ≢ origin }
     requires kept { KeepsTrees at.now.table.now.of found.old.kept }
     requires keys { AreKeys (map (λ v. v.items) found.old.keys.keys) found.old.witnesses.items }
-    ensures number { IfOk result (IsNumberHere at.now.sound.now at.now.table.now.of at.now.walk.now.vertex
+    requires told { IsTold at.now.sound.now at.now.table.now.of found.old.witnesses.items at.now.d told }
+    ensures number { IfOk result (IsNumberHere at.now.sound.now at.now.table.now.of at.now.d
         (map (λ v. v.items) found.new.keys.keys) found.old.witnesses.items found.new.witnesses.items) }
     ensures kept { OnOk result (KeepsTrees at.now.table.now.of found.new.kept) }
     ensures visited { found.new.visited.items ≡ found.old.visited.items }
 {
+    if let Some(number) = told {
+        return Ok(number);
+    }
     renew_trees(&mut found.kept, at);
     if is_latest(at, found) {
         return Ok(found.latest);
@@ -123,112 +123,158 @@ fn number_here(alloc: Global, at: &Vantage, found: &mut Found) -> Result<usize, 
     number_anew(alloc, at, found)
 }
 
-/// What is visited, and what for: the vertices of the planes of a table, by their circles, for the refusal of this
+/// What is visited, and what for: the vertices of the planes of a table, circle by circle, for the refusal of this
 /// version that the table's set is stuck.
 #[derive(Drop)]
 struct Survey<'a> {
     alloc: Global,
     sound: &'a Sound,
     table: &'a PlaneTable,
-    rings: &'a Rings,
     version: u32,
+    ghost made: { WasMadeFrom sound.now table.now },
+    ghost stuck: { IsStuck sound.now table.now.of },
 }
 
 impl<'a> Survey<'a> {
     // whether the vertex is one of the directions of the version, which has one of two opposite ones or both
-    fn lists(&self, walk: &Walk) -> bool
-        ensures { IsTrue result ↔ (self.now.version ≡ 2 → IsCanon walk.now.vertex) }
+    fn lists(&self, vertex: &Vertex) -> bool
+        ensures { IsTrue result ↔ (self.now.version ≡ 2 → IsCanon vertex.now) }
     {
-        self.version != 2 || walk.is_canon()
+        self.version != 2 || vertex.is_canon()
     }
 
-    // keeps the vertex with its witness, if it is one of the directions
-    fn keep_visit(&self, walk: &Walk, found: &mut Found) -> Result<(), OutOfMemory>
-        requires stuck { IsStuck self.now.sound.now self.now.table.now.of }
-        requires stands { StandsAmong self.now.sound.now self.now.table.now walk.now }
-        requires vertex { Contains (vertices self.now.table.now.planes) walk.now.vertex }
-        requires some { walk.now.vertex ≢ origin }
+    // keeps the vertex with its witness, and gives the number of that
+    fn keep_visit(
+        &self,
+        vertex: &Vertex,
+        signs: &CountedSigns,
+        told: Option<usize>,
+        found: &mut Found,
+    ) -> Result<usize, OutOfMemory>
+        requires made { BelongTo self.now.table.now signs.now }
+        requires signs { AreSignsAt self.now.table.now.planes signs.now vertex.now }
+        requires direction { IsDirection self.now.version self.now.table.now.planes vertex.now }
+        requires some { vertex.now ≢ origin }
+        requires told { IsTold self.now.sound.now self.now.table.now.of found.old.witnesses.items vertex.now told }
         requires found { HasFound self.now.sound.now self.now.table.now self.now.version found.old }
         ensures found { OnOk result (HasFound self.now.sound.now self.now.table.now self.now.version found.new) }
-        ensures here { OnOk result
-            (IsVisitedDirection self.now.version found.new.visited.items walk.now.vertex) }
+        ensures number { IfOk result (λ number. NamesWitness self.now.sound.now self.now.table.now.of
+            found.new.witnesses.items (record { d = vertex.now; witness = number })) }
+        ensures here { OnOk result (Contains (visited_directions found.new.visited.items) vertex.now) }
         ensures kept { OnOk result (AreStillVisited found.old.visited.items found.new.visited.items) }
     {
-        if !self.lists(walk) {
-            return Ok(());
-        }
         let at = Vantage {
             sound: self.sound,
             table: self.table,
-            walk,
+            signs,
+            d: vertex.direction(),
         };
-        let number = number_here(self.alloc, &at, found)?;
-        let d = walk.at();
-        found.visited.push(Visit { d, number })?;
-        Ok(())
+        let number = number_here(self.alloc, &at, told, found)?;
+        found.visited.push(Visit { d: at.d, number })?;
+        Ok(number)
     }
 
-    // the same on the circle of the least plane through the vertex; on another it has been visited
-    fn visit_once(&self, circle: u32, walk: &Walk, found: &mut Found) -> Result<(), OutOfMemory>
-        requires survey { IsSurvey self.now.sound.now self.now.table.now self.now.rings.now }
-        requires signs { WalkWasMadeFrom self.now.table.now walk.now }
-        requires entered { IsEntered self.now.table.now.planes self.now.rings.now.rings walk.now }
-        requires circle { walk.now.circle ≡ circle }
+    // Keeps the vertex k of a circle, unless it has been visited on the circle of a lesser plane. The number that is
+    // told is that of its witness, if any is, and so is the answer.
+    fn visit(
+        &self,
+        circle: &Circle,
+        k: usize,
+        signs: &CountedSigns,
+        told: Option<usize>,
+        found: &mut Found,
+    ) -> Result<Option<usize>, OutOfMemory>
+        requires made { BelongTo self.now.table.now signs.now }
+        requires circle { IsWholeCircle self.now.table.now.planes circle.now }
+        requires place { k < length circle.now.stops }
+        requires listed { self.now.version ≡ 2 → IsCanon (vertex_at self.now.table.now.planes circle.now k) }
+        requires signs { AreSignsAt self.now.table.now.planes signs.now
+            (vertex_at self.now.table.now.planes circle.now k) }
+        requires told { IsTold self.now.sound.now self.now.table.now.of found.old.witnesses.items
+            (vertex_at self.now.table.now.planes circle.now k) told }
         requires found { HasFound self.now.sound.now self.now.table.now self.now.version found.old }
-        requires below { AreVisitedBelow self.now.table.now.planes self.now.rings.now.rings self.now.version
-            found.old.visited.items circle }
+        requires below { AreVisitedBelow self.now.table.now.planes self.now.version found.old.visited.items
+            circle.now.plane }
         ensures found { OnOk result (HasFound self.now.sound.now self.now.table.now self.now.version found.new) }
-        ensures here { OnOk result
-            (IsVisitedDirection self.now.version found.new.visited.items walk.now.vertex) }
+        ensures told { IfOk result (IsTold self.now.sound.now self.now.table.now.of found.new.witnesses.items
+            (vertex_at self.now.table.now.planes circle.now k)) }
+        ensures here { OnOk result (IsVisitedDirection self.now.version found.new.visited.items
+            (vertex_at self.now.table.now.planes circle.now k)) }
         ensures kept { OnOk result (AreStillVisited found.old.visited.items found.new.visited.items) }
     {
         let _set = self.table.set();
-        if walk.first_entry(self.table, self.rings).plane < circle {
-            return Ok(());
+        if circle.first_entry(self.table, k).plane < circle.plane() {
+            return Ok(told);
         }
-        self.keep_visit(walk, found)
+        let vertex = circle.vertex(self.table, k);
+        let number = self.keep_visit(&vertex, signs, told, found)?;
+        Ok(Some(number))
     }
 
-    // visits the vertices of a circle, at the first of which the walk stands
-    fn go_round(&self, circle: u32, walk: &mut Walk, found: &mut Found) -> Result<(), OutOfMemory>
-        requires survey { IsSurvey self.now.sound.now self.now.table.now self.now.rings.now }
-        requires signs { WalkWasMadeFrom self.now.table.now walk.old }
-        requires entered { IsEntered self.now.table.now.planes self.now.rings.now.rings walk.old }
-        requires circle { walk.old.circle ≡ circle }
-        requires place { walk.old.place ≡ 0 }
+    // Gives the planes their signs at the vertex k of a circle, coming from the one before it if `near` says so. Tells
+    // whether other pieces may meet than there.
+    fn reach(&self, circle: &Circle, k: usize, near: bool, signs: &mut CountedSigns) -> bool
+        requires made { BelongTo self.now.table.now signs.old }
+        requires circle { IsWholeCircle self.now.table.now.planes circle.now }
+        requires place { k < length circle.now.stops }
+        requires near { IsTrue near → (0 < k) × AreSignsAt self.now.table.now.planes signs.old
+            (vertex_at self.now.table.now.planes circle.now (k - 1)) }
+        ensures made { BelongTo self.now.table.now signs.new }
+        ensures signs { AreSignsAt self.now.table.now.planes signs.new
+            (vertex_at self.now.table.now.planes circle.now k) }
+        ensures same { result ≡ false → IsTrue near × HaveSameFull signs.old signs.new }
+    {
+        if near {
+            return signs.cross(self.table, circle, k - 1);
+        }
+        signs.enter(self.table, circle, k);
+        true
+    }
+
+    // visits the vertices of a circle that are directions of the version
+    fn go_round(
+        &self,
+        circle: &Circle,
+        signs: &mut CountedSigns,
+        found: &mut Found,
+    ) -> Result<(), OutOfMemory>
+        requires made { BelongTo self.now.table.now signs.old }
+        requires circle { IsWholeCircle self.now.table.now.planes circle.now }
         requires found { HasFound self.now.sound.now self.now.table.now self.now.version found.old }
-        requires below { AreVisitedBelow self.now.table.now.planes self.now.rings.now.rings self.now.version
-            found.old.visited.items circle }
-        ensures signs { OnOk result (WalkWasMadeFrom self.now.table.now walk.new) }
+        requires below { AreVisitedBelow self.now.table.now.planes self.now.version found.old.visited.items
+            circle.now.plane }
+        ensures made { OnOk result (BelongTo self.now.table.now signs.new) }
         ensures found { OnOk result (HasFound self.now.sound.now self.now.table.now self.now.version found.new) }
-        ensures below { OnOk result (AreVisitedBelow self.now.table.now.planes self.now.rings.now.rings
-            self.now.version found.new.visited.items (circle + 1)) }
+        ensures below { OnOk result (AreVisitedBelow self.now.table.now.planes self.now.version
+            found.new.visited.items (circle.now.plane + 1)) }
     {
         let _set = self.table.set();
-        for _place in 0..self.rings.circle_vertices(circle) {
-            self.visit_once(circle, walk, found)?;
-            walk.cross(self.table, self.rings);
+        let mut near = false;
+        let mut told = None;
+        for k in 0..circle.len() {
+            let listed = self.lists(&circle.vertex(self.table, k));
+            if listed {
+                let changes = self.reach(circle, k, near, signs);
+                let known = if changes { None } else { told };
+                told = self.visit(circle, k, signs, known, found)?;
+            }
+            near = listed;
         }
         Ok(())
     }
 
     // visits the vertices of all circles
-    fn go_round_all<L: Ledger>(
-        &self,
-        walk: &mut Walk,
-        steps: &mut Steps<L>,
-        found: &mut Found,
-    ) -> Result<(), OutOfMemory>
-        requires survey { IsSurvey self.now.sound.now self.now.table.now self.now.rings.now }
-        requires signs { WalkWasMadeFrom self.now.table.now walk.old }
+    fn go_round_all(&self, signs: &mut CountedSigns, found: &mut Found) -> Result<(), OutOfMemory>
+        requires made { BelongTo self.now.table.now signs.old }
         requires found { HasFound self.now.sound.now self.now.table.now self.now.version found.old }
+        requires below { AreVisitedBelow self.now.table.now.planes self.now.version found.old.visited.items 0 }
         ensures found { OnOk result (HasFound self.now.sound.now self.now.table.now self.now.version found.new) }
-        ensures below { OnOk result (AreVisitedBelow self.now.table.now.planes self.now.rings.now.rings
-            self.now.version found.new.visited.items (length self.now.table.now.planes)) }
+        ensures below { OnOk result (AreVisitedBelow self.now.table.now.planes self.now.version
+            found.new.visited.items (length self.now.table.now.planes)) }
     {
-        for circle in 0..self.table.len() {
-            walk.enter(self.table, self.rings, circle, steps);
-            self.go_round(circle, walk, found)?;
+        for c in 0..self.table.len() {
+            let circle = Circle::of(self.alloc, self.table, c)?;
+            self.go_round(&circle, signs, found)?;
         }
         Ok(())
     }
@@ -236,38 +282,31 @@ impl<'a> Survey<'a> {
 
 /// Visits all directions of the version, with their witnesses.
 ///
-/// Each vertex is visited on the circle of the least plane through it. Of its witness only the arcs are looked at that
-/// make it another one than at the vertex before; no blocking graph is counted from the facets.
-pub fn visit_all<L: Ledger>(
+/// Each vertex is visited on the circle of the least plane through it. Its witness is looked for only where other
+/// pieces may meet than at the vertex before; no blocking graph is counted from the facets.
+pub fn visit_all(
     alloc: Global,
     sound: &Sound,
     table: &PlaneTable,
     version: u32,
-    blank: Blank,
     found: &mut Found,
 ) -> Result<(), OutOfMemory>
     requires made { WasMadeFrom sound.now table.now }
     requires stuck { IsStuck sound.now table.now.of }
-    requires name { blank.name ≡ L.name }
-    requires parts { blank.parts ≡ L.parts }
-    requires some { 0 < blank.parts }
     requires found { HasFound sound.now table.now version found.old }
     ensures found { OnOk result (HasFound sound.now table.now version found.new) }
     ensures all { OnOk result ((d : Vector) → IsDirection version table.now.planes d
         → Contains (visited_directions found.new.visited.items) d) }
 {
     let _set = table.set();
-    let mut walk = Walk::new(alloc, table)?;
-    let rings = Rings::build(alloc, table)?;
-    let mut steps = Steps::<L>::new(blank);
+    let mut signs = CountedSigns::of(alloc, table)?;
     let survey = Survey {
         alloc,
         sound,
         table,
-        rings: &rings,
         version,
     };
-    survey.go_round_all(&mut walk, &mut steps, found)
+    survey.go_round_all(&mut signs, found)
 }
 
 /// Puts the visits in the order of their directions, and keeps one of each.

@@ -7,7 +7,7 @@ ghost use Rattle.staat_model.specs.Plans.{IsStuck};
 ghost use Rattle.staat_graph.specs.Blocking.{ShowsBlocking};
 ghost use Rattle.staat_graph.specs.Graphs.{AreTrees, HasArc};
 ghost use Rattle.staat_certify.specs.Witnesses.{AreEndsAhead, AreEndsAndLeast, AreTreesAlong};
-ghost use Rattle.staat_certify.specs.Visits.{KeepsTrees, StandsAmong};
+ghost use Rattle.staat_certify.specs.Visits.{KeepsTrees};
 
 use crate::vantage::Vantage;
 use staat_graph::{Graph, Trees, trees_of};
@@ -43,10 +43,9 @@ impl GraphTrees {
 
 // the trees of the graph at the vertex, which is strong because the set is stuck
 fn trees_here(at: &Vantage, graph: &Graph) -> Trees
-    requires at { StandsAmong at.now.sound.now at.now.table.now at.now.walk.now }
     requires stuck { IsStuck at.now.sound.now at.now.table.now.of }
-    requires some { at.now.walk.now.vertex ≢ origin }
-    requires shows { ShowsBlocking at.now.sound.now at.now.walk.now.vertex at.now.table.now.of graph.now.rows }
+    requires some { at.now.d ≢ origin }
+    requires shows { ShowsBlocking at.now.sound.now at.now.d at.now.table.now.of graph.now.rows }
     ensures { AreTrees (HasArc graph.now.rows) at.now.table.now.of result }
 {
     let w = at.table.set();
@@ -58,12 +57,11 @@ fn trees_here(at: &Vantage, graph: &Graph) -> Trees
 
 /// Makes the trees those of the graph at the vertex, anew only where that is another graph.
 pub(crate) fn renew_trees(kept: &mut GraphTrees, at: &Vantage)
-    requires at { StandsAmong at.now.sound.now at.now.table.now at.now.walk.now }
     requires stuck { IsStuck at.now.sound.now at.now.table.now.of }
-    requires some { at.now.walk.now.vertex ≢ origin }
+    requires some { at.now.d ≢ origin }
     requires kept { KeepsTrees at.now.table.now.of kept.old }
     ensures kept { KeepsTrees at.now.table.now.of kept.new }
-    ensures along { AreTreesAlong at.now.sound.now at.now.table.now at.now.walk.now.vertex kept.new.trees }
+    ensures along { AreTreesAlong at.now.sound.now at.now.table.now at.now.d kept.new.trees }
 {
     let w = at.table.set();
     let _root = w.least();
@@ -80,10 +78,9 @@ pub(crate) fn renew_trees(kept: &mut GraphTrees, at: &Vantage)
 
 // the first pieces with which the one part blocks the other
 fn arc_between(at: &Vantage, ends: (u32, u32)) -> Arc
-    requires at { StandsAmong at.now.sound.now at.now.table.now at.now.walk.now }
-    requires ahead { AreEndsAhead at.now.table.now at.now.walk.now.vertex ends }
+    requires ahead { AreEndsAhead at.now.table.now at.now.d ends }
     ensures ends { outward result ≡ ends }
-    ensures least { IsLeastArc at.now.sound.now at.now.walk.now.vertex result }
+    ensures least { IsLeastArc at.now.sound.now at.now.d result }
 {
     match at.least_arc(ends.0, ends.1) {
         Some(arc) => arc,
@@ -93,9 +90,8 @@ fn arc_between(at: &Vantage, ends: (u32, u32)) -> Arc
 
 // those of each pair of parts
 fn arcs_between(alloc: Global, at: &Vantage, pairs: &[(u32, u32)]) -> Result<Vec<Arc>, OutOfMemory>
-    requires at { StandsAmong at.now.sound.now at.now.table.now at.now.walk.now }
-    requires ahead { All (AreEndsAhead at.now.table.now at.now.walk.now.vertex) pairs.now }
-    ensures { IfOk result (λ arcs. AreEndsAndLeast at.now.sound.now at.now.walk.now.vertex pairs.now arcs.items) }
+    requires ahead { All (AreEndsAhead at.now.table.now at.now.d) pairs.now }
+    ensures { IfOk result (λ arcs. AreEndsAndLeast at.now.sound.now at.now.d pairs.now arcs.items) }
 {
     let mut arcs = Vec::new(alloc);
     for ends in pairs {
@@ -106,9 +102,8 @@ fn arcs_between(alloc: Global, at: &Vantage, pairs: &[(u32, u32)]) -> Result<Vec
 
 // whether the arcs are those of these pairs of parts
 fn are_between(at: &Vantage, pairs: &[(u32, u32)], arcs: &[Arc]) -> bool
-    requires at { StandsAmong at.now.sound.now at.now.table.now at.now.walk.now }
-    requires ahead { All (AreEndsAhead at.now.table.now at.now.walk.now.vertex) pairs.now }
-    ensures { IsTrue result → AreEndsAndLeast at.now.sound.now at.now.walk.now.vertex pairs.now arcs.now }
+    requires ahead { All (AreEndsAhead at.now.table.now at.now.d) pairs.now }
+    ensures { IsTrue result → AreEndsAndLeast at.now.sound.now at.now.d pairs.now arcs.now }
 {
     if arcs.len() != pairs.len() {
         return false;
@@ -124,9 +119,8 @@ fn are_between(at: &Vantage, pairs: &[(u32, u32)], arcs: &[Arc]) -> bool
 
 /// Whether the witness is the one at the vertex, which has these trees.
 pub(crate) fn is_witness(at: &Vantage, trees: &Trees, witness: &Witness) -> bool
-    requires at { StandsAmong at.now.sound.now at.now.table.now at.now.walk.now }
-    requires along { AreTreesAlong at.now.sound.now at.now.table.now at.now.walk.now.vertex trees.now }
-    ensures { IsTrue result → IsWitnessAt at.now.sound.now at.now.table.now.of at.now.walk.now.vertex witness.now }
+    requires along { AreTreesAlong at.now.sound.now at.now.table.now at.now.d trees.now }
+    ensures { IsTrue result → IsWitnessAt at.now.sound.now at.now.table.now.of at.now.d witness.now }
 {
     let _set = at.table.set();
     let count = trees.count as usize;
@@ -140,9 +134,8 @@ pub(crate) fn witness_here(
     at: &Vantage,
     trees: &Trees,
 ) -> Result<Witness, OutOfMemory>
-    requires at { StandsAmong at.now.sound.now at.now.table.now at.now.walk.now }
-    requires along { AreTreesAlong at.now.sound.now at.now.table.now at.now.walk.now.vertex trees.now }
-    ensures { IfOk result (IsWitnessAt at.now.sound.now at.now.table.now.of at.now.walk.now.vertex) }
+    requires along { AreTreesAlong at.now.sound.now at.now.table.now at.now.d trees.now }
+    ensures { IfOk result (IsWitnessAt at.now.sound.now at.now.table.now.of at.now.d) }
 {
     let _set = at.table.set();
     let count = trees.count as usize;

@@ -61,7 +61,10 @@ pub mod StepLaw
 pub mod StopSigns
 pub mod CrossLaw
 pub mod SignAll
+pub mod CircleStops
 pub mod StopLemmas
+pub mod WholeCircles
+pub mod FullPairs
 pub mod Entering
 pub mod CrossSteps
 pub mod Strength

@@ -75,7 +75,7 @@ module _ (now : Signed) (states after : List PlaneState) (old lost : List PairCo
   less_is : (q : ℕ) → pair_at old q ≡ gained (occurs q (positive_pairs (state_at states k))) (pair_at lost q)
   less_is q = less q ∙ ap (λ qs. gained (occurs q qs) (pair_at lost q)) first_is
 
-  second_by : second ≡ positive_pairs (with_sign sign (state_at states k))
+  pub second_by : second ≡ positive_pairs (with_sign sign (state_at states k))
   second_by = second_is ∙ ap positive_pairs (ap (λ xs. state_at xs k) after_is ∙ get_or-set_same states k (with_sign sign (state_at states k)) no_state place)
 
   pub step_room : (q : ℕ) → (pair_at lost q).positive + occurs q second < 65536

@@ -23,3 +23,4 @@ pub mod Index
 pub mod Stepping
 pub mod StopSigns
 pub mod Walked
+pub mod WholeCircles

@@ -132,16 +132,18 @@ fn add_slot(
     add_pair(signs, table, arc, q as u16)
 }
 
-/// The signs of the planes of a table, all Zero, with its ordered pairs of pieces by their slots, and for each plane
-/// the pairs that have its normal or the negative as a facet.
-pub fn counted_signs(alloc: Global, table: &PlaneTable) -> Result<CountedSigns, OutOfMemory>
-    ensures { IfOk result (λ s. BelongTo table.now s) }
-{
-    let _set = table.set();
-    let places = places_of(alloc, table)?;
-    let mut signs = CountedSigns::new(alloc, table.len(), SLOTS)?;
-    for q in 0..SLOTS {
-        add_slot(&mut signs, table, places.as_slice(), q)?;
+impl CountedSigns {
+    /// The signs of the planes of a table, all Zero, with its ordered pairs of pieces by their slots, and for each
+    /// plane the pairs that have its normal or the negative as a facet.
+    pub fn of(alloc: Global, table: &PlaneTable) -> Result<CountedSigns, OutOfMemory>
+        ensures { IfOk result (λ s. BelongTo table.now s) }
+    {
+        let _set = table.set();
+        let places = places_of(alloc, table)?;
+        let mut signs = CountedSigns::new(alloc, table.len(), SLOTS)?;
+        for q in 0..SLOTS {
+            add_slot(&mut signs, table, places.as_slice(), q)?;
+        }
+        Ok(signs)
     }
-    Ok(signs)
 }

@@ -18,10 +18,13 @@ mod nodes;
 mod order;
 mod pairs;
 mod rings;
+mod rounds;
 mod stop_list;
 mod vertex;
 mod walk;
 
+pub use circle::Circle;
+pub use counted_signs::CountedSigns;
 pub use entry::Entry;
 pub use rings::Rings;
 pub use vertex::Vertex;

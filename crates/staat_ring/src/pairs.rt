@@ -1,6 +1,6 @@
 // How many facets of each ordered pair of pieces are positive.
 ghost use Rattle.std.specs.Prelude.{◌≡◌, ℕ, ◌+◌, ◌*◌, ◌<◌, ◌≤◌, ◌^◌, ◌↔◌};
-ghost use Rattle.std.specs.Prelude.{◌-◌, All, IfOk, IsTrue, length, replicate, slice_set};
+ghost use Rattle.std.specs.Prelude.{◌-◌, All, IfOk, IsTrue, false, length, replicate, slice_set};
 ghost use Rattle.staat_model.specs.Sets.{IsNonempty};
 ghost use Rattle.staat_graph.specs.Graphs.{IsStrong};
 ghost use Rattle.staat_ring.specs.BlockCounts.{IsGraphOf, part_pairs};
@@ -131,6 +131,19 @@ impl PairCounts {
         for q in qs {
             self.lose(*q);
         }
+    }
+
+    /// Whether all facets of some pair in the list are positive.
+    pub fn has_full(&self, qs: &[u16]) -> bool
+        requires { All (λ q. q < length self.now) qs.now }
+        ensures { result ≡ false → All (λ q. (pair_at self.now q).positive < (pair_at self.now q).wanted) qs.now }
+    {
+        for q in qs {
+            if self.is_full(*q) {
+                return true;
+            }
+        }
+        false
     }
 
     /// Whether all facets of the pair are positive.

@@ -33,7 +33,6 @@ ghost use Rattle.staat_ring.specs.Rings.{Ring, RingStop, WereMadeFrom, linked_of
 ghost use Rattle.staat_ring.specs.Walked.{AtStop, IsEntered, WalkWasMadeFrom};
 
 use crate::counted_signs::CountedSigns;
-use crate::index::counted_signs;
 use crate::vertex::Vertex;
 use crate::{Entry, Rings};
 use staat_graph::Graph;
@@ -45,7 +44,7 @@ use std::marker::Model;
 use std::sync::ledger::Ledger;
 
 // the sign of a plane just after a stop that is left, or at one that is reached
-fn stop_sign(leaves: bool, turned: bool) -> Sign
+pub(crate) fn stop_sign(leaves: bool, turned: bool) -> Sign
     ensures { result ≡ stop_sign leaves turned }
 {
     match (leaves, turned) {
@@ -190,7 +189,7 @@ impl Walk {
         ensures crossed { IfOk result (λ w. w.crossed ≡ 0) }
     {
         let _len = table.len();
-        let signs = counted_signs(alloc, table)?;
+        let signs = CountedSigns::of(alloc, table)?;
         let entry = Entry {
             plane: 1,
             turned: false,
@@ -205,19 +204,12 @@ impl Walk {
         })
     }
 
-    /// The vertex at which the walk stands. This call and `is_canon` alone form products.
+    /// The vertex at which the walk stands. This call alone forms products.
     pub fn at(&self) -> V3
         ensures is { result ≡ self.now.vertex }
         ensures within { IsWithin DIRECTION result }
     {
         self.vertex.direction()
-    }
-
-    /// Whether the first component of the vertex other than zero is positive.
-    pub fn is_canon(&self) -> bool
-        ensures { IsTrue result ↔ IsCanon self.now.vertex }
-    {
-        self.vertex.is_canon()
     }
 
     /// The blocking graph at the vertex, among parts of which all planes are linked.
@@ -241,19 +233,6 @@ impl Walk {
         self.signs.is_strong(w)
     }
 
-    /// Whether the vertex leads ahead of all facets of an ordered pair of pieces, of which all planes are linked. It
-    /// looks at two counts.
-    pub fn leads_ahead(&self, table: &PlaneTable, arc: Arc) -> bool
-        requires made { WalkWasMadeFrom table.now self.now }
-        requires across { IsTableArc table.now arc }
-        ensures { (parts : List PartValue) (rings : List Ring) (w : PartSetValue) → WasMadeFrom parts table.now
-            → IsEntered table.now.planes rings self.now → IsSubset w table.now.of → Has w arc.a → Has w arc.b
-            → HasAll parts w table.now.planes (linked_of rings)
-            → IsTrue result ↔ All (λ n. pos 0 <ℤ dot n self.now.vertex) (facets_of table.now arc) }
-    {
-        self.signs.is_full(table.slot(arc) as u16)
-    }
-
     /// Of the planes through the vertex with a number greater than `i` the first one, if there is any.
     pub fn entry_after(&self, table: &PlaneTable, rings: &Rings, i: u32) -> Option<Entry>
         requires rings { WereMadeFrom table.now.planes rings.now }
@@ -262,16 +241,6 @@ impl Walk {
             MatchOption result (All (λ e. e.plane ≤ i) s.entries) (λ e. IsFirst (λ x. i < x.plane) s.entries e)) }
     {
         entry_after(rings, self.circle, self.node, table.len(), i)
-    }
-
-    /// Of the planes through the vertex, without that of the circle, the first one.
-    pub fn first_entry(&self, table: &PlaneTable, rings: &Rings) -> Entry
-        requires rings { WereMadeFrom table.now.planes rings.now }
-        requires entered { IsEntered table.now.planes rings.now.rings self.now }
-        ensures { AtStop rings.now.rings self.now (λ s _. slice_get s.entries 0 ≡ Some result) }
-    {
-        let _len = table.len();
-        entry_of(rings, self.circle, self.node)
     }
 
     /// Goes to the next vertex of the circle, and tells whether that is another one than the first.

@@ -1,5 +1,5 @@
 use Rattle.staat_ring.proofs.PairNumbers.{all_told, none_told}
-use Rattle.staat_ring.proofs.index.counted_signs.Goals as goal
+use Rattle.staat_ring.proofs.counted_signs.CountedSigns.of.Goals as goal
 
 pub loop-q-init : goal.loop-q-init
 loop-q-init c = none_told c.args.table.now c.in_ok-signs.signs c.len.result c.len.ensures.is c.in_ok-signs.ensures

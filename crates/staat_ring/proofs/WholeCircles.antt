@@ -1,0 +1,57 @@
+-- Stops of the circle of a plane among all planes of a table, and the signs at its vertices.
+use Rattle.std.proofs.Common.{◌≡◌, ◌≢◌, ℕ, ◌+◌, ◌-◌, ◌%◌, ◌<◌, arith, ap, sym, subst, ◌∙◌, List, length, All, Contains, false, true}
+use Rattle.std.specs.Prelude.{Some, slice_get}
+use Rattle.std.proofs.Math.Nat.{mod-eq_of_lt}
+use Rattle.std.proofs.lemmas.Option.{slice_get-get_or, slice_get_within}
+use Rattle.staat_vec.specs.declared.vector.V3.{V3}
+use Rattle.staat_pairs.specs.Tables.{AreTablePlanes}
+use Rattle.staat_ring.specs.declared.entry.Entry.{Entry}
+use Rattle.staat_ring.specs.Belonging.{HoldSigns}
+use Rattle.staat_ring.specs.CountedSigns.{Signed}
+use Rattle.staat_ring.specs.RingViews.{numbers_below}
+use Rattle.staat_ring.specs.Rings.{IsRingOf, Ring}
+use Rattle.staat_ring.specs.StopSigns.{with_stop_signs}
+use Rattle.staat_ring.specs.WholeCircles.{AreSignsAt, IsWholeCircle, no_stop, stop_at, vertex_at}
+use Rattle.staat_ring.proofs.Built.{below_all}
+use Rattle.staat_ring.proofs.CircleStops as circle
+use Rattle.staat_ring.proofs.CrossLaw.{cross_signs}
+use Rattle.staat_ring.proofs.Stops.{none_parallel}
+
+-- the numbers of all planes
+abbrev pub all : List V3 → List ℕ
+all planes = numbers_below (length planes)
+
+pub from_all : (planes : List V3) (s : Signed) (v : V3) → HoldSigns planes (all planes) s v → AreSignsAt planes s v
+from_all planes s v holds j n at = holds j n (record { listed = below_all (length planes) j (slice_get_within planes j n at); is = at })
+
+pub to_linked : (planes : List V3) (linked : List ℕ) (s : Signed) (v : V3) → AreSignsAt planes s v → HoldSigns planes linked s v
+to_linked planes linked s v signs j n h = signs j n h.is
+
+module _ (planes : List V3) (table : AreTablePlanes planes) (r : Ring) (is : IsWholeCircle planes r) where
+  pub ring : IsRingOf planes (all planes) r
+  ring = is.is (all planes) (below_all (length planes))
+
+  module _ (k : ℕ) (lt : k < length r.stops) where
+    pub there : slice_get r.stops k ≡ Some (stop_at r k)
+    there = slice_get-get_or r.stops k no_stop lt
+
+    pub entries_small : All (λ e. e.plane < length planes) (stop_at r k).entries
+    entries_small = (circle.few planes (all planes) table r ring k (stop_at r k) there).1
+
+    pub entry_small : (e : Entry) → Contains (stop_at r k).entries e → e.plane < length planes
+    entry_small = circle.entry_small planes (all planes) table r ring k (stop_at r k) there
+
+    pub entry_other : (e : Entry) → Contains (stop_at r k).entries e → e.plane ≢ r.plane
+    entry_other = circle.entry_other planes (all planes) table r ring k (stop_at r k) there
+
+    pub some : 0 < length (stop_at r k).entries
+    some = circle.some planes (all planes) table r ring k (stop_at r k) there
+
+  pub crossed : (k : ℕ) → 0 < k → k < length r.stops → (now : Signed) → length now.states ≡ length planes → AreSignsAt planes now (vertex_at planes r (k - 1))
+      → AreSignsAt planes (with_stop_signs false (stop_at r k).entries (with_stop_signs true (stop_at r (k - 1)).entries now)) (vertex_at planes r k)
+  crossed k later lt now size signs =
+      let before : k - 1 < length r.stops = omega (arith, lt) in
+      let next : k ≡ (k - 1 + 1) % length r.stops = (let e : k - 1 + 1 ≡ k = omega (arith, later) in sym (ap (λ m. m % length r.stops) e ∙ mod-eq_of_lt lt)) in
+      from_all planes (with_stop_signs false (stop_at r k).entries (with_stop_signs true (stop_at r (k - 1)).entries now)) (vertex_at planes r k)
+      (cross_signs planes (all planes) r (none_parallel planes (all planes) table) ring (stop_at r (k - 1)) (stop_at r k) (k - 1) (there (k - 1) before)
+      (subst (λ m. slice_get r.stops m ≡ Some (stop_at r k)) next (there k lt)) now size (to_linked planes (all planes) now (vertex_at planes r (k - 1)) signs))
