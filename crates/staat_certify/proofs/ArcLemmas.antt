@@ -55,22 +55,23 @@ least_found t d a b i j below first = record {
     go y p (inr (inl e)) (inr (inr gt)) = inr (less_by_j (arc_of a i b j) y (sym p.0) (sym e) (sym p.1) gt)
     go y p (inr (inr gt)) s = inr (less_by_i (arc_of a i b j) y (sym p.0) gt)
 
+-- two pieces of two parts of the set that meet are two of the table
+pub met_of : (parts : List Part) (t : Table) (d : V3) (a b : ℕ) → WasMadeFrom parts t → Has t.of a → Has t.of b → a ≢ b → (y : Arc) → y.a ≡ a → y.b ≡ b → MeetsAlong parts d y → IsMet t d y
+met_of parts t d a b made a_in b_in apart y e f m =
+    let first : Has t.of y.a = subst (Has t.of) (sym e) a_in in
+    let second : Has t.of y.b = subst (Has t.of) (sym f) b_in in
+    let across : IsTableArc t y = record {
+      a_in = first;
+      b_in = second;
+      different = λ same. apart (sym e ∙ same ∙ f);
+      i_is = subst (λ n. y.i < n) (sym (made.pieces y.a first)) (piece_within parts y.a y.i m.p m.p_is);
+      j_is = subst (λ n. y.j < n) (sym (made.pieces y.b second)) (piece_within parts y.b y.j m.q m.q_is);
+    } in
+    record { across = across; ahead = (meets_at parts t d y made.assembly (made.facets y across)).0 m }
+
 -- they are the least pieces of the assembly that the table was made from
 pub least_of_parts : (parts : List Part) (t : Table) (d : V3) (a b : ℕ) (arc : Arc) → WasMadeFrom parts t → Has t.of a → Has t.of b → a ≢ b → IsLeastMet t d a b arc → IsLeastArc parts d arc
 least_of_parts parts t d a b arc made a_in b_in apart is = record {
   has = (refl, refl, (meets_at parts t d arc made.assembly (made.facets arc is.has.2.across)).1 is.has.2.ahead);
-  least = λ y p. is.least y (p.0 ∙ is.has.0, p.1 ∙ is.has.1, met y (p.0 ∙ is.has.0) (p.1 ∙ is.has.1) p.2);
+  least = λ y p. is.least y (p.0 ∙ is.has.0, p.1 ∙ is.has.1, met_of parts t d a b made a_in b_in apart y (p.0 ∙ is.has.0) (p.1 ∙ is.has.1) p.2);
 }
-  where
-    met : (y : Arc) → y.a ≡ a → y.b ≡ b → MeetsAlong parts d y → IsMet t d y
-    met y e f m =
-        let first : Has t.of y.a = subst (Has t.of) (sym e) a_in in
-        let second : Has t.of y.b = subst (Has t.of) (sym f) b_in in
-        let across : IsTableArc t y = record {
-          a_in = first;
-          b_in = second;
-          different = λ same. apart (sym e ∙ same ∙ f);
-          i_is = subst (λ n. y.i < n) (sym (made.pieces y.a first)) (piece_within parts y.a y.i m.p m.p_is);
-          j_is = subst (λ n. y.j < n) (sym (made.pieces y.b second)) (piece_within parts y.b y.j m.q m.q_is);
-        } in
-        record { across = across; ahead = (meets_at parts t d y made.assembly (made.facets y across)).0 m }

@@ -8,6 +8,7 @@ pub mod TreeArcs
 pub mod Keys
 pub mod Numbering
 pub mod LineLemmas
+pub mod SameWitness
 pub mod VisitLemmas
 pub mod ListedLemmas
 pub mod Forms

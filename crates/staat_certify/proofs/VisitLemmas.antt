@@ -1,6 +1,6 @@
 -- What a walk over the vertices of a table's planes finds.
 use Rattle.std.proofs.Common.{◌≡◌, ◌≢◌, ⊎_elim, ℕ, ◌+◌, ◌<◌, ◌≤◌, Bool, true, false, not, arith, ap, sym, subst, ◌∙◌, refl, List, [], ◌∷◌, ◌++◌, length, All, Contains}
-use Rattle.std.specs.Prelude.{Some, map, slice_get}
+use Rattle.std.specs.Prelude.{Some, slice_get}
 use Rattle.std.specs.List.{AllByRecursion, dedup}
 use Rattle.std.specs.List.Sorted.{IsPermutation, IsSortedByKey, IsStrictlySortedBy}
 use Rattle.std.specs.Cmp.{IsTotalOrder}
@@ -12,7 +12,7 @@ use Rattle.std.proofs.lemmas.List.{map-append}
 use Rattle.std.proofs.lemmas.List.Elements.{All-contains, All-push, All-weaker, Contains-append_left, Contains-push}
 use Rattle.std.proofs.lemmas.List.Kept.{Any-dedup, Contains-from_dedup, IsStrictlySortedBy-dedup}
 use Rattle.std.proofs.lemmas.List.Sorted.{Contains-permutation, IsPermutation-sym}
-use Rattle.std.proofs.lemmas.Option.{get_or_from_slice_get, slice_get-get_or, slice_get_within}
+use Rattle.std.proofs.lemmas.Option.{get_or_from_slice_get, slice_get_within}
 use Rattle.staat_vec.specs.declared.vector.V3.{V3}
 use Rattle.staat_vec.specs.Lists.{Lists}
 use Rattle.staat_vec.specs.Primitives.{primitive}
@@ -20,42 +20,27 @@ use Rattle.staat_vec.specs.Vectors.{cross, negative, origin, vector_cmp}
 use Rattle.staat_vec.proofs.Canons.{negative-negative}
 use Rattle.staat_vec.proofs.Comparisons.{from_is_eq}
 use Rattle.staat_vec.proofs.Primitives.{primitive-negative}
-use Rattle.staat_vec.proofs.Unique.{from_place}
 use Rattle.staat_vec.proofs.VectorOrder.{vector_exact, vector_total}
 use Rattle.staat_vec.proofs.VecRing.{cross_self, cross_turned}
 use Rattle.staat_model.specs.declared.assembly.Part.{Part}
 use Rattle.staat_model.specs.declared.certificate.Witness.{Witness}
 use Rattle.staat_model.specs.declared.set.PartSet.{PartSet}
 use Rattle.staat_model.specs.Certify.{IsDirection, IsWitnessAt}
-use Rattle.staat_model.specs.Planes.{vertices}
 use Rattle.staat_model.proofs.EndLemmas.{from_vertices}
 use Rattle.staat_model.proofs.Members.{All-from_members}
 use Rattle.staat_model.proofs.PlaneLemmas.{NoneParallel}
-use Rattle.staat_model.proofs.VertexLemmas.{in_vertices}
-use Rattle.staat_pairs.specs.Tables.{AreTablePlanes, Table}
+use Rattle.staat_pairs.specs.Tables.{AreTablePlanes}
 use Rattle.staat_certify.specs.WitnessListings.{AreKeys, IsWitnessNumber}
 use Rattle.staat_certify.specs.declared.visits.Visit.{Visit}
-use Rattle.staat_certify.specs.Visits.{AreStillVisited, AreVisitedBelow, AreVisitedOn, IsNamed, IsNumberHere, IsVisitedDirection, SortsVisits, StandsAmong, visited_directions}
+use Rattle.staat_certify.specs.Visits.{AreStillVisited, AreVisitedBelow, AreVisitedOn, IsNamed, IsNumberHere, IsVisitedDirection, SortsVisits, visited_directions}
 use Rattle.staat_certify.proofs.LineLemmas.{kept}
 use Rattle.staat_ring.specs.declared.entry.Entry.{Entry}
-use Rattle.staat_ring.specs.Belonging.{HasAll}
-use Rattle.staat_ring.specs.Places.{IsStopAt}
-use Rattle.staat_ring.specs.Rings.{AreRings, Arrangement, IsRingOf, Ring, RingStop, UnlinkedPlane, WereMadeFrom, crossing, facet_by, linked_of, stop_of, unlinked_of, vertex_of}
+use Rattle.staat_ring.specs.Rings.{Ring, crossing, facet_by}
+use Rattle.staat_ring.specs.WholeCircles.{IsWholeCircle, vertex_at}
 use Rattle.staat_planes.specs.PairOrder.{plane_at}
-use Rattle.staat_ring.specs.Walked.{IsEntered, Walked}
-use Rattle.staat_ring.proofs.Covered.{entry_there}
-use Rattle.staat_ring.proofs.StopLemmas.{one_stop, vertex_first}
-use Rattle.staat_ring.proofs.Stops.{none_parallel, stop_there}
+use Rattle.staat_ring.proofs.WholeCircles.{crossing_there}
 use Rattle.staat_vec.proofs.ListLaws.{Contains-from_map, Contains-map, place_of}
 use Rattle.staat_vec.proofs.Naturals.{lt_one_more_cases}
-
--- all planes of the table's set are linked
-pub whole : (parts : List Part) (t : Table) (w : Walked) (stands : StandsAmong parts t w) → HasAll parts t.of t.planes (linked_of stands.rings)
-whole parts t w stands k n at is = stands.all k (slice_get_within t.planes k n at)
-
--- where no plane is unlinked, the circles are those of all planes
-pub whole_rings : (planes : List V3) (a : Arrangement) → WereMadeFrom planes a → a.unlinked ≡ [] → AreRings planes a.rings []
-whole_rings planes a made none = subst (λ (out : List (UnlinkedPlane (List Ring))). AreRings planes a.rings (unlinked_of out)) none made.now
 
 -- ---- one more visit
 
@@ -84,93 +69,65 @@ pub named_still : (parts : List Part) (w : PartSet) (old new : List Witness) (vi
 named_still parts w old new visited kept before = All-weaker (IsNamed parts w old) (IsNamed parts w new)
     (λ visit names. record { witness = names.witness; witness_is = kept visit.number names.witness names.witness_is; is = names.is }) visited before
 
--- ---- where the circles have been gone round
+-- ---- where circles have been gone round
 
-module _ (planes : List V3) (rings : List Ring) (table : AreTablePlanes planes) (are : AreRings planes rings []) where
-  pub linked : (k : ℕ) → k < length planes → Contains (linked_of rings) k
-  linked k lt = ⊎_elim (λ h. h) (λ c. absurd (let lt = c.1 in omega (arith, lt))) (are.all k lt)
+crossing_back : (planes : List V3) (b c : ℕ) (turned : Bool) → crossing planes b (record { plane = c; turned = not turned }) ≡ crossing planes c (record { plane = b; turned = turned })
+crossing_back planes b c turned = go turned
+  where
+    u : V3
+    u = primitive (cross (plane_at planes c) (plane_at planes b))
 
-  -- the vertex of a stop is one of those of the planes
-  pub stop_listed : (c m : ℕ) (s : RingStop) → IsStopAt rings c m s → Contains (vertices planes) (vertex_of planes c s.entries)
-  stop_listed c m s at = subst (λ k. Contains (vertices planes) (vertex_of planes k s.entries)) at.plane (
-      let r : IsRingOf planes (linked_of rings) at.ring = All-contains (IsRingOf planes (linked_of rings)) rings at.ring are.each at.listed in
-      let v : V3 = vertex_of planes at.ring.plane s.entries in
-      let stops = map (stop_of planes at.ring.plane) at.ring.stops in
-      let x = r.circle.vertices.each v (Contains-map (λ s. s.vertex) stops (stop_of planes at.ring.plane s) (from_place stops m (stop_of planes at.ring.plane s) (stop_there planes at.ring m s at.is))) in
-      let apart : cross r.circle.g x.h ≢ origin = (none_parallel planes (linked_of rings) table).apart at.ring.plane x.other r.circle.g x.h r.circle.g_is x.other_is (λ q. x.different (sym q)) in
-      in_vertices planes r.circle.g x.h v (from_place planes at.ring.plane r.circle.g r.circle.g_is.is) (from_place planes x.other x.h x.other_is.is) apart x.is)
+    back : primitive (cross (plane_at planes b) (plane_at planes c)) ≡ negative u
+    back = ap primitive (cross_turned (plane_at planes b) (plane_at planes c)) ∙ primitive-negative (cross (plane_at planes c) (plane_at planes b))
 
-  module _ (version : ℕ) (visited : List Visit) (n : ℕ) (before : AreVisitedBelow planes rings version visited n) where
-    -- the crossing of two planes is the vertex of a stop on the circle of the first
-    visited_crossing : (k j : ℕ) (turned : Bool) → k < n → k < length planes → j < length planes → j ≢ k → IsVisitedDirection version visited (crossing planes k (record { plane = j; turned = turned }))
-    visited_crossing k j turned below lt small ne =
-        let e : Entry = record { plane = j; turned = turned } in
-        let (r, listed, is) = Contains-from_map (λ (r : Ring). r.plane) rings k (linked k lt) in
-        let there = entry_there planes (linked_of rings) r (none_parallel planes (linked_of rings) table) (All-contains (IsRingOf planes (linked_of rings)) rings r are.each listed) e (plane_at planes j) (record { listed = linked j small; is = slice_get-get_or planes j origin small }) (λ q. ne (q ∙ is)) in
-        subst (IsVisitedDirection version visited) (subst (λ c. vertex_of planes c there.stop.entries ≡ crossing planes c e) is there.vertex)
-        (before k there.place there.stop below (record { ring = r; listed = listed; plane = is; is = there.is }))
+    go : (t : Bool) → facet_by (not t) (primitive (cross (plane_at planes b) (plane_at planes c))) ≡ facet_by t u
+    go false = ap negative back ∙ negative-negative u
+    go true = back
 
-    crossing_back : (b c : ℕ) (turned : Bool) → crossing planes b (record { plane = c; turned = not turned }) ≡ crossing planes c (record { plane = b; turned = turned })
-    crossing_back b c turned = go turned
-      where
-        u : V3
-        u = primitive (cross (plane_at planes c) (plane_at planes b))
+module _ (planes : List V3) (version : ℕ) (visited : List Visit) (n : ℕ) (before : AreVisitedBelow planes version visited n) where
+  -- a vertex through which a plane before that of the circle passes
+  pub visited_earlier : (c : ℕ) (e : Entry) → n ≡ c → c < length planes → e.plane < c → IsVisitedDirection version visited (crossing planes c e)
+  visited_earlier c e same small lt =
+      subst (IsVisitedDirection version visited) (crossing_back planes e.plane c e.turned) (before e.plane c (not e.turned) (omega (arith, same, lt)) small (λ q. omega (arith, q, lt)))
 
-        back : primitive (cross (plane_at planes b) (plane_at planes c)) ≡ negative u
-        back = ap primitive (cross_turned (plane_at planes b) (plane_at planes c)) ∙ primitive-negative (cross (plane_at planes c) (plane_at planes b))
+  -- all directions
+  pub all_visited : length planes ≤ n → NoneParallel planes → (d : V3) → IsDirection version planes d → Contains (visited_directions visited) d
+  all_visited most apart d is =
+      let f = from_vertices planes d apart is.vertex in
+      let (i, at_g) = place_of planes f.g f.g_in in
+      let (j, at_h) = place_of planes f.h f.h_in in
+      let lt = slice_get_within planes i f.g at_g in
+      let small = slice_get_within planes j f.h at_h in
+      let g_is = get_or_from_slice_get planes i f.g origin at_g in
+      let h_is = get_or_from_slice_get planes j f.h origin at_h in
+      let ne : j ≢ i = λ q. f.independent (ap (λ z. cross z f.h) (sym g_is ∙ (ap (plane_at planes) (sym q) ∙ h_is)) ∙ cross_self f.h) in
+      let u : primitive (cross (plane_at planes i) (plane_at planes j)) ≡ primitive (cross f.g f.h) = λ t. primitive (cross (g_is t) (h_is t)) in
+      ⊎_elim {C = IsVisitedDirection version visited d}
+      (λ e. subst (IsVisitedDirection version visited) (u ∙ sym e) (before i j false (omega (arith, lt, most)) small ne))
+      (λ e. subst (IsVisitedDirection version visited) (ap negative u ∙ sym e) (before i j true (omega (arith, lt, most)) small ne))
+      f.is
+      is.canonical
 
-        go : (t : Bool) → facet_by (not t) (primitive (cross (plane_at planes b) (plane_at planes c))) ≡ facet_by t u
-        go false = ap negative back ∙ negative-negative u
-        go true = back
+-- what has been visited is so when more has been
+module _ (planes : List V3) (version : ℕ) (old new : List Visit) (n : ℕ) (still : AreStillVisited old new) where
+  pub below_still : AreVisitedBelow planes version old n → AreVisitedBelow planes version new n
+  below_still below k j turned lt small ne canonical = still (crossing planes k (record { plane = j; turned = turned })) (below k j turned lt small ne canonical)
 
-    -- a vertex through which a plane before that of the circle passes
-    pub visited_earlier : (c m : ℕ) (s : RingStop) (e : Entry) → n ≡ c → c < length planes → slice_get s.entries 0 ≡ Some e → e.plane < c → IsVisitedDirection version visited (vertex_of planes c s.entries)
-    visited_earlier c m s e same small at lt =
-        subst (IsVisitedDirection version visited) (crossing_back e.plane c e.turned ∙ vertex_first planes c s.entries e at)
-        (visited_crossing e.plane c (not e.turned) (omega (arith, same, lt)) (omega (arith, small, lt)) small (λ q. omega (arith, q, lt)))
+  pub on_more : (r : Ring) → IsVisitedDirection version new (vertex_at planes r n) → AreVisitedOn planes version old r n → AreVisitedOn planes version new r (n + 1)
+  on_more r here on m lt = ⊎_elim {C = IsVisitedDirection version new (vertex_at planes r m)}
+      (λ less canonical. still (vertex_at planes r m) (on m less canonical))
+      (λ e. subst (λ k. IsVisitedDirection version new (vertex_at planes r k)) (sym e) here)
+      (lt_one_more_cases m n lt)
 
-    -- all directions
-    pub all_visited : length planes ≤ n → NoneParallel planes → (d : V3) → IsDirection version planes d → Contains (visited_directions visited) d
-    all_visited most apart d is =
-        let f = from_vertices planes d apart is.vertex in
-        let (i, at_g) = place_of planes f.g f.g_in in
-        let (j, at_h) = place_of planes f.h f.h_in in
-        let lt = slice_get_within planes i f.g at_g in
-        let small = slice_get_within planes j f.h at_h in
-        let g_is = get_or_from_slice_get planes i f.g origin at_g in
-        let h_is = get_or_from_slice_get planes j f.h origin at_h in
-        let ne : j ≢ i = λ q. f.independent (ap (λ z. cross z f.h) (sym g_is ∙ (ap (plane_at planes) (sym q) ∙ h_is)) ∙ cross_self f.h) in
-        let u : primitive (cross (plane_at planes i) (plane_at planes j)) ≡ primitive (cross f.g f.h) = λ t. primitive (cross (g_is t) (h_is t)) in
-        ⊎_elim {C = IsVisitedDirection version visited d}
-        (λ e. subst (IsVisitedDirection version visited) (u ∙ sym e) (visited_crossing i j false (omega (arith, lt, most)) lt small ne))
-        (λ e. subst (IsVisitedDirection version visited) (ap negative u ∙ sym e) (visited_crossing i j true (omega (arith, lt, most)) lt small ne))
-        f.is
-        is.canonical
-
-  -- one more stop of the circle c
-  module _ (version : ℕ) (old new : List Visit) (c n : ℕ) (still : AreStillVisited old new) where
-    pub on_more : (w : Walked) → IsEntered planes rings w → w.circle ≡ c → w.place ≡ n → IsVisitedDirection version new w.vertex → AreVisitedOn planes rings version old c n → AreVisitedOn planes rings version new c (n + 1)
-    on_more w entered circle place here on m s lt at = ⊎_elim {C = IsVisitedDirection version new (vertex_of planes c s.entries)}
-        (λ less canonical. still (vertex_of planes c s.entries) (on m s less at canonical))
-        (λ e.
-        let there : IsStopAt rings c m entered.stop = subst (λ k. IsStopAt rings k m entered.stop) circle (subst (λ k. IsStopAt rings w.circle k entered.stop) (place ∙ sym e) entered.at) in
-        let same = one_stop rings c m s entered.stop are.ascending at there in
-        subst (IsVisitedDirection version new) (entered.vertex ∙ ((λ i. vertex_of planes (circle i) entered.stop.entries) ∙ ap (λ (x : RingStop). vertex_of planes c x.entries) (sym same))) here)
-        (lt_one_more_cases m n lt)
-
-    pub below_still : AreVisitedBelow planes rings version old c → AreVisitedBelow planes rings version new c
-    below_still below b m s lt at canonical = still (vertex_of planes b s.entries) (below b m s lt at canonical)
-
-  -- the circle c has been gone round
-  pub below_more : (version : ℕ) (visited : List Visit) (c count n : ℕ) → ((r : Ring) → Contains rings r → r.plane ≡ c → count ≡ length r.stops) → count ≤ n → AreVisitedBelow planes rings version visited c → AreVisitedOn planes rings version visited c n → AreVisitedBelow planes rings version visited (c + 1)
-  below_more version visited c count n size le below on b m s lt at = ⊎_elim {C = IsVisitedDirection version visited (vertex_of planes b s.entries)}
-      (λ less. below b m s less at)
+module _ (planes : List V3) (table : AreTablePlanes planes) (r : Ring) (is : IsWholeCircle planes r) where
+  -- the circle has been gone round
+  pub below_more : (version : ℕ) (visited : List Visit) (n : ℕ) → length r.stops ≤ n → AreVisitedBelow planes version visited r.plane → AreVisitedOn planes version visited r n → AreVisitedBelow planes version visited (r.plane + 1)
+  below_more version visited n le below on k j turned lt small ne = ⊎_elim {C = IsVisitedDirection version visited (crossing planes k (record { plane = j; turned = turned }))}
+      (λ less. below k j turned less small ne)
       (λ e.
-      let there : IsStopAt rings c m s = subst (λ k. IsStopAt rings k m s) e at in
-      let l = slice_get_within there.ring.stops m s there.is in
-      let z = size there.ring there.listed there.plane in
-      subst (λ k. IsVisitedDirection version visited (vertex_of planes k s.entries)) (sym e) (on m s (omega (arith, l, z, le)) there))
-      (lt_one_more_cases b c lt)
+      let (m, within, there) = crossing_there planes table r is j turned small (λ q. ne (q ∙ sym e)) in
+      subst (IsVisitedDirection version visited) (there ∙ ap (λ c. crossing planes c (record { plane = j; turned = turned })) (sym e)) (on m (omega (arith, within, le))))
+      (lt_one_more_cases k r.plane lt)
 
 -- ---- in the order of the directions
 

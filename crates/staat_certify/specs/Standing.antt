@@ -1,4 +1,5 @@
 -- What is known where one stands at a vertex of a table's planes.
+use Rattle.std.specs.Prelude.{List}
 use Rattle.staat_vec.specs.declared.vector.V3.{V3}
 use Rattle.staat_model.specs.declared.assembly.Part.{Part}
 use Rattle.staat_pairs.specs.Tables.{Table, WasMadeFrom}

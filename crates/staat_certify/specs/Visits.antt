@@ -1,6 +1,7 @@
 -- What a survey of the vertices of a table's planes has found: the directions that it has visited, and their
 -- witnesses.
-use Rattle.std.specs.Prelude.{◌≡◌, ℕ, ◌<◌, List, [], All, Contains, Some, length, map, slice_get, true}
+use Rattle.std.specs.Prelude.{◌≡◌, ◌≢◌, ◌-◌, ℕ, ◌<◌, List, All, Bool, Contains, IfSome, Option}
+use Rattle.std.specs.Prelude.{Some, length, map, slice_get, true}
 use Rattle.std.specs.List.Sorted.{IsStrictlySortedBy}
 use Rattle.staat_vec.specs.declared.vector.V3.{V3}
 use Rattle.staat_vec.specs.Primitives.{IsCanon}
@@ -17,7 +18,13 @@ use Rattle.staat_certify.specs.declared.visits.Visit.{Visit}
 use Rattle.staat_certify.specs.declared.witnesses.GraphTrees.{GraphTrees}
 use Rattle.staat_certify.specs.WitnessListings.{AreKeys}
 use Rattle.staat_ring.specs.Rings.{Ring, crossing}
-use Rattle.staat_ring.specs.WholeCircles.{vertex_at}
+use Rattle.staat_ring.specs.CountedSigns.{Signed}
+use Rattle.staat_ring.specs.WholeCircles.{AreSignsAt, vertex_at}
+
+-- the parts, some of which are stuck, and the table of these
+pub record IsSurvey (parts : List Part) (t : Table) : Type 0 where
+  pub made : WasMadeFrom parts t
+  pub stuck : IsStuck parts t.of
 
 -- the trees are those of the graph, if any graph was looked at
 pub record KeepsTrees (w : PartSet) (kept : GraphTrees) : Type 0 where
@@ -56,6 +63,14 @@ AreStillVisited old new = (v : V3) → Contains (visited_directions old) v → C
 -- the number that is told, if any is, names the witness at d
 abbrev pub IsTold : List Part → PartSet → List Witness → V3 → Option ℕ → Type 0
 IsTold parts w witnesses d told = IfSome told (λ i. NamesWitness parts w witnesses (record { d = d; witness = i }))
+
+-- the signs are those at the vertex of the circle before the one at k, and the number that is told, if any is, names
+-- the witness there
+pub record IsVisitedTo (parts : List Part) (t : Table) (r : Ring) (s : Signed) (witnesses : List Witness)
+    (told : Option ℕ) (k : ℕ) : Type 0 where
+  pub later : 0 < k
+  pub signs : AreSignsAt t.planes s (vertex_at t.planes r (k - 1))
+  pub names : IsTold parts t.of witnesses (vertex_at t.planes r (k - 1)) told
 
 -- the crossings of the planes below n with all others have been visited
 abbrev pub AreVisitedBelow : List V3 → ℕ → List Visit → ℕ → Type 0

@@ -20,12 +20,12 @@ pub(crate) struct Vantage<'a> {
     pub table: &'a PlaneTable,
     pub signs: &'a CountedSigns,
     pub d: V3,
-    pub ghost stands: { StandsAmong sound.now table.now signs.now d },
 }
 
 impl<'a> Vantage<'a> {
     /// The blocking graph at the vertex.
     pub(crate) fn graph(&self) -> Graph
+        requires { StandsAmong self.now.sound.now self.now.table.now self.now.signs.now self.now.d }
         ensures { ShowsBlocking self.now.sound.now self.now.d self.now.table.now.of result.rows }
     {
         let _set = self.table.set();
@@ -34,7 +34,8 @@ impl<'a> Vantage<'a> {
 
     // whether the vertex leads ahead of all facets of an ordered pair of pieces, so that the first meets the second
     fn leads_ahead(&self, arc: Arc) -> bool
-        requires { IsTableArc self.now.table.now arc }
+        requires at { StandsAmong self.now.sound.now self.now.table.now self.now.signs.now self.now.d }
+        requires across { IsTableArc self.now.table.now arc }
         ensures { IsTrue result ↔ All (λ n. pos 0 <ℤ dot n self.now.d) (facets_of self.now.table.now arc) }
     {
         self.signs.is_full(self.table.slot(arc) as u16)
@@ -42,6 +43,7 @@ impl<'a> Vantage<'a> {
 
     // the first piece of b that piece i of a meets
     fn first_met(&self, a: u32, i: u32, b: u32) -> Option<u32>
+        requires at { StandsAmong self.now.sound.now self.now.table.now self.now.signs.now self.now.d }
         requires a_in { Has self.now.table.now.of a }
         requires b_in { Has self.now.table.now.of b }
         requires different { a ≢ b }
@@ -59,6 +61,7 @@ impl<'a> Vantage<'a> {
 
     /// The first two pieces of two parts of which the one meets the other along the vertex.
     pub(crate) fn least_arc(&self, a: u32, b: u32) -> Option<Arc>
+        requires at { StandsAmong self.now.sound.now self.now.table.now self.now.signs.now self.now.d }
         requires a_in { Has self.now.table.now.of a }
         requires b_in { Has self.now.table.now.of b }
         requires different { a ≢ b }

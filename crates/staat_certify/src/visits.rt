@@ -8,8 +8,10 @@ ghost use Rattle.std.specs.Prelude.{
   ◌↔◌,
   Contains,
   IfOk,
+  IfSome,
   IsTrue,
   OnOk,
+  Some,
   [],
   false,
   length,
@@ -24,8 +26,9 @@ ghost use Rattle.staat_pairs.specs.Tables.{WasMadeFrom};
 ghost use Rattle.staat_ring.specs.Belonging.{BelongTo};
 ghost use Rattle.staat_ring.specs.WholeCircles.{AreSignsAt, HaveSameFull, IsWholeCircle, vertex_at};
 ghost use Rattle.staat_certify.specs.WitnessListings.{AreKeys};
-ghost use Rattle.staat_certify.specs.Visits.{AreStillVisited, AreVisitedBelow, HasFound, IsNumberHere, IsTold};
-ghost use Rattle.staat_certify.specs.Visits.{IsVisitedDirection, KeepsTrees, SortsVisits, visited_directions};
+ghost use Rattle.staat_certify.specs.Visits.{AreStillVisited, AreVisitedBelow, HasFound, IsNumberHere, IsSurvey};
+ghost use Rattle.staat_certify.specs.Standing.{StandsAmong};
+ghost use Rattle.staat_certify.specs.Visits.{IsTold, IsVisitedDirection, IsVisitedTo, KeepsTrees, SortsVisits, visited_directions};
 ghost use Rattle.staat_certify.specs.Witnesses.{AreTreesAlong};
 
 use crate::listing::number_witness;
@@ -76,7 +79,8 @@ impl Found {
 
 // whether the witness at the vertex is the one that was numbered last
 fn is_latest(at: &Vantage, found: &Found) -> bool
-    requires { AreTreesAlong at.now.sound.now at.now.table.now at.now.d found.now.kept.trees }
+    requires at { StandsAmong at.now.sound.now at.now.table.now at.now.signs.now at.now.d }
+    requires along { AreTreesAlong at.now.sound.now at.now.table.now at.now.d found.now.kept.trees }
     ensures { IsTrue result → NamesWitness at.now.sound.now at.now.table.now.of found.now.witnesses.items
         (record { d = at.now.d; witness = found.now.latest }) }
 {
@@ -88,6 +92,7 @@ fn is_latest(at: &Vantage, found: &Found) -> bool
 
 // the number of the witness at the vertex, which is put at the end of the list if it is a new one
 fn number_anew(alloc: Global, at: &Vantage, found: &mut Found) -> Result<usize, OutOfMemory>
+    requires at { StandsAmong at.now.sound.now at.now.table.now at.now.signs.now at.now.d }
     requires along { AreTreesAlong at.now.sound.now at.now.table.now at.now.d found.old.kept.trees }
     requires keys { AreKeys (map (λ v. v.items) found.old.keys.keys) found.old.witnesses.items }
     ensures number { IfOk result (IsNumberHere at.now.sound.now at.now.table.now.of at.now.d
@@ -103,6 +108,7 @@ fn number_anew(alloc: Global, at: &Vantage, found: &mut Found) -> Result<usize, 
 
 // the number of the witness at the vertex, looked for where it is not told
 fn number_here(alloc: Global, at: &Vantage, told: Option<usize>, found: &mut Found) -> Result<usize, OutOfMemory>
+    requires at { StandsAmong at.now.sound.now at.now.table.now at.now.signs.now at.now.d }
     requires stuck { IsStuck at.now.sound.now at.now.table.now.of }
     requires some { at.now.d ≢ origin }
     requires kept { KeepsTrees at.now.table.now.of found.old.kept }
@@ -123,6 +129,13 @@ fn number_here(alloc: Global, at: &Vantage, told: Option<usize>, found: &mut Fou
     number_anew(alloc, at, found)
 }
 
+// the number that is told, unless other pieces may meet now
+fn still_told(changes: bool, told: Option<usize>) -> Option<usize>
+    ensures { IfSome result (λ number. (changes ≡ false) × (told ≡ Some number)) }
+{
+    if changes { None } else { told }
+}
+
 /// What is visited, and what for: the vertices of the planes of a table, circle by circle, for the refusal of this
 /// version that the table's set is stuck.
 #[derive(Drop)]
@@ -131,8 +144,6 @@ struct Survey<'a> {
     sound: &'a Sound,
     table: &'a PlaneTable,
     version: u32,
-    ghost made: { WasMadeFrom sound.now table.now },
-    ghost stuck: { IsStuck sound.now table.now.of },
 }
 
 impl<'a> Survey<'a> {
@@ -151,6 +162,7 @@ impl<'a> Survey<'a> {
         told: Option<usize>,
         found: &mut Found,
     ) -> Result<usize, OutOfMemory>
+        requires survey { IsSurvey self.now.sound.now self.now.table.now }
         requires made { BelongTo self.now.table.now signs.now }
         requires signs { AreSignsAt self.now.table.now.planes signs.now vertex.now }
         requires direction { IsDirection self.now.version self.now.table.now.planes vertex.now }
@@ -184,6 +196,7 @@ impl<'a> Survey<'a> {
         told: Option<usize>,
         found: &mut Found,
     ) -> Result<Option<usize>, OutOfMemory>
+        requires survey { IsSurvey self.now.sound.now self.now.table.now }
         requires made { BelongTo self.now.table.now signs.now }
         requires circle { IsWholeCircle self.now.table.now.planes circle.now }
         requires place { k < length circle.now.stops }
@@ -225,10 +238,44 @@ impl<'a> Survey<'a> {
         ensures same { result ≡ false → IsTrue near × HaveSameFull signs.old signs.new }
     {
         if near {
-            return signs.cross(self.table, circle, k - 1);
+            return signs.cross(self.table, circle, k);
         }
         signs.enter(self.table, circle, k);
         true
+    }
+
+    // Goes to the vertex k of a circle, from the one before it if `near` says so, and visits it. The number that is told
+    // is that of the witness at the one before, and the answer that of the one here.
+    fn go_to(
+        &self,
+        circle: &Circle,
+        k: usize,
+        near: bool,
+        signs: &mut CountedSigns,
+        told: Option<usize>,
+        found: &mut Found,
+    ) -> Result<Option<usize>, OutOfMemory>
+        requires survey { IsSurvey self.now.sound.now self.now.table.now }
+        requires made { BelongTo self.now.table.now signs.old }
+        requires circle { IsWholeCircle self.now.table.now.planes circle.now }
+        requires place { k < length circle.now.stops }
+        requires listed { self.now.version ≡ 2 → IsCanon (vertex_at self.now.table.now.planes circle.now k) }
+        requires near { IsTrue near → IsVisitedTo self.now.sound.now self.now.table.now circle.now signs.old
+            found.old.witnesses.items told k }
+        requires found { HasFound self.now.sound.now self.now.table.now self.now.version found.old }
+        requires below { AreVisitedBelow self.now.table.now.planes self.now.version found.old.visited.items
+            circle.now.plane }
+        ensures made { BelongTo self.now.table.now signs.new }
+        ensures to { IfOk result (λ number. IsVisitedTo self.now.sound.now self.now.table.now circle.now signs.new
+            found.new.witnesses.items number (k + 1)) }
+        ensures found { OnOk result (HasFound self.now.sound.now self.now.table.now self.now.version found.new) }
+        ensures here { OnOk result (IsVisitedDirection self.now.version found.new.visited.items
+            (vertex_at self.now.table.now.planes circle.now k)) }
+        ensures kept { OnOk result (AreStillVisited found.old.visited.items found.new.visited.items) }
+    {
+        let _set = self.table.set();
+        let changes = self.reach(circle, k, near, signs);
+        self.visit(circle, k, signs, still_told(changes, told), found)
     }
 
     // visits the vertices of a circle that are directions of the version
@@ -238,6 +285,7 @@ impl<'a> Survey<'a> {
         signs: &mut CountedSigns,
         found: &mut Found,
     ) -> Result<(), OutOfMemory>
+        requires survey { IsSurvey self.now.sound.now self.now.table.now }
         requires made { BelongTo self.now.table.now signs.old }
         requires circle { IsWholeCircle self.now.table.now.planes circle.now }
         requires found { HasFound self.now.sound.now self.now.table.now self.now.version found.old }
@@ -254,9 +302,7 @@ impl<'a> Survey<'a> {
         for k in 0..circle.len() {
             let listed = self.lists(&circle.vertex(self.table, k));
             if listed {
-                let changes = self.reach(circle, k, near, signs);
-                let known = if changes { None } else { told };
-                told = self.visit(circle, k, signs, known, found)?;
+                told = self.go_to(circle, k, near, signs, told, found)?;
             }
             near = listed;
         }
@@ -265,6 +311,7 @@ impl<'a> Survey<'a> {
 
     // visits the vertices of all circles
     fn go_round_all(&self, signs: &mut CountedSigns, found: &mut Found) -> Result<(), OutOfMemory>
+        requires survey { IsSurvey self.now.sound.now self.now.table.now }
         requires made { BelongTo self.now.table.now signs.old }
         requires found { HasFound self.now.sound.now self.now.table.now self.now.version found.old }
         requires below { AreVisitedBelow self.now.table.now.planes self.now.version found.old.visited.items 0 }

@@ -7,6 +7,7 @@ ghost use Rattle.staat_model.specs.Plans.{IsStuck};
 ghost use Rattle.staat_graph.specs.Blocking.{ShowsBlocking};
 ghost use Rattle.staat_graph.specs.Graphs.{AreTrees, HasArc};
 ghost use Rattle.staat_certify.specs.Witnesses.{AreEndsAhead, AreEndsAndLeast, AreTreesAlong};
+ghost use Rattle.staat_certify.specs.Standing.{StandsAmong};
 ghost use Rattle.staat_certify.specs.Visits.{KeepsTrees};
 
 use crate::vantage::Vantage;
@@ -43,6 +44,7 @@ impl GraphTrees {
 
 // the trees of the graph at the vertex, which is strong because the set is stuck
 fn trees_here(at: &Vantage, graph: &Graph) -> Trees
+    requires at { StandsAmong at.now.sound.now at.now.table.now at.now.signs.now at.now.d }
     requires stuck { IsStuck at.now.sound.now at.now.table.now.of }
     requires some { at.now.d ≢ origin }
     requires shows { ShowsBlocking at.now.sound.now at.now.d at.now.table.now.of graph.now.rows }
@@ -57,6 +59,7 @@ fn trees_here(at: &Vantage, graph: &Graph) -> Trees
 
 /// Makes the trees those of the graph at the vertex, anew only where that is another graph.
 pub(crate) fn renew_trees(kept: &mut GraphTrees, at: &Vantage)
+    requires at { StandsAmong at.now.sound.now at.now.table.now at.now.signs.now at.now.d }
     requires stuck { IsStuck at.now.sound.now at.now.table.now.of }
     requires some { at.now.d ≢ origin }
     requires kept { KeepsTrees at.now.table.now.of kept.old }
@@ -78,6 +81,7 @@ pub(crate) fn renew_trees(kept: &mut GraphTrees, at: &Vantage)
 
 // the first pieces with which the one part blocks the other
 fn arc_between(at: &Vantage, ends: (u32, u32)) -> Arc
+    requires at { StandsAmong at.now.sound.now at.now.table.now at.now.signs.now at.now.d }
     requires ahead { AreEndsAhead at.now.table.now at.now.d ends }
     ensures ends { outward result ≡ ends }
     ensures least { IsLeastArc at.now.sound.now at.now.d result }
@@ -90,6 +94,7 @@ fn arc_between(at: &Vantage, ends: (u32, u32)) -> Arc
 
 // those of each pair of parts
 fn arcs_between(alloc: Global, at: &Vantage, pairs: &[(u32, u32)]) -> Result<Vec<Arc>, OutOfMemory>
+    requires at { StandsAmong at.now.sound.now at.now.table.now at.now.signs.now at.now.d }
     requires ahead { All (AreEndsAhead at.now.table.now at.now.d) pairs.now }
     ensures { IfOk result (λ arcs. AreEndsAndLeast at.now.sound.now at.now.d pairs.now arcs.items) }
 {
@@ -102,6 +107,7 @@ fn arcs_between(alloc: Global, at: &Vantage, pairs: &[(u32, u32)]) -> Result<Vec
 
 // whether the arcs are those of these pairs of parts
 fn are_between(at: &Vantage, pairs: &[(u32, u32)], arcs: &[Arc]) -> bool
+    requires at { StandsAmong at.now.sound.now at.now.table.now at.now.signs.now at.now.d }
     requires ahead { All (AreEndsAhead at.now.table.now at.now.d) pairs.now }
     ensures { IsTrue result → AreEndsAndLeast at.now.sound.now at.now.d pairs.now arcs.now }
 {
@@ -119,6 +125,7 @@ fn are_between(at: &Vantage, pairs: &[(u32, u32)], arcs: &[Arc]) -> bool
 
 /// Whether the witness is the one at the vertex, which has these trees.
 pub(crate) fn is_witness(at: &Vantage, trees: &Trees, witness: &Witness) -> bool
+    requires at { StandsAmong at.now.sound.now at.now.table.now at.now.signs.now at.now.d }
     requires along { AreTreesAlong at.now.sound.now at.now.table.now at.now.d trees.now }
     ensures { IsTrue result → IsWitnessAt at.now.sound.now at.now.table.now.of at.now.d witness.now }
 {
@@ -134,6 +141,7 @@ pub(crate) fn witness_here(
     at: &Vantage,
     trees: &Trees,
 ) -> Result<Witness, OutOfMemory>
+    requires at { StandsAmong at.now.sound.now at.now.table.now at.now.signs.now at.now.d }
     requires along { AreTreesAlong at.now.sound.now at.now.table.now at.now.d trees.now }
     ensures { IfOk result (IsWitnessAt at.now.sound.now at.now.table.now.of at.now.d) }
 {

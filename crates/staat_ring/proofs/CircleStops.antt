@@ -15,7 +15,9 @@ use Rattle.staat_vec.proofs.Canons.{negative-negative}
 use Rattle.staat_vec.proofs.Primitives.{IsPrimitive-some, primitive-is}
 use Rattle.staat_vec.proofs.Unique.{Contains-front, Contains-later, from_place}
 use Rattle.staat_model.specs.Circles.{IsOnCircle, PassesThrough, Stop}
+use Rattle.staat_model.specs.Planes.{vertices}
 use Rattle.staat_model.proofs.Members.{All-from_members}
+use Rattle.staat_model.proofs.VertexLemmas.{in_vertices}
 use Rattle.staat_pairs.specs.Tables.{AreTablePlanes}
 use Rattle.staat_ring.specs.declared.entry.Entry.{Entry}
 use Rattle.staat_ring.specs.Rings.{IsRingOf, Ring, RingStop, stop_of, vertex_of}
@@ -57,11 +59,11 @@ module _ (planes : List V3) (linked : List ℕ) (table : AreTablePlanes planes) 
     abbrev v : V3
     v = vertex_of planes c s.entries
 
-    pub on_circle : IsOnCircle planes linked c g v
+    on_circle : IsOnCircle planes linked c g v
     on_circle = is.circle.vertices.each v (Contains-map (λ s. s.vertex) stops (stop_of planes c s) here)
 
     -- the other plane is not parallel
-    pub flat : cross g on_circle.h ≢ origin
+    flat : cross g on_circle.h ≢ origin
     flat = apart.apart c on_circle.other g on_circle.h is.circle.g_is on_circle.other_is (λ q. on_circle.different (sym q))
 
     pass : Lists nat_cmp (PassesThrough planes linked c v) (map (λ e. e.plane) s.entries)
@@ -102,3 +104,7 @@ module _ (planes : List V3) (linked : List ℕ) (table : AreTablePlanes planes) 
         let u = primitive (cross g on_circle.h) in
         let p = IsPrimitive-some u (primitive-is (cross g on_circle.h) flat).primitive in
         ⊎_elim {C = ⊥} (λ e. p (sym e ∙ z)) (λ e. p (sym (negative-negative u) ∙ (ap negative (sym e ∙ z)))) on_circle.is
+
+    -- it is one of the vertices of the planes
+    pub vertex_listed : Contains (vertices planes) v
+    vertex_listed = in_vertices planes g on_circle.h v (from_place planes c g is.circle.g_is.is) (from_place planes on_circle.other on_circle.h on_circle.other_is.is) flat on_circle.is

@@ -9,4 +9,4 @@ unreachable-requires c =
 pub returns-clause-least : goal.returns-clause-least
 returns-clause-least c =
     let across = c.requires.ahead.across in
-    least_of_parts c.args.at.now.sound.now c.args.at.now.table.now c.args.at.now.walk.now.vertex c.args.ends.0 c.args.ends.1 c.in-Some.arc c.requires.at.from across.a_in across.b_in across.different c.in-Some.ensures
+    least_of_parts c.args.at.now.sound.now c.args.at.now.table.now c.args.at.now.d c.args.ends.0 c.args.ends.1 c.in-Some.arc c.requires.at.from across.a_in across.b_in across.different c.in-Some.ensures

@@ -11,10 +11,10 @@ pub loop-ends-preserved : goal.loop-ends-preserved
 loop-ends-preserved c =
     let is = c.in_ok-push.ensures.items in record {
       ends = ends_more c.args.pairs.now c.loop-ends.ends-index (0, 0) c.loop-ends.arcs.items c.push.new.self.items c.arc_between.result c.loop-ends-test.true c.loop-ends.invariant.ends c.arc_between.ensures.ends is;
-      least = subst (λ (arcs : List Arc). All (IsLeastArc c.args.at.now.sound.now c.args.at.now.walk.now.vertex) arcs) (sym is) (All-push (IsLeastArc c.args.at.now.sound.now c.args.at.now.walk.now.vertex) c.loop-ends.arcs.items c.arc_between.result c.loop-ends.invariant.least c.arc_between.ensures.least);
+      least = subst (λ (arcs : List Arc). All (IsLeastArc c.args.at.now.sound.now c.args.at.now.d) arcs) (sym is) (All-push (IsLeastArc c.args.at.now.sound.now c.args.at.now.d) c.loop-ends.arcs.items c.arc_between.result c.loop-ends.invariant.least c.arc_between.ensures.least);
     }
 
 pub returns : goal.returns
 returns c =
-    subst (λ l. AreEndsAndLeast c.args.at.now.sound.now c.args.at.now.walk.now.vertex l c.loop-ends.arcs.items)
+    subst (λ l. AreEndsAndLeast c.args.at.now.sound.now c.args.at.now.d l c.loop-ends.arcs.items)
     (take_all c.loop-ends.ends-index c.args.pairs.now c.loop-ends-test.false) c.loop-ends.invariant

@@ -7,6 +7,6 @@ pub loop-k-preserved : goal.loop-k-preserved
 loop-k-preserved c =
     let k = c.loop-k.k in
     let none : Arc = record { a = 0; i = 0; b = 0; j = 0 } in
-    next_between c.args.at.now.sound.now c.args.at.now.walk.now.vertex c.args.pairs.now c.args.arcs.now k (0, 0) none c.arc_between-arc.result
+    next_between c.args.at.now.sound.now c.args.at.now.d c.args.pairs.now c.args.arcs.now k (0, 0) none c.arc_between-arc.result
     (omega (arith, c.loop-k-test.true)) (omega (arith, c.loop-k-test.true, c.if-arcs-pairs.false)) c.loop-k.invariant c.arc_between-arc.ensures.ends c.arc_between-arc.ensures.least
     (same_arc c.arc_between-arc.result (get_or c.args.arcs.now k none) c.if-ne.ensures)

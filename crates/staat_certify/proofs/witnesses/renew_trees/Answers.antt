@@ -12,6 +12,6 @@ returns-then-eq-clause-along c =
       root = c.least-root.result;
       root_is = subst (λ (s : PartSet). IsLeastOf s c.least-root.result) c.set-w.ensures.is c.least-root.ensures.least;
       rows = c.args.kept.now.graph.rows;
-      shows = subst (λ (rows : List ℕ). ShowsBlocking c.args.at.now.sound.now c.args.at.now.walk.now.vertex c.args.at.now.table.now.of rows) (sym same) c.graph-graph.ensures;
+      shows = subst (λ (rows : List ℕ). ShowsBlocking c.args.at.now.sound.now c.args.at.now.d c.args.at.now.table.now.of rows) (sym same) c.graph-graph.ensures;
       trees_are = c.requires.kept.trees c.if-kept.true;
     }

@@ -7,7 +7,7 @@ use Rattle.staat_certify.proofs.witnesses.trees_here.Goals as goal
 pub unreachable-requires : goal.unreachable-requires
 unreachable-requires c =
     let rows = c.args.graph.now.rows in
-    stuck_is_strong c.args.at.now.sound.now c.args.at.now.table.now.of c.args.at.now.walk.now.vertex rows c.requires.some c.requires.shows c.requires.stuck
+    stuck_is_strong c.args.at.now.sound.now c.args.at.now.table.now.of c.args.at.now.d rows c.requires.some c.requires.shows c.requires.stuck
     (λ strong. c.in-None.ensures.none (subst (λ (s : PartSet). IsStrong (HasArc rows) s) (sym c.set-w.ensures.is) strong))
 
 pub returns : goal.returns

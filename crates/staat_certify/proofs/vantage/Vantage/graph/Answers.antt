@@ -1,9 +1,11 @@
-use Rattle.staat_certify.proofs.VisitLemmas.{whole}
+use Rattle.staat_ring.proofs.ArcLaw.{shows_blocking}
+use Rattle.staat_ring.proofs.WholeCircles.{all, all_linked, to_linked}
 use Rattle.staat_certify.proofs.vantage.Vantage.graph.Goals as goal
 
 pub returns : goal.returns
 returns c =
-    let parts = c.args.self.now.sound.now in
-    let table = c.args.self.now.table.now in
+    let t = c.args.self.now.table.now in
+    let s = c.args.self.now.signs.now in
+    let d = c.args.self.now.d in
     let stands = c.requires in
-    c.graph.ensures parts table stands.rings table.of stands.from c.set-set.ensures.rules stands.made stands.entered (λ p h. h) (whole parts table c.args.self.now.walk.now stands)
+    shows_blocking c.args.self.now.sound.now t s (all t.planes) d t.of stands.from c.set-set.ensures.rules stands.made (to_linked t.planes (all t.planes) s d stands.signs) (λ p h. h) (all_linked c.args.self.now.sound.now t.of t.planes) c.graph.result.rows c.graph.ensures

@@ -1,9 +1,15 @@
-use Rattle.staat_certify.proofs.VisitLemmas.{whole}
+use Rattle.std.proofs.Common.{◌<◌, length, subst, sym}
+use Rattle.staat_ring.specs.WholeCircles.{IsFull}
+use Rattle.staat_certify.proofs.SameWitness.{full_is_ahead}
 use Rattle.staat_certify.proofs.vantage.Vantage.leads_ahead.Goals as goal
+
+pub is_full-requires : goal.is_full-requires
+is_full-requires c = subst (λ k. k < length c.args.self.now.signs.now.pairs) (sym c.slot.ensures.is) (c.requires.at.made.all c.args.arc c.requires.across).within
 
 pub returns : goal.returns
 returns c =
-    let parts = c.args.self.now.sound.now in
-    let table = c.args.self.now.table.now in
-    let stands = c.requires.at in
-    c.leads_ahead.ensures parts stands.rings table.of stands.from stands.entered (λ p h. h) c.requires.across.a_in c.requires.across.b_in (whole parts table c.args.self.now.walk.now stands)
+    let law = full_is_ahead c.args.self.now.sound.now c.args.self.now.table.now c.args.self.now.signs.now c.args.self.now.d c.requires.at c.slot.ensures.table c.args.arc c.requires.across in
+    let at = c.slot.ensures.is in (
+      λ h. law.0 (subst (IsFull c.args.self.now.signs.now) at (c.is_full.ensures.0 h)),
+      λ ahead. c.is_full.ensures.1 (subst (IsFull c.args.self.now.signs.now) (sym at) (law.1 ahead)),
+    )

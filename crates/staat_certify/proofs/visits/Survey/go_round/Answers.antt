@@ -1,37 +1,50 @@
-use Rattle.std.proofs.Common.{◌≡◌, ◌+◌, ◌%◌, ◌<◌, ◌≤◌, ◌∙◌, ℕ, length, ap, arith}
-use Rattle.std.proofs.Math.Nat.{mod-eq_of_lt}
-use Rattle.staat_certify.proofs.VisitLemmas.{below_more, below_still, on_more, whole_rings}
+use Rattle.std.proofs.Common.{◌≡◌, ◌+◌, ◌≤◌, ◌∙◌, Option, arith, length, subst, sym, ℕ}
+use Rattle.std.proofs.lemmas.Bool.{false≢true}
+use Rattle.staat_vec.specs.Primitives.{IsCanon}
+use Rattle.staat_vec.proofs.Truth.{false_test_clash}
+use Rattle.staat_ring.specs.Belonging.{BelongTo}
+use Rattle.staat_ring.specs.CountedSigns.{Signed}
+use Rattle.staat_ring.specs.WholeCircles.{vertex_at}
+use Rattle.staat_certify.specs.declared.visits.Found.{Found}
+use Rattle.staat_certify.specs.Visits.{AreVisitedBelow, AreVisitedOn, HasFound, IsVisitedTo}
+use Rattle.staat_certify.proofs.VisitLemmas.{below_more, below_still, on_more}
 use Rattle.staat_certify.proofs.visits.Survey.go_round.Goals as goal
+use Rattle.staat_certify.proofs.visits.Survey.go_round.Goals.{then-listed+in_ok-told, else-listed}
 
-next_place : (k place new count size : ℕ) → k + 1 < count → place ≡ k → new ≡ (place + 1) % size → count ≡ size → new ≡ k + 1
-next_place k place new count size lt is next same =
-    let small : place + 1 < size = omega (arith, lt, is, same) in
-    next ∙ (mod-eq_of_lt small ∙ ap (λ n. n + 1) is)
-
-pub loop-place-preserved : goal.loop-place-preserved
-loop-place-preserved c =
-    let planes = c.args.self.now.table.now.planes in
-    let rings = c.args.self.now.rings.now.rings in
-    let table = c.set-set.ensures.rules.planes in
-    let are = whole_rings planes c.args.self.now.rings.now c.requires.survey.rings c.requires.survey.all in
-    let i = c.loop-place.invariant in
-    let place : c.loop-place.walk.place ≡ c.loop-place._place = i.place c.loop-place-test.true in
-    let ring = i.entered.at.ring in
-    record {
-      signs = c.cross.ensures.made;
-      entered = c.cross.ensures.entered;
-      circle = c.cross.ensures.circle ∙ i.circle;
-      place = λ lt. next_place c.loop-place._place c.loop-place.walk.place c.cross.new.self.place c.circle_vertices-place-end.result (length ring.stops) lt place (c.cross.ensures.place i.entered.stop i.entered.at i.entered.node) (c.circle_vertices-place-end.ensures ring i.entered.at.listed (i.entered.at.plane ∙ i.circle));
-      found = c.in_ok-visit_once.ensures.found;
-      below = below_still planes rings table are c.args.self.now.version c.loop-place.found.visited.items c.visit_once.new.found.visited.items c.args.circle c.loop-place._place c.in_ok-visit_once.ensures.kept i.below;
-      on = on_more planes rings table are c.args.self.now.version c.loop-place.found.visited.items c.visit_once.new.found.visited.items c.args.circle c.loop-place._place c.in_ok-visit_once.ensures.kept c.loop-place.walk i.entered i.circle place c.in_ok-visit_once.ensures.here i.on;
-    }
+pub loop-k-preserved : goal.loop-k-preserved
+loop-k-preserved c =
+    let parts = c.args.self.now.sound.now in
+    let t = c.args.self.now.table.now in
+    let version = c.args.self.now.version in
+    let r = c.args.circle.now in
+    let k = c.loop-k.k in
+    let old = c.loop-k.found.visited.items in
+    let i = c.loop-k.invariant in
+    elim c.if-listed.branch [
+      | then-listed+in_ok-told w ↦
+          let new = w.go_to.new.found.visited.items in
+          let is = w.in_ok-told.ensures in
+          record {
+            made = subst (BelongTo t) (sym w.signs-is) is.made;
+            found = subst (HasFound parts t version) (sym w.found-is) is.found;
+            below = subst (λ (f : Found). AreVisitedBelow t.planes version f.visited.items r.plane) (sym w.found-is) (below_still t.planes version old new r.plane is.kept i.below);
+            on = subst (λ (f : Found). AreVisitedOn t.planes version f.visited.items r (k + 1)) (sym w.found-is) (on_more t.planes version old new k is.kept r is.here i.on);
+            near = λ yes. subst (λ (s : Signed). IsVisitedTo parts t r s c.if-listed.found.witnesses.items c.if-listed.told (k + 1)) (sym w.signs-is)
+                (subst (λ (f : Found). IsVisitedTo parts t r w.go_to.new.signs f.witnesses.items c.if-listed.told (k + 1)) (sym w.found-is)
+                (subst (λ (told : Option ℕ). IsVisitedTo parts t r w.go_to.new.signs w.go_to.new.found.witnesses.items told (k + 1)) (sym w.told-is) is.to));
+          }
+      | else-listed w ↦
+          let unlisted : (version ≡ 2 → IsCanon (vertex_at t.planes r k)) → ⊥ = λ canonical. false_test_clash c.lists-listed.result w.if-listed.false (c.lists-listed.ensures.1 (λ two. subst IsCanon (sym c.vertex.ensures) (canonical two))) in
+          record {
+            made = subst (BelongTo t) (sym w.signs-is) i.made;
+            found = subst (HasFound parts t version) (sym w.found-is) i.found;
+            below = subst (λ (f : Found). AreVisitedBelow t.planes version f.visited.items r.plane) (sym w.found-is) i.below;
+            on = subst (λ (f : Found). AreVisitedOn t.planes version f.visited.items r (k + 1)) (sym w.found-is) (on_more t.planes version old old k (λ v listed. listed) r (λ canonical. absurd (unlisted canonical)) i.on);
+            near = λ yes. absurd (false≢true (sym w.if-listed.false ∙ yes));
+          }
+    ]
 
 pub returns-clause-below : goal.returns-clause-below
 returns-clause-below c =
-    let planes = c.args.self.now.table.now.planes in
-    let rings = c.args.self.now.rings.now.rings in
-    let table = c.set-set.ensures.rules.planes in
-    let are = whole_rings planes c.args.self.now.rings.now c.requires.survey.rings c.requires.survey.all in
-    below_more planes rings table are c.args.self.now.version c.loop-place.found.visited.items c.args.circle c.circle_vertices-place-end.result c.loop-place._place c.circle_vertices-place-end.ensures
-    (let past : c.circle_vertices-place-end.result ≤ c.loop-place._place = omega (arith, c.loop-place-test.false) in past) c.loop-place.invariant.below c.loop-place.invariant.on
+    below_more c.args.self.now.table.now.planes c.set-set.ensures.rules.planes c.args.circle.now c.requires.circle c.args.self.now.version c.loop-k.found.visited.items c.loop-k.k
+    (let past : length c.args.circle.now.stops ≤ c.loop-k.k = omega (arith, c.loop-k-test.false, c.len-k-end.ensures) in past) c.loop-k.invariant.below c.loop-k.invariant.on

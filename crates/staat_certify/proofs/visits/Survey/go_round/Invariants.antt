@@ -1,15 +1,13 @@
-use Rattle.std.proofs.Common.{◌≡◌, ◌<◌}
-use Rattle.staat_ring.specs.Walked.{IsEntered, WalkWasMadeFrom}
-use Rattle.staat_certify.specs.Visits.{AreVisitedBelow, AreVisitedOn, HasFound}
+use Rattle.std.proofs.Common.{◌≡◌, true}
+use Rattle.staat_ring.specs.Belonging.{BelongTo}
+use Rattle.staat_certify.specs.Visits.{AreVisitedBelow, AreVisitedOn, HasFound, IsVisitedTo}
 use Rattle.staat_certify.proofs.visits.Survey.go_round.Given as goal
 
-abbrev pub invariant-loop-place : goal.invariant-loop-place
-invariant-loop-place l = record {
-  signs : WalkWasMadeFrom l.self.table.now l.walk;
-  entered : IsEntered l.self.table.now.planes l.self.rings.now.rings l.walk;
-  circle : l.walk.circle ≡ l.circle;
-  place : l._place < l._place-end → l.walk.place ≡ l._place;
+abbrev pub invariant-loop-k : goal.invariant-loop-k
+invariant-loop-k l = record {
+  made : BelongTo l.self.table.now l.signs;
   found : HasFound l.self.sound.now l.self.table.now l.self.version l.found;
-  below : AreVisitedBelow l.self.table.now.planes l.self.rings.now.rings l.self.version l.found.visited.items l.circle;
-  on : AreVisitedOn l.self.table.now.planes l.self.rings.now.rings l.self.version l.found.visited.items l.circle l._place;
+  below : AreVisitedBelow l.self.table.now.planes l.self.version l.found.visited.items l.circle.plane;
+  on : AreVisitedOn l.self.table.now.planes l.self.version l.found.visited.items l.circle l.k;
+  near : l.near ≡ true → IsVisitedTo l.self.sound.now l.self.table.now l.circle l.signs l.found.witnesses.items l.told l.k;
 }

@@ -1,8 +1,5 @@
-use Rattle.std.proofs.Common.{◌≡◌, ◌∙◌, ◌++◌, ◌∷◌, [], Contains, ap, rules, subst, sym}
-use Rattle.staat_vec.specs.declared.vector.V3.{V3}
-use Rattle.staat_vec.specs.Primitives.{IsCanon}
-use Rattle.staat_model.specs.Certify.{IsDirection, NamesWitness}
-use Rattle.staat_model.specs.Planes.{vertices}
+use Rattle.std.proofs.Common.{◌≡◌, ◌∙◌, ◌++◌, ◌∷◌, [], Contains, ap, subst, sym}
+use Rattle.staat_model.specs.Certify.{IsDirection}
 use Rattle.staat_certify.specs.declared.visits.Visit.{Visit}
 use Rattle.staat_certify.specs.Visits.{IsNamed, visited_directions}
 use Rattle.staat_certify.proofs.VisitLemmas.{all_more, named_still, still_visited, visited_here}
@@ -17,26 +14,22 @@ returns-clause-found c =
     let here = c.in_ok-number.ensures.number in
     let before = c.args.found.now.witnesses.items in
     let after = c.number_here.new.found.witnesses.items in
-    let visit : Visit = record { d = c.at-d.result; number = c.in_ok-number.number } in
+    let visit : Visit = record { d = c.direction.result; number = c.in_ok-number.number } in
     let is : new ≡ old ++ visit ∷ [] = c.in_ok-push.ensures.items ∙ ap (λ vs. vs ++ visit ∷ []) c.in_ok-number.ensures.visited in
     record {
       kept = c.in_ok-number.ensures.kept;
       keys_are = here.keys_are;
-      each = all_more old new visit is (λ v. IsDirection c.args.self.now.version table.planes v.d) c.requires.found.each (record {
-        vertex = subst (Contains (vertices table.planes)) (sym c.at-d.ensures.is) c.requires.vertex;
-        canonical = λ two. subst IsCanon (sym c.at-d.ensures.is) (c.lists.ensures.0 (search rules) two);
-      });
-      named = all_more old new visit is (IsNamed parts table.of after) (named_still parts table.of before after old here.kept c.requires.found.named)
-          (subst (λ (u : V3). NamesWitness parts table.of after (record { d = u; witness = c.in_ok-number.number })) (sym c.at-d.ensures.is) here.names);
+      each = all_more old new visit is (λ v. IsDirection c.args.self.now.version table.planes v.d) c.requires.found.each (subst (IsDirection c.args.self.now.version table.planes) (sym c.direction.ensures.is) c.requires.direction);
+      named = all_more old new visit is (IsNamed parts table.of after) (named_still parts table.of before after old here.kept c.requires.found.named) here.names;
     }
 
 pub returns-clause-here : goal.returns-clause-here
-returns-clause-here c canonical =
-    let visit : Visit = record { d = c.at-d.result; number = c.in_ok-number.number } in
-    subst (Contains (visited_directions c.push.new.self.items)) c.at-d.ensures.is
+returns-clause-here c =
+    let visit : Visit = record { d = c.direction.result; number = c.in_ok-number.number } in
+    subst (Contains (visited_directions c.push.new.self.items)) c.direction.ensures.is
     (visited_here c.args.found.now.visited.items c.push.new.self.items visit (c.in_ok-push.ensures.items ∙ ap (λ vs. vs ++ visit ∷ []) c.in_ok-number.ensures.visited))
 
 pub returns-clause-kept : goal.returns-clause-kept
 returns-clause-kept c =
-    let visit : Visit = record { d = c.at-d.result; number = c.in_ok-number.number } in
+    let visit : Visit = record { d = c.direction.result; number = c.in_ok-number.number } in
     still_visited c.args.found.now.visited.items c.push.new.self.items visit (c.in_ok-push.ensures.items ∙ ap (λ vs. vs ++ visit ∷ []) c.in_ok-number.ensures.visited)
