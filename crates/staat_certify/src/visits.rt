@@ -107,7 +107,12 @@ fn number_anew(alloc: Global, at: &Vantage, found: &mut Found) -> Result<usize, 
 }
 
 // the number of the witness at the vertex, looked for where it is not told
-fn number_here(alloc: Global, at: &Vantage, told: Option<usize>, found: &mut Found) -> Result<usize, OutOfMemory>
+fn number_here(
+    alloc: Global,
+    at: &Vantage,
+    told: Option<usize>,
+    found: &mut Found,
+) -> Result<usize, OutOfMemory>
     requires at { StandsAmong at.now.sound.now at.now.table.now at.now.signs.now at.now.d }
     requires stuck { IsStuck at.now.sound.now at.now.table.now.of }
     requires some { at.now.d ≢ origin }

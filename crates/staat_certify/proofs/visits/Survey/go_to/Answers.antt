@@ -12,7 +12,7 @@ visit-requires-clause-told c =
     let here = vertex_at t.planes r c.args.k in
     let made = c.requires.survey.made in
     still_told parts t.of c.args.found.now.witnesses.items here c.reach-changes.result c.args.told c.still_told.result c.still_told.ensures (λ none.
-        let (near, same) = c.reach-changes.ensures.same none in
-        let was = c.requires.near near in
-        told_too parts t c.set-set.ensures.rules c.args.signs.now c.reach-changes.new.signs before here (record { from = made; made = c.requires.made; signs = was.signs }) (record { from = made; made = c.reach-changes.ensures.made; signs = c.reach-changes.ensures.signs }) same
-        c.args.found.now.witnesses.items c.args.told was.names)
+    let (near, same) = c.reach-changes.ensures.same none in
+    let was = c.requires.near near in
+    told_too parts t c.set-set.ensures.rules c.args.signs.now c.reach-changes.new.signs before here (record { from = made; made = c.requires.made; signs = was.signs }) (record { from = made; made = c.reach-changes.ensures.made; signs = c.reach-changes.ensures.signs }) same
+    c.args.found.now.witnesses.items c.args.told was.names)

@@ -33,14 +33,14 @@ returns-clause-same c none =
     let counts = c.gain_all.new.self in
     let (was, is) = or_parts c.has_full-was.result c.has_full-is.result none in
     let signed = step_signed now states after c.self.inside.counts c.lose_all.new.self k c.args.sign c.pairs_at-2.result.now c.pairs_at-3.result.now c.self.view_is c.self.invariant c.requires c.pairs_at-2.ensures c.set_sign_at.ensures c.pairs_at-3.ensures c.lose_all.ensures.each
-        counts c.gain_all.ensures.each c.lose_all.ensures.length c.gain_all.ensures.length in
+    counts c.gain_all.ensures.each c.lose_all.ensures.length c.gain_all.ensures.length in
     let value = step_value now states after c.self.inside.counts c.lose_all.new.self k c.args.sign c.pairs_at-2.result.now c.pairs_at-3.result.now c.self.view_is c.self.invariant c.requires c.pairs_at-2.ensures c.set_sign_at.ensures c.pairs_at-3.ensures c.lose_all.ensures.each
-        counts c.gain_all.ensures.each c.lose_all.ensures.length c.gain_all.ensures.length in
+    counts c.gain_all.ensures.each c.lose_all.ensures.length c.gain_all.ensures.length in
     let last = second_by now states after c.self.inside.counts c.lose_all.new.self k c.args.sign c.pairs_at-2.result.now c.pairs_at-4.result.now c.self.view_is c.self.invariant c.requires c.pairs_at-2.ensures c.set_sign_at.ensures c.pairs_at-4.ensures c.lose_all.ensures.each in
     subst (HaveSameFull now) (sym value) (
-      same_full now k c.args.sign c.requires
-      (λ q listed. none_full now states c.self.inside.counts c.self.view_is c.self.invariant c.pairs_at.result.now (c.has_full-was.ensures was) q
-      (subst (λ (qs : List ℕ). Contains qs q) (sym (c.pairs_at.ensures ∙ ap (λ (s : Signed). positive_pairs (state_at s.states k)) c.self.view_is)) listed))
-      (λ q listed. none_full (with_plane_sign k c.args.sign now) after counts value signed c.pairs_at-4.result.now (c.has_full-is.ensures is) q
-      (subst (λ (qs : List ℕ). Contains qs q) (sym (last ∙ ap (λ (s : Signed). positive_pairs (with_sign c.args.sign (state_at s.states k))) c.self.view_is)) listed))
+    same_full now k c.args.sign c.requires
+    (λ q listed. none_full now states c.self.inside.counts c.self.view_is c.self.invariant c.pairs_at.result.now (c.has_full-was.ensures was) q
+    (subst (λ (qs : List ℕ). Contains qs q) (sym (c.pairs_at.ensures ∙ ap (λ (s : Signed). positive_pairs (state_at s.states k)) c.self.view_is)) listed))
+    (λ q listed. none_full (with_plane_sign k c.args.sign now) after counts value signed c.pairs_at-4.result.now (c.has_full-is.ensures is) q
+    (subst (λ (qs : List ℕ). Contains qs q) (sym (last ∙ ap (λ (s : Signed). positive_pairs (with_sign c.args.sign (state_at s.states k))) c.self.view_is)) listed))
     )

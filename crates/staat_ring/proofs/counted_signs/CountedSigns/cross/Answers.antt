@@ -38,7 +38,7 @@ returns-clause-signs c =
     let planes = c.args.table.now.planes in
     let r = c.args.circle.now in
     let is = c.sign_entries-reached.ensures.signs ∙ ap (with_stop_signs false c.stop-2.result.now) c.sign_entries-left.ensures.signs
-        ∙ (λ i. with_stop_signs false (c.stop-2.ensures i) (with_stop_signs true (c.stop.ensures i) c.args.self.now)) in
+    ∙ (λ i. with_stop_signs false (c.stop-2.ensures i) (with_stop_signs true (c.stop.ensures i) c.args.self.now)) in
     subst (λ (s : Signed). AreSignsAt planes s (vertex_at planes r c.args.k)) (sym is) (crossed planes c.set-set.ensures.rules.planes r c.requires.circle c.args.k c.requires.later c.requires.place c.args.self.now c.requires.made.states c.requires.signs)
 
 pub returns-clause-same : goal.returns-clause-same
