@@ -1,4 +1,4 @@
-// The step of two cubes, and how often a plan asks for the facets of two pieces.
+// The step of two cubes, and how often plans and orders ask for the facets of two pieces.
 ghost use Rattle.std.specs.Prelude.{◌≡◌, ◌≤◌, true};
 ghost use Rattle.staat_limits.specs.declared.limits.TheConstants.{LEAST_PLANES, MOST_CELL_PLANES, MOST_PLANES};
 ghost use Rattle.staat_pairs.specs.Tables.{WasMadeFrom};
@@ -12,6 +12,7 @@ use crate::fixtures::{
 use staat_certify::certify;
 use staat_cone::{FacetSource, Plain};
 use staat_limits::{LEAST_PLANES, MOST_CELL_PLANES, MOST_PLANES};
+use staat_linear::linear;
 use staat_model::{Assembly, Kind, Outcome, Piece, Sound};
 use staat_plan::{Options, Tabulated, part_step, plan, plan_with_table};
 use staat_planes::PlaneTable;
@@ -132,7 +133,14 @@ fn asked_by_a_plan(
     source.asked.get().saturating_sub(before)
 }
 
-// A plan with its certificate asks once for each two pieces, and so does a plan alone.
+// how often an order of parts asks
+fn asked_by_an_order(rt: &impl Abort, alloc: Global, source: &Counting, parts: &Sound) -> u32 {
+    let before = source.asked.get();
+    let _order = linear(alloc, source, parts, MOST_PLANES).expect(rt, "an order");
+    source.asked.get().saturating_sub(before)
+}
+
+// A plan with its certificate asks once for each two pieces, and so does a plan alone, and an order.
 fn asks_once_for(
     rt: &impl Abort,
     alloc: Global,
@@ -153,6 +161,7 @@ fn asks_once_for(
         &asked_by_a_plan(rt, alloc, &source, parts, options),
         &pairs,
     );
+    same(rt, &asked_by_an_order(rt, alloc, &source, parts), &pairs);
 }
 
 fn asks_once(
