@@ -5,7 +5,7 @@ use Rattle.staat_vec.proofs.Primitives.{IsPrimitive-some}
 use Rattle.staat_pairs.proofs.planes.list_normal.Goals as goal
 
 pub canon-n-requires-clause-some : goal.canon-n-requires-clause-some
-canon-n-requires-clause-some c = IsPrimitive-some c.args.facet c.requires.primitive
+canon-n-requires-clause-some c = IsPrimitive-some c.vector.result (subst IsPrimitive (sym c.vector.ensures.is) c.requires)
 
 pub returns : goal.returns
 returns c =
