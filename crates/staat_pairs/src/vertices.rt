@@ -44,7 +44,12 @@ fn push_both(taken: &mut Vec<V3>, version: u32, v: V3) -> Result<(), OutOfMemory
 }
 
 // adds the crossings of the plane of g with each of the planes
-fn push_crossings(taken: &mut Vec<V3>, version: u32, g: V3, hs: &[Normal]) -> Result<(), OutOfMemory>
+fn push_crossings(
+    taken: &mut Vec<V3>,
+    version: u32,
+    g: V3,
+    hs: &[Normal],
+) -> Result<(), OutOfMemory>
     requires g { IsWithin NORMAL g }
     requires apart { All (λ h. cross g h ≢ origin) hs.now }
     ensures { OnOk result (AddsListed version (crossings g hs.now) taken.old.items taken.new.items) }

@@ -45,7 +45,7 @@ fn word_product(a: i64, b: i64) -> i64
     a * b
 }
 
-// the exact product of a normal's and a small vector's component
+// the exact product of two components, of which the second is small
 fn small_product(a: i128, b: i128) -> i64
     requires a { unsigned_abs a ≤ NORMAL }
     requires b { unsigned_abs b ≤ SMALL }
