@@ -1,7 +1,7 @@
 use Rattle.std.proofs.Common.{◌∙◌, ◌++◌, ◌∷◌, [], ap, arith, get_or}
-use Rattle.std.proofs.lemmas.List.{get_or_default}
 use Rattle.std.proofs.lemmas.Result.{on_ok_weaker}
 use Rattle.staat_vec.specs.Vectors.{cross, negative, origin}
+use Rattle.staat_vec.proofs.ListLaws.{other_default}
 use Rattle.staat_cells.specs.Beside.{beside}
 use Rattle.staat_cells.specs.Packing.{incidence_of}
 use Rattle.staat_cells.specs.ZeroSigns.{zero_places}
@@ -26,7 +26,7 @@ returns c =
     let old = c.args.incidences.now.items in
     let first = c.in_ok-push_towards.ensures in
     let small = zero_place planes v c.args.zeros.now c.args.j (c.requires.zeros ∙ ap (zero_places 0) c.requires.signs) c.requires.listed in
-    let read = c.vector.ensures.is ∙ c.index-planes-j.is ∙ get_or_default planes c.args.j c.index-planes-j.result origin small in
+    let read = c.vector.ensures.is ∙ other_default planes c.args.j c.index-planes-j.result origin small c.index-planes-j.is in
     let towards = c.cross_normal-w.ensures.value ∙ ap (λ n. cross n c.args.m) read in
     let back = c.neg.ensures.value in
     on_ok_weaker c.push_towards-2.result (λ is.
