@@ -7,18 +7,6 @@ use Rattle.staat_vec.proofs.Bounds.{abs_minor_le}
 use Rattle.staat_vec.proofs.ReadBack.{minus_fits, minus_read, product_of, read_back, within_back}
 use Rattle.staat_vec.proofs.words.small_minor.Goals as goal
 
-pub small_product-requires-clause-a : goal.small_product-requires-clause-a
-small_product-requires-clause-a c = within_back w128 c.args.a DIFF NORMAL c.requires.a (omega arith) (omega arith)
-
-pub small_product-requires-clause-b : goal.small_product-requires-clause-b
-small_product-requires-clause-b c = within_back w128 c.args.d DIFF SMALL c.requires.d (omega arith) (omega arith)
-
-pub small_product-requires-2-clause-a : goal.small_product-requires-2-clause-a
-small_product-requires-2-clause-a c = within_back w128 c.args.b DIFF NORMAL c.requires.b (omega arith) (omega arith)
-
-pub small_product-requires-2-clause-b : goal.small_product-requires-2-clause-b
-small_product-requires-2-clause-b c = within_back w128 c.args.c DIFF SMALL c.requires.c (omega arith) (omega arith)
-
 pub overflow_sub-small_product : goal.overflow_sub-small_product
 overflow_sub-small_product c =
     minus_fits w64 c.small_product.result c.small_product-2.result (NORMAL * SMALL) (NORMAL * SMALL)
