@@ -45,16 +45,6 @@ fn word_product(a: i64, b: i64) -> i64
     a * b
 }
 
-// the exact product of two components, of which the second is small
-fn small_product(a: i128, b: i128) -> i64
-    requires a { unsigned_abs a ≤ NORMAL }
-    requires b { unsigned_abs b ≤ SMALL }
-    ensures value { result ≡ a *ℤ b }
-    ensures size { unsigned_abs result ≤ NORMAL * SMALL }
-{
-    word_product(word(a), word(b))
-}
-
 impl Normal {
     /// The product of the normal and a small vector, exact. The components of `d` are at most [`SMALL`] in absolute
     /// value.
@@ -120,7 +110,7 @@ fn small_minor(a: i128, b: i128, c: i128, d: i128) -> i128
     ensures value { result ≡ (a *ℤ d) -ℤ (b *ℤ c) }
     ensures size { unsigned_abs result ≤ NORMAL }
 {
-    long(small_product(a, d) - small_product(b, c))
+    long(word_product(word(a), word(d)) - word_product(word(b), word(c)))
 }
 
 /// The cross product of two differences of points, exact.
