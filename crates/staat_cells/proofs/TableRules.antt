@@ -62,9 +62,6 @@ vertex_small planes v are has =
     ⊎_elim (λ e. subst (IsWithin VERTEX) (sym e) small)
     (λ e. subst (IsWithin VERTEX) (sym e) (IsWithin-negative VERTEX p small)) f.is
 
-pub planes_within : (planes : List V3) → AreTablePlanes planes → All (IsWithin NORMAL) planes
-planes_within planes are k d lt = (are.each k d lt).within
-
 pub vertices_listed : (planes found : List V3) → Lists vector_cmp (IsDirection 1 planes) found → Lists vector_cmp (Contains (vertices planes)) found
 vertices_listed planes found lists = record {
   ascending = lists.ascending;

@@ -216,17 +216,17 @@ module _ (planes : List V3) (s : List Sign) (w : V3) (long : length s ≡ length
       h.is
       (length s) Pos refl h.zero_at
 
-  pub zero_changed : (new : Incidence) (t : Sign) → t ≡ sign (dot (get_or planes (get_or zeros i 0) origin) w)
+  pub zero_changed : (new : Incidence) (t : Sign) (e : V3) → t ≡ sign (dot (get_or planes (get_or zeros i 0) e) w)
       → ((l : List Sign) → x ≡ incidence_of l x.of → length l ≡ length s → IsZeroAt l (get_or zeros i 0)
       → new ≡ incidence_of (slice_set l (get_or zeros i 0) t) x.of)
       → IsPatchedBefore (composed s (signs_of planes w)) s new of (drop (i + 1) zeros)
-  zero_changed new t is change =
+  zero_changed new t e is change =
       let h = next in
       let within = h.within in
       let z = get_or zeros i 0 in
       let there : get_or (composed s (signs_of planes w)) (get_or zeros i 0) Pos ≡ t =
-      towards_at planes s w long z Pos origin within
-      ∙ ap (λ y. then_sign y (sign (dot (get_or planes (get_or zeros i 0) origin) w))) h.zero_at ∙ sym is in
+      towards_at planes s w long z Pos e within
+      ∙ ap (λ y. then_sign y (sign (dot (get_or planes (get_or zeros i 0) e) w))) h.zero_at ∙ sym is in
       record {
         place = z + 1;
         most = omega (arith, within);

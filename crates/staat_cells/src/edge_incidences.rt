@@ -17,7 +17,7 @@ ghost use Rattle.staat_cells.specs.Stages.{IsIncidence, IsVertexPoint};
 use crate::cell::Cell;
 use crate::incidence::Incidence;
 use crate::zero_signs::{incidence_towards, zeros_of};
-use staat_vec::{DIRECTION, NORMAL, OutOfMemory, V3, cross_normal, neg};
+use staat_vec::{DIRECTION, NORMAL, Normal, OutOfMemory, V3, cross_normal, neg};
 use std::alloc::Global;
 
 // an axis whose plane the vector does not lie on
@@ -37,14 +37,13 @@ fn axis_off(v: V3) -> V3
 
 // adds the incidence of a vertex towards w
 fn push_towards(
-    planes: &[V3],
+    planes: &[Normal],
     point: &Cell,
     zeros: &[usize],
     base: Incidence,
     w: V3,
     incidences: &mut Vec<Incidence>,
 ) -> Result<(), OutOfMemory>
-    requires planes { All (IsWithin NORMAL) planes.now }
     requires few { length planes.now ≤ 256 }
     requires signs { point.now.signs ≡ signs_of planes.now point.now.d }
     requires zeros { zeros.now ≡ zero_places 0 point.now.signs }
@@ -59,7 +58,7 @@ fn push_towards(
 
 // adds both incidences of a vertex on a plane at which it has a zero
 fn push_at(
-    planes: &[V3],
+    planes: &[Normal],
     point: &Cell,
     zeros: &[usize],
     base: Incidence,
@@ -67,7 +66,6 @@ fn push_at(
     m: V3,
     incidences: &mut Vec<Incidence>,
 ) -> Result<(), OutOfMemory>
-    requires planes { All (IsWithin NORMAL) planes.now }
     requires few { length planes.now ≤ 256 }
     requires signs { point.now.signs ≡ signs_of planes.now point.now.d }
     requires zeros { zeros.now ≡ zero_places 0 point.now.signs }
@@ -77,7 +75,7 @@ fn push_at(
     ensures { OnOk result (GrewByAll (IsBesideIncidence (slice_index_or planes.now j origin ∷ []) planes.now
         point.now.d m base.of) incidences.old.items incidences.new.items) }
 {
-    let w = cross_normal(planes[j], m);
+    let w = cross_normal(planes[j].vector(), m);
     push_towards(planes, point, zeros, base, w, incidences)?;
     push_towards(planes, point, zeros, base, neg(w), incidences)
 }
@@ -94,7 +92,7 @@ fn place_from(count: usize, i: usize, back: bool) -> usize
 
 // adds the incidences of a vertex on all planes through it, from the last one on or from the first one on
 fn push_all(
-    planes: &[V3],
+    planes: &[Normal],
     point: &Cell,
     zeros: &[usize],
     base: Incidence,
@@ -102,7 +100,6 @@ fn push_all(
     back: bool,
     incidences: &mut Vec<Incidence>,
 ) -> Result<(), OutOfMemory>
-    requires planes { All (IsWithin NORMAL) planes.now }
     requires few { length planes.now ≤ 256 }
     requires signs { point.now.signs ≡ signs_of planes.now point.now.d }
     requires zeros { zeros.now ≡ zero_places 0 point.now.signs }
@@ -122,7 +119,7 @@ fn push_all(
 /// those of the opposite vertex are added in the opposite order.
 fn push_edge_incidences(
     alloc: Global,
-    planes: &[V3],
+    planes: &[Normal],
     point: &Cell,
     own: Incidence,
     k: usize,
@@ -146,7 +143,7 @@ fn push_edge_incidences(
 /// The incidences of vertices towards the edges that end there, from those with the signs of the vertices.
 pub(crate) fn edge_incidences(
     alloc: Global,
-    planes: &[V3],
+    planes: &[Normal],
     points: &[Cell],
     own: &[Incidence],
 ) -> Result<Vec<Incidence>, OutOfMemory>

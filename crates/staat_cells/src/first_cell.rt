@@ -10,7 +10,7 @@ ghost use Rattle.staat_pairs.specs.Tables.{AreTablePlanes};
 ghost use Rattle.staat_cells.specs.FirstCell.{AreArcEnds, HasNoLow, HasNoLowEdge, IsLastLowEdge, IsLowEdge};
 ghost use Rattle.staat_cells.specs.FirstCell.{first_entry};
 
-use staat_vec::{DIRECTION, NORMAL, V3, VERTEX, add, cross_normal, dot, primitive};
+use staat_vec::{DIRECTION, NORMAL, Normal, V3, VERTEX, add, cross_normal, dot, primitive};
 
 /// Two directions on a plane between which directions lie.
 #[derive(Clone, Copy)]
@@ -95,14 +95,14 @@ fn narrowed(g: V3, h: V3, ends: Ends) -> Option<Ends>
 }
 
 // the ends on the plane g of what is on the positive side of no plane
-fn ends_on(planes: &[V3], g: V3) -> Option<Ends>
+fn ends_on(planes: &[Normal], g: V3) -> Option<Ends>
     requires planes { AreTablePlanes planes.now }
     requires g { Contains planes.now g }
     ensures { MatchOption result (HasNoLow planes.now g) (AreArcEnds planes.now g planes.now) }
 {
     let mut ends = axis_ends(g);
     for h in planes {
-        match narrowed(g, *h, ends) {
+        match narrowed(g, h.vector(), ends) {
             None => return None,
             Some(new) => ends = new,
         }
@@ -111,7 +111,7 @@ fn ends_on(planes: &[V3], g: V3) -> Option<Ends>
 }
 
 // the edge on the plane g, if it has one: the sum of the vertices at its ends
-fn edge_on(planes: &[V3], g: V3) -> Option<V3>
+fn edge_on(planes: &[Normal], g: V3) -> Option<V3>
     requires planes { AreTablePlanes planes.now }
     requires g { Contains planes.now g }
     ensures { MatchOption result (HasNoLow planes.now g) (IsLowEdge planes.now g) }
@@ -123,14 +123,14 @@ fn edge_on(planes: &[V3], g: V3) -> Option<V3>
 }
 
 // the edge of the last plane before the end that has one
-fn edge_before(planes: &[V3], end: usize) -> Option<LowEdge>
+fn edge_before(planes: &[Normal], end: usize) -> Option<LowEdge>
     requires planes { AreTablePlanes planes.now }
     requires end { end ≤ length planes.now }
     ensures { MatchOption result (HasNoLowEdge planes.now end) (IsLastLowEdge planes.now end) }
 {
     for j in 0..end {
         let place = end - 1 - j;
-        match edge_on(planes, planes[place]) {
+        match edge_on(planes, planes[place].vector()) {
             None => {}
             Some(d) => return Some(LowEdge { place, d }),
         }
@@ -145,7 +145,7 @@ fn edge_before(planes: &[V3], end: usize) -> Option<LowEdge>
 /// its second edge is on the last plane but that. On a plane the two ends of the edge are found at once by narrowing
 /// from plane to plane the directions that are left, and most planes are refused after few others. So it takes no
 /// memory, and time linear in the planes for each plane that is looked at, where all points and edges are cubic.
-pub fn first_open(planes: &[V3]) -> V3
+pub fn first_open(planes: &[Normal]) -> V3
     requires { AreTablePlanes planes.now }
     ensures entry { IsEntry planes.now Open (first_entry planes.now result) }
     ensures size { IsWithin DIRECTION result }

@@ -19,7 +19,7 @@ use crate::points::{cells_of, own_incidences, points_at};
 use staat_limits::MOST_CELL_PLANES;
 use staat_model::Kind;
 use staat_pairs::directions;
-use staat_vec::{OutOfMemory, V3};
+use staat_vec::{Normal, OutOfMemory};
 use std::alloc::Global;
 
 /// The points and then the edges of planes, in one list, and the incidences of the edges with the open cells, in the
@@ -32,7 +32,7 @@ pub(crate) struct LowerCells {
 }
 
 // the points, ascending by signs, and incidences with their signs
-fn points_of(alloc: Global, planes: &[V3]) -> Result<(Vec<Cell>, Vec<Incidence>), OutOfMemory>
+fn points_of(alloc: Global, planes: &[Normal]) -> Result<(Vec<Cell>, Vec<Incidence>), OutOfMemory>
     requires planes { AreTablePlanes planes.now }
     requires few { length planes.now ≤ MOST_CELL_PLANES }
     ensures points { IfOk result (λ found. AreCellsOf planes.now Point (map entry_of found.0.items)) }
@@ -48,7 +48,7 @@ fn points_of(alloc: Global, planes: &[V3]) -> Result<(Vec<Cell>, Vec<Incidence>)
 // the incidences of the points with edges, in the order of these, from those with the signs of the points
 fn incidences_of_points(
     alloc: Global,
-    planes: &[V3],
+    planes: &[Normal],
     points: &[Cell],
     own: Vec<Incidence>,
 ) -> Result<Vec<Incidence>, OutOfMemory>
@@ -77,7 +77,7 @@ fn incidences_of_edges(
 
 impl LowerCells {
     /// Those of planes.
-    pub(crate) fn of_planes(alloc: Global, planes: &[V3]) -> Result<LowerCells, OutOfMemory>
+    pub(crate) fn of_planes(alloc: Global, planes: &[Normal]) -> Result<LowerCells, OutOfMemory>
         requires planes { AreTablePlanes planes.now }
         requires few { length planes.now ≤ MOST_CELL_PLANES }
         ensures { IfOk result (AreLowerCells planes.now) }

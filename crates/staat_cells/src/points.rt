@@ -10,12 +10,11 @@ use crate::cell::{Cell, Signs};
 use crate::incidence::{Incidence, incidence_of};
 use crate::signs::{flipped_signs, signs_where};
 use staat_model::Kind;
-use staat_vec::{NORMAL, OutOfMemory, SMALL, V3, VERTEX, are_small, is_same, neg};
+use staat_vec::{Normal, OutOfMemory, SMALL, V3, VERTEX, are_small, is_same, neg};
 use std::alloc::Global;
 
 // the point at a vertex
-fn point_at(alloc: Global, planes: &[V3], small: bool, v: V3) -> Result<Cell, OutOfMemory>
-    requires planes { All (IsWithin NORMAL) planes.now }
+fn point_at(alloc: Global, planes: &[Normal], small: bool, v: V3) -> Result<Cell, OutOfMemory>
     requires small { IsTrue small → All (IsWithin SMALL) planes.now }
     requires v { IsWithin VERTEX v }
     ensures { IfOk result (λ cell. entry_of cell ≡ point_entry planes.now v) }
@@ -43,13 +42,12 @@ fn opposite_point(alloc: Global, point: &Cell, v: V3) -> Result<Cell, OutOfMemor
 // the point at the vertex k, where those at the vertices before it are listed: mostly one of these is opposite to it
 fn point_after(
     alloc: Global,
-    planes: &[V3],
+    planes: &[Normal],
     small: bool,
     vertices: &[V3],
     cells: &[Cell],
     k: usize,
 ) -> Result<Cell, OutOfMemory>
-    requires planes { All (IsWithin NORMAL) planes.now }
     requires small { IsTrue small → All (IsWithin SMALL) planes.now }
     requires vertices { All (IsWithin VERTEX) vertices.now }
     requires place { k < length vertices.now }
@@ -69,11 +67,10 @@ fn point_after(
 /// The points at the vertices.
 pub(crate) fn points_at(
     alloc: Global,
-    planes: &[V3],
+    planes: &[Normal],
     vertices: &[V3],
 ) -> Result<Vec<Cell>, OutOfMemory>
-    requires planes { All (IsWithin NORMAL) planes.now }
-    requires vertices { All (IsWithin VERTEX) vertices.now }
+    requires { All (IsWithin VERTEX) vertices.now }
     ensures { IfOk result (λ cells. map entry_of cells.items ≡ map (point_entry planes.now) vertices.now) }
 {
     let small = are_small(planes);

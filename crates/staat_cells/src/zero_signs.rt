@@ -1,6 +1,6 @@
 // Packed signs in which a zero gives way to another sign.
 ghost use Rattle.std.specs.Prelude.{◌≡◌, ◌<◌, ◌≤◌, ◌-◌, ◌^◌};
-ghost use Rattle.std.specs.Prelude.{All, IfOk, List, length, slice_set, min};
+ghost use Rattle.std.specs.Prelude.{IfOk, List, length, slice_set, min};
 ghost use Rattle.staat_vec.specs.declared.vector.Sign.{Sign as SignValue};
 ghost use Rattle.staat_vec.specs.Vectors.{IsWithin};
 ghost use Rattle.staat_model.specs.Cells.{is_zero, signs_of};
@@ -11,7 +11,7 @@ ghost use Rattle.staat_cells.specs.Packing.{packed, incidence_of};
 ghost use Rattle.staat_cells.specs.Beside.{filled};
 
 use crate::incidence::Incidence;
-use staat_vec::{DIRECTION, NORMAL, OutOfMemory, Sign, V3, sign_dot};
+use staat_vec::{DIRECTION, Normal, OutOfMemory, Sign, V3, sign_dot};
 use std::alloc::Global;
 
 // how much a digit counts at a place of a word of so many digits
@@ -92,13 +92,12 @@ pub(crate) fn zeros_of(alloc: Global, signs: &[Sign]) -> Result<Vec<usize>, OutO
 /// The incidence towards `w` of the cell with these signs, the zeros at these places, whose own incidence is `base`:
 /// in place of each zero stands the sign of the plane at `w`.
 pub(crate) fn incidence_towards(
-    planes: &[V3],
+    planes: &[Normal],
     signs: &[Sign],
     zeros: &[usize],
     base: Incidence,
     w: V3,
 ) -> Incidence
-    requires planes { All (IsWithin NORMAL) planes.now }
     requires direction { IsWithin DIRECTION w }
     requires few { length planes.now ≤ 256 }
     requires signs { length signs.now ≡ length planes.now }
@@ -109,7 +108,7 @@ pub(crate) fn incidence_towards(
     let mut incidence = base;
     for i in 0..zeros.len() {
         let j = zeros[i];
-        incidence = changed(incidence, signs.len(), j, sign_dot(planes[j], w));
+        incidence = changed(incidence, signs.len(), j, sign_dot(planes[j].vector(), w));
     }
     incidence
 }

@@ -1,17 +1,15 @@
 -- The facets of the arcs of a witness, by their numbers.
-use Rattle.std.proofs.Common.{◌≡◌, ◌↔◌, ⊎_elim, ℕ, ◌+◌, ◌<◌, ◌≤◌, arith, refl, sym, ap, subst, ◌∙◌, List, [], ◌∷◌, ◌++◌, append-nil, append_assoc, length, get_or, take, pos, ◌<ℤ◌, true≢false, All, Contains}
+use Rattle.std.proofs.Common.{◌≡◌, ◌↔◌, ⊎_elim, ℕ, ℤ, ◌+◌, ◌<◌, ◌≤◌, arith, refl, sym, ap, subst, ◌∙◌, List, [], ◌∷◌, ◌++◌, append-nil, append_assoc, length, get_or, take, pos, ◌<ℤ◌, true≢false, All, Contains}
 use Rattle.std.specs.Prelude.{Bool, Err, Ok, OnOk, Result, Some, false, flat_map, map, slice_get, true}
 use Rattle.staat_vec.specs.declared.memory.OutOfMemory.{OutOfMemory}
 use Rattle.std.proofs.lemmas.List.{drop_at, flat_map_more, get_or-map, get_or_append_left, get_or_push, length-append, length-map, take_all, take_more}
 use Rattle.std.proofs.lemmas.Option.{get_or_from_slice_get}
-use Rattle.std.proofs.lemmas.List.Elements.{All-append, All-cons, All-contains, All-head, All-map, All-nil, All-tail, All-weaker, Contains-append_cases, Contains-append_left, Contains-append_right, Contains-push, Contains-push_cases}
+use Rattle.std.proofs.lemmas.List.Elements.{All-append, All-cons, All-contains, All-head, All-nil, All-tail, Contains-append_cases, Contains-append_left, Contains-append_right, Contains-push, Contains-push_cases}
 use Rattle.staat_vec.specs.declared.vector.V3.{V3}
-use Rattle.staat_vec.specs.declared.vector.TheConstants.{NORMAL}
 use Rattle.staat_vec.specs.Primitives.{canon}
-use Rattle.staat_vec.specs.Vectors.{IsWithin, dot, negative, origin}
-use Rattle.staat_vec.proofs.Bounds.{IsWithin-negative}
+use Rattle.staat_vec.specs.Vectors.{dot, negative, origin}
 use Rattle.staat_vec.proofs.Canons.{canon-either, negative-negative}
-use Rattle.staat_vec.proofs.ListLaws.{Contains-map, get_drop, get_front, map_at_place}
+use Rattle.staat_vec.proofs.ListLaws.{Contains-map, get_drop, get_front, map_at_place, other_default}
 use Rattle.staat_vec.proofs.Naturals.{lt_one_more_cases}
 use Rattle.staat_vec.proofs.Options.{some_injective}
 use Rattle.staat_vec.proofs.Unique.{Contains-nothing}
@@ -37,9 +35,9 @@ pub side_behind : (planes : List V3) (k : ℕ) (n : V3) → slice_get planes k �
 side_behind planes k n at =
     sym (get_drop (both_sides planes) (length planes) k) ∙ ap (λ l. slice_get l k) (drop_at planes (map negative planes) (length planes) refl) ∙ map_at_place negative planes k n at
 
-pub sides_within : (planes normals : List V3) → All (IsWithin NORMAL) planes → normals ≡ both_sides planes → All (IsWithin NORMAL) normals
-sides_within planes normals within e = subst (All (IsWithin NORMAL)) (sym e)
-    (All-append (IsWithin NORMAL) planes (map negative planes) within (All-map (IsWithin NORMAL) negative planes (All-weaker (IsWithin NORMAL) (λ n. IsWithin NORMAL (negative n)) (IsWithin-negative NORMAL) planes within)))
+-- the product with a normal that was read
+pub product_is : (normals : List V3) (d : V3) (r : ℤ) (k : ℕ) (n : V3) → k < length normals → n ≡ get_or normals k n → r ≡ dot n d → r ≡ dot (get_or normals k origin) d
+product_is normals d r k n lt is e = e ∙ ap (λ m. dot m d) (other_default normals k n origin lt is)
 
 -- what is seen of a facet whose canonical vector is another
 pub turned_of : (facet seen : V3) (same : Bool) → seen ≡ canon facet → (seen ≡ facet → same ≡ true) → same ≡ false → canon facet ≡ negative facet

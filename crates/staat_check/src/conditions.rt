@@ -2,31 +2,28 @@
 ghost use Rattle.std.specs.Prelude.{◌≡◌, ◌<◌, ◌++◌, ◌↔◌, ℕ};
 ghost use Rattle.std.specs.Prelude.{All, Contains, IfOk, OnOk, Some, flat_map, length, map, slice_get};
 ghost use Rattle.staat_vec.specs.Primitives.{canon};
-ghost use Rattle.staat_vec.specs.Vectors.{IsWithin, negative};
+ghost use Rattle.staat_vec.specs.Vectors.{negative};
 ghost use Rattle.staat_pairs.specs.Tables.{IsTableArc, IsTableFacet, facets_of};
 ghost use Rattle.staat_check.specs.Conditions.{AddsNumbers, AreConditions, AreLists, IsAcrossAll};
 ghost use Rattle.staat_check.specs.Conditions.{asked_facets, both_sides, turned_all, turned_if};
 
 use staat_model::{Arc, Witness};
 use staat_pairs::{FacetTable, back};
-use staat_vec::{Listed, NORMAL, OutOfMemory, V3, canon, is_same, neg};
+use staat_vec::{Listed, Normal, OutOfMemory, V3, canon, is_same, neg};
 use std::alloc::Global;
 
 // adds the opposites of the normals
-fn push_opposites(normals: &mut Vec<V3>, planes: &[V3]) -> Result<(), OutOfMemory>
-    requires { All (IsWithin NORMAL) planes.now }
+fn push_opposites(normals: &mut Vec<Normal>, planes: &[Normal]) -> Result<(), OutOfMemory>
     ensures { OnOk result (normals.new.items ≡ normals.old.items ++ map negative planes.now) }
 {
     for n in planes {
-        normals.push(neg(*n))?;
+        normals.push(Normal::of(neg(n.vector())))?;
     }
     Ok(())
 }
 
-/// The normals of both sides of planes: those of the planes, and then their opposites in the same order. Their
-/// components are at most [`NORMAL`] in absolute value.
-pub fn both_normals(alloc: Global, planes: &[V3]) -> Result<Vec<V3>, OutOfMemory>
-    requires { All (IsWithin NORMAL) planes.now }
+/// The normals of both sides of planes: those of the planes, and then their opposites in the same order.
+pub fn both_normals(alloc: Global, planes: &[Normal]) -> Result<Vec<Normal>, OutOfMemory>
     ensures { IfOk result (λ normals. normals.items ≡ both_sides planes.now) }
 {
     let mut normals = Vec::new(alloc);
@@ -36,7 +33,7 @@ pub fn both_normals(alloc: Global, planes: &[V3]) -> Result<Vec<V3>, OutOfMemory
 }
 
 // the number, among the normals of both sides, of a facet on the plane k
-fn number_ahead(planes: &[V3], k: usize, facet: V3) -> usize
+fn number_ahead(planes: &[Normal], k: usize, facet: V3) -> usize
     requires facet { IsTableFacet planes.now facet }
     requires plane { slice_get planes.now k ≡ Some (canon facet) }
     ensures { slice_get (both_sides planes.now) result ≡ Some facet }
@@ -49,7 +46,7 @@ fn number_ahead(planes: &[V3], k: usize, facet: V3) -> usize
 }
 
 // the number of its opposite
-fn number_behind(planes: &[V3], k: usize, facet: V3) -> usize
+fn number_behind(planes: &[Normal], k: usize, facet: V3) -> usize
     requires facet { IsTableFacet planes.now facet }
     requires plane { slice_get planes.now k ≡ Some (canon facet) }
     ensures { slice_get (both_sides planes.now) result ≡ Some (negative facet) }
@@ -62,7 +59,7 @@ fn number_behind(planes: &[V3], k: usize, facet: V3) -> usize
 }
 
 // the number of the facet, or of its opposite
-fn number_of(planes: &[V3], k: usize, facet: V3, turned: bool) -> usize
+fn number_of(planes: &[Normal], k: usize, facet: V3, turned: bool) -> usize
     requires facet { IsTableFacet planes.now facet }
     requires plane { slice_get planes.now k ≡ Some (canon facet) }
     ensures { slice_get (both_sides planes.now) result ≡ Some (turned_if turned facet) }
@@ -89,7 +86,7 @@ fn push_facets(
     let facets = table.kept_facets(arc);
     for (m, facet) in facets.iter().enumerate() {
         let k = table.kept_number(arc, m);
-        numbers.push(number_of(table.planes(), k, *facet, turned))?;
+        numbers.push(number_of(table.planes(), k, facet.vector(), turned))?;
     }
     Ok(())
 }

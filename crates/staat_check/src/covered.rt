@@ -8,7 +8,7 @@ ghost use Rattle.staat_model.proofs.PlaneLemmas.{NoneParallel};
 use crate::places::is_placed;
 use staat_model::Dir;
 use staat_pairs::{crossing, planes_from};
-use staat_vec::{DIRECTION, NORMAL, V3, canon, neg};
+use staat_vec::{DIRECTION, NORMAL, Normal, V3, canon, neg};
 
 // whether lines are found for a vector and its opposite; in version 2 one line serves both
 fn are_both_placed(version: u32, places: &[u32], dirs: &[Dir], v: V3) -> bool
@@ -26,15 +26,14 @@ fn are_both_placed(version: u32, places: &[u32], dirs: &[Dir], v: V3) -> bool
 }
 
 // whether lines are found for all crossings of the plane of g with the planes
-fn are_crossings_placed(version: u32, places: &[u32], dirs: &[Dir], g: V3, hs: &[V3]) -> bool
+fn are_crossings_placed(version: u32, places: &[u32], dirs: &[Dir], g: V3, hs: &[Normal]) -> bool
     requires places { 1 ≤ length places.now }
     requires plane { IsWithin NORMAL g }
-    requires planes { All (IsWithin NORMAL) hs.now }
     requires apart { All (λ h. cross g h ≢ origin) hs.now }
     ensures { IsTrue result → All (IsListed version dirs.now) (crossings g hs.now) }
 {
     for h in hs {
-        if !are_both_placed(version, places, dirs, crossing(g, *h)) {
+        if !are_both_placed(version, places, dirs, crossing(g, h.vector())) {
             return false;
         }
     }
@@ -42,14 +41,19 @@ fn are_crossings_placed(version: u32, places: &[u32], dirs: &[Dir], g: V3, hs: &
 }
 
 /// Whether lines are found for all vertices of the planes.
-pub fn are_vertices_placed(version: u32, places: &[u32], dirs: &[Dir], planes: &[V3]) -> bool
+pub fn are_vertices_placed(version: u32, places: &[u32], dirs: &[Dir], planes: &[Normal]) -> bool
     requires places { 1 ≤ length places.now }
-    requires planes { All (IsWithin NORMAL) planes.now }
     requires apart { NoneParallel planes.now }
     ensures { IsTrue result → All (IsListed version dirs.now) (vertices planes.now) }
 {
     for (k, g) in planes.iter().enumerate() {
-        if !are_crossings_placed(version, places, dirs, *g, planes_from(planes, k + 1)) {
+        if !are_crossings_placed(
+            version,
+            places,
+            dirs,
+            g.vector(),
+            planes_from(planes, k + 1),
+        ) {
             return false;
         }
     }

@@ -10,7 +10,7 @@ ghost use Rattle.staat_check.specs.Known.{IsKnown, IsUnknownOfBoth};
 ghost use Rattle.staat_check.specs.Searches.{TellsFirst};
 
 use staat_pairs::{crossing, planes_from};
-use staat_vec::{DIRECTION, NORMAL, V3, canon, neg};
+use staat_vec::{DIRECTION, NORMAL, Normal, V3, canon, neg};
 
 // whether the vector is among the ascending ones, by halving
 fn is_listed(listed: &[V3], v: V3) -> bool
@@ -68,15 +68,14 @@ fn unknown_of_both(version: u32, listed: &[V3], v: V3) -> Option<V3>
 }
 
 // the first crossing of the plane of g with one of the planes that is not known
-fn unknown_crossing(version: u32, listed: &[V3], g: V3, hs: &[V3]) -> Option<V3>
+fn unknown_crossing(version: u32, listed: &[V3], g: V3, hs: &[Normal]) -> Option<V3>
     requires ascending { IsStrictlySortedBy vector_cmp listed.now }
     requires g { IsWithin NORMAL g }
-    requires hs { All (IsWithin NORMAL) hs.now }
     requires apart { All (λ h. cross g h ≢ origin) hs.now }
     ensures { TellsFirst (IsKnown version listed.now) (crossings g hs.now) result }
 {
     for h in hs {
-        match unknown_of_both(version, listed, crossing(g, *h)) {
+        match unknown_of_both(version, listed, crossing(g, h.vector())) {
             Some(v) => return Some(v),
             None => {}
         }
@@ -88,14 +87,13 @@ fn unknown_crossing(version: u32, listed: &[V3], g: V3, hs: &[V3]) -> Option<V3>
 /// opposite is not among them either.
 ///
 /// Each two planes are crossed once, and each crossing is sought by halving.
-pub fn first_unknown(version: u32, listed: &[V3], planes: &[V3]) -> Option<V3>
+pub fn first_unknown(version: u32, listed: &[V3], planes: &[Normal]) -> Option<V3>
     requires ascending { IsStrictlySortedBy vector_cmp listed.now }
-    requires planes { All (IsWithin NORMAL) planes.now }
     requires apart { NoneParallel planes.now }
     ensures { TellsFirst (IsKnown version listed.now) (vertices planes.now) result }
 {
     for (k, g) in planes.iter().enumerate() {
-        match unknown_crossing(version, listed, *g, planes_from(planes, k + 1)) {
+        match unknown_crossing(version, listed, g.vector(), planes_from(planes, k + 1)) {
             Some(v) => return Some(v),
             None => {}
         }

@@ -1,12 +1,10 @@
 -- How the lists of a core grow.
-use Rattle.std.proofs.Common.{◌≡◌, ◌∙◌, ℕ, ◌+◌, ◌<◌, ◌≤◌, arith, ap, sym, subst, take, refl, get_or, Bool, true, false, List, [], ◌∷◌, ◌++◌, All, Contains, length, length-append, lit≤, pos}
+use Rattle.std.proofs.Common.{◌≡◌, ◌∙◌, ℕ, ◌+◌, ◌<◌, ◌≤◌, arith, ap, sym, subst, take, refl, get_or, Bool, true, false, List, [], ◌∷◌, ◌++◌, All, Contains, length, length-append}
 use Rattle.std.proofs.lemmas.List.{append-nil, append_assoc, get_or_append_left}
-use Rattle.std.proofs.lemmas.List.Elements.{All-cons, All-contains, All-contains_itself, All-nil, All-push, All-weaker, Contains-append_left, Contains-append_right}
+use Rattle.std.proofs.lemmas.List.Elements.{All-contains, All-contains_itself, All-nil, All-push, All-weaker, Contains-append_left, Contains-append_right}
 use Rattle.std.specs.Prelude.{IsTrue}
 use Rattle.staat_vec.specs.declared.vector.V3.{V3}
-use Rattle.staat_vec.specs.declared.vector.TheConstants.{NORMAL}
 use Rattle.staat_vec.specs.Primitives.{canon}
-use Rattle.staat_vec.specs.Vectors.{IsWithin, vector}
 use Rattle.staat_model.specs.declared.assembly.Part.{Part}
 use Rattle.staat_model.specs.declared.certificate.Arc.{Arc}
 use Rattle.staat_model.specs.Planes.{axes}
@@ -61,24 +59,17 @@ planes_kept parts xs ys pairs g = All-weaker (HasPlanesOf parts xs) (HasPlanesOf
 pub axes_kept : (xs ys : List V3) → GoesOn xs ys → StandIn axes xs → StandIn axes ys
 axes_kept xs ys g = All-weaker (Contains xs) (Contains ys) (λ n c. stays_in xs ys n g c) axes
 
-pub plane_pushed : (k m : Core) (n : V3) → HasRoom k → IsWithin NORMAL n → k.used < 96 → length m.planes ≡ 96 → m.used ≡ k.used + 1 → core_planes m ≡ core_planes k ++ n ∷ [] → m.pairs ≡ k.pairs → m.count ≡ k.count → HasRoom m
-plane_pushed k m n is within few room used e pairs count = record {
+pub plane_pushed : (k m : Core) (n : V3) → HasRoom k → k.used < 96 → length m.planes ≡ 96 → m.used ≡ k.used + 1 → core_planes m ≡ core_planes k ++ n ∷ [] → m.pairs ≡ k.pairs → m.count ≡ k.count → HasRoom m
+plane_pushed k m n is few room used e pairs count = record {
   long = ap length pairs ∙ is.long;
   few = subst (λ c. c ≤ 2016) (sym count) is.few;
   room = room;
   most = omega (arith, few, used);
-  each = subst (All (IsWithin NORMAL)) (sym e) (All-push (IsWithin NORMAL) (core_planes k) n is.each within);
   axes = axes_kept (core_planes k) (core_planes m) (goes_one (core_planes k) (core_planes m) n e) is.axes;
 }
 
 pub pairs_same : (k m : Core) → m.pairs ≡ k.pairs → m.count ≡ k.count → core_pairs m ≡ core_pairs k
 pairs_same k m e n = λ i. take (n i) (e i)
-
-axes_within : All (IsWithin NORMAL) axes
-axes_within =
-    All-cons (IsWithin NORMAL) (vector (pos 1) (pos 0) (pos 0)) (vector (pos 0) (pos 1) (pos 0) ∷ vector (pos 0) (pos 0) (pos 1) ∷ []) (record { x = lit≤ tt; y = lit≤ tt; z = lit≤ tt })
-    (All-cons (IsWithin NORMAL) (vector (pos 0) (pos 1) (pos 0)) (vector (pos 0) (pos 0) (pos 1) ∷ []) (record { x = lit≤ tt; y = lit≤ tt; z = lit≤ tt })
-    (All-cons (IsWithin NORMAL) (vector (pos 0) (pos 0) (pos 1)) [] (record { x = lit≤ tt; y = lit≤ tt; z = lit≤ tt }) (All-nil (IsWithin NORMAL))))
 
 pub axes_room : (k : Core) → length k.pairs ≡ 2016 → k.count ≡ 0 → length k.planes ≡ 96 → k.used ≡ 3 → core_planes k ≡ axes → HasRoom k
 axes_room k long none room used e = record {
@@ -86,7 +77,6 @@ axes_room k long none room used e = record {
   few = omega (arith, none);
   room = room;
   most = omega (arith, used);
-  each = subst (All (IsWithin NORMAL)) (sym e) axes_within;
   axes = subst (StandIn axes) (sym e) (All-contains_itself axes);
 }
 

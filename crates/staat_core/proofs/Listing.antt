@@ -6,7 +6,7 @@ use Rattle.staat_vec.specs.declared.vector.V3.{V3}
 use Rattle.staat_vec.specs.Lists.{Lists}
 use Rattle.staat_vec.specs.declared.words.TheConstants.{SMALL}
 use Rattle.staat_vec.specs.Primitives.{canon}
-use Rattle.staat_vec.specs.Vectors.{IsWithin, vector_cmp}
+use Rattle.staat_vec.specs.Vectors.{IsWithin, origin, vector_cmp}
 use Rattle.staat_vec.proofs.Canons.{canon-has}
 use Rattle.staat_vec.proofs.Primitives.{IsPrimitive-some}
 use Rattle.staat_model.specs.declared.assembly.Part.{Part}
@@ -14,7 +14,7 @@ use Rattle.staat_model.specs.declared.certificate.Arc.{Arc}
 use Rattle.staat_model.specs.Facets.{IsFacet}
 use Rattle.staat_model.proofs.Members.{All-from_members}
 use Rattle.staat_pairs.specs.Tables.{AreTableFacets, IsTableArc, IsTableFacet, Table, WasMadeFrom, facets_of}
-use Rattle.staat_core.specs.Sources.{AreFacetsOf, IsNormal}
+use Rattle.staat_core.specs.Sources.{AreFacetsOf}
 
 -- a member of the list with one more is the last or one of the list
 pub member_or_last : (xs : List Arc) (a x : Arc) → Contains (xs ++ a ∷ []) x → Contains xs x ⊎ (x ≡ a)
@@ -30,8 +30,8 @@ all_put P xs ys pair all has more = All-from_members P ys (λ x c. ⊎_elim {C =
 pub apart_of : (a b : ℕ) → a < b → a ≢ b
 apart_of a b lt e = omega (arith, lt, e)
 
-pub normals : (planes facets : List V3) → AreTableFacets planes facets → All IsNormal facets
-normals planes facets are = All-weaker (IsTableFacet planes) IsNormal (λ n h. record { some = IsPrimitive-some n h.primitive; within = h.within }) facets are.each
+pub some_facets : (planes facets : List V3) → AreTableFacets planes facets → All (λ n. n ≢ origin) facets
+some_facets planes facets are = All-weaker (IsTableFacet planes) (λ n. n ≢ origin) (λ n h. IsPrimitive-some n h.primitive) facets are.each
 
 small_by_canon : (n : V3) → IsWithin SMALL (canon n) → IsWithin SMALL n
 small_by_canon n = canon-has (λ u. IsWithin SMALL u → IsWithin SMALL n) n (λ h. h) (λ h. record { x = omega (arith, ints, h.x); y = omega (arith, ints, h.y); z = omega (arith, ints, h.z) })

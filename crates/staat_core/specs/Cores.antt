@@ -2,9 +2,8 @@
 use Rattle.std.specs.Prelude.{◌≡◌, ◌≢◌, ℕ, ◌<◌, ◌≤◌, List, ◌++◌, All, Contains, length}
 use Rattle.std.specs.Prelude.{slice_index_or, take}
 use Rattle.staat_vec.specs.declared.vector.V3.{V3}
-use Rattle.staat_vec.specs.declared.vector.TheConstants.{NORMAL}
 use Rattle.staat_vec.specs.Primitives.{canon}
-use Rattle.staat_vec.specs.Vectors.{IsWithin, cross, origin}
+use Rattle.staat_vec.specs.Vectors.{cross, origin}
 use Rattle.staat_model.specs.declared.assembly.Part.{Part}
 use Rattle.staat_model.specs.declared.certificate.Arc.{Arc}
 use Rattle.staat_model.specs.declared.set.PartSet.{PartSet}
@@ -40,7 +39,6 @@ pub record HasRoom (k : Core) : Type 0 where
   pub few : k.count ≤ 2016
   pub room : length k.planes ≡ 96
   pub most : k.used ≤ 96
-  pub each : All (IsWithin NORMAL) (core_planes k)
   pub axes : StandIn axes (core_planes k)
 
 -- the planes of these facets stand in the list

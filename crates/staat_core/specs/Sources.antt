@@ -1,9 +1,8 @@
 -- Pairs of pieces with their facets.
-use Rattle.std.specs.Prelude.{◌≢◌, ◌<◌, List, All, ◌++◌, map}
+use Rattle.std.specs.Prelude.{◌<◌, List, All, ◌++◌, map}
 use Rattle.staat_vec.specs.declared.vector.V3.{V3}
-use Rattle.staat_vec.specs.declared.vector.TheConstants.{NORMAL}
 use Rattle.staat_vec.specs.Lists.{Lists}
-use Rattle.staat_vec.specs.Vectors.{IsWithin, origin, vector_cmp}
+use Rattle.staat_vec.specs.Vectors.{vector_cmp}
 use Rattle.staat_limits.specs.declared.limits.TheConstants.{MOST_PARTS}
 use Rattle.staat_model.specs.declared.assembly.Part.{Part}
 use Rattle.staat_model.specs.declared.certificate.Arc.{Arc}
@@ -15,11 +14,6 @@ use Rattle.staat_pairs.specs.Tables.{back}
 pub record IsSmallPair (pair : Arc) : Type 0 where
   pub a : pair.a < MOST_PARTS
   pub b : pair.b < MOST_PARTS
-
--- not zero, and not too great
-pub record IsNormal (n : V3) : Type 0 where
-  pub some : n ≢ origin
-  pub within : IsWithin NORMAL n
 
 -- the pieces of the parts are pieces, and the list has exactly the facets of the pair
 pub record AreFacetsOf (parts : List Part) (pair : Arc) (facets : List V3) : Type 0 where

@@ -1,7 +1,7 @@
 // A core: pairs of pieces, and the planes of their facets.
-ghost use Rattle.std.specs.Prelude.{◌≡◌, ◌+◌, ◌<◌, ◌≤◌, ◌∷◌, [], ◌++◌, All, Contains, IfSome, IsTrue, MatchOption};
+ghost use Rattle.std.specs.Prelude.{◌≡◌, ◌≢◌, ◌+◌, ◌<◌, ◌≤◌, ◌∷◌, [], ◌++◌, All, Contains, IfSome, IsTrue, MatchOption};
 ghost use Rattle.std.specs.Prelude.{false, length};
-ghost use Rattle.staat_vec.specs.Vectors.{IsWithin};
+ghost use Rattle.staat_vec.specs.Vectors.{IsWithin, origin};
 ghost use Rattle.staat_core.specs.Cores.{
   GoesOn,
   HasCanons,
@@ -11,10 +11,9 @@ ghost use Rattle.staat_core.specs.Cores.{
   core_plane_at,
   core_planes,
 };
-ghost use Rattle.staat_core.specs.Sources.{IsNormal};
 
 use staat_model::Arc;
-use staat_vec::{NORMAL, ORIGIN, V3, canon, is_same};
+use staat_vec::{NORMAL, Normal, ORIGIN, V3, canon, is_same};
 
 /// How many pairs a core has at most: one for each two of 64 pieces.
 const MOST_PAIRS: u32 = 2016;
@@ -41,7 +40,7 @@ fn bit_of(n: V3) -> u128 {
 pub struct Core {
     pairs: [Arc; 2016],
     count: u32,
-    planes: [V3; 96],
+    planes: [Normal; 96],
     used: u32,
     // the bits of the planes in use
     bits: u128,
@@ -67,16 +66,19 @@ impl Core {
             b: 0,
             j: 0,
         };
-        let mut planes = [ORIGIN; 96];
-        planes[0] = V3 { x: 1, y: 0, z: 0 };
-        planes[1] = V3 { x: 0, y: 1, z: 0 };
-        planes[2] = V3 { x: 0, y: 0, z: 1 };
+        let x = V3 { x: 1, y: 0, z: 0 };
+        let y = V3 { x: 0, y: 1, z: 0 };
+        let z = V3 { x: 0, y: 0, z: 1 };
+        let mut planes = [Normal::of(ORIGIN); 96];
+        planes[0] = Normal::of(x);
+        planes[1] = Normal::of(y);
+        planes[2] = Normal::of(z);
         Core {
             pairs: [nowhere; 2016],
             count: 0,
             planes,
             used: 3,
-            bits: bit_of(planes[0]) | bit_of(planes[1]) | bit_of(planes[2]),
+            bits: bit_of(x) | bit_of(y) | bit_of(z),
             grows,
         }
     }
@@ -103,7 +105,7 @@ impl Core {
     {
         let planes = &self.planes[..self.used as usize];
         if (k as usize) < planes.len() {
-            Some(planes[k as usize])
+            Some(planes[k as usize].vector())
         } else {
             None
         }
@@ -118,7 +120,7 @@ impl Core {
             return false;
         }
         for m in &self.planes[..self.used as usize] {
-            if is_same(*m, n) {
+            if is_same(m.vector(), n) {
                 return true;
             }
         }
@@ -126,16 +128,16 @@ impl Core {
     }
 
     /// How many planes of facets are wanting, up to a limit.
-    pub(crate) fn wanting(&self, facets: &[V3], limit: u32) -> u32
+    pub(crate) fn wanting(&self, facets: &[Normal], limit: u32) -> u32
         requires room { HasRoom self.now }
-        requires facets { All IsNormal facets.now }
+        requires facets { All (λ n. n ≢ origin) facets.now }
     {
         let mut wanting = 0;
         for n in facets {
             if wanting >= limit {
                 return limit;
             }
-            if !self.has_plane(canon(*n)) {
+            if !self.has_plane(canon(n.vector())) {
                 wanting += 1;
             }
         }
@@ -143,7 +145,7 @@ impl Core {
     }
 
     // puts a plane behind those in use
-    fn push_plane(&mut self, n: V3)
+    fn push_plane(&mut self, n: Normal)
         requires room { length self.old.planes ≡ 96 }
         requires few { self.old.used < MOST_CORE_PLANES }
         ensures room { length self.new.planes ≡ 96 }
@@ -154,19 +156,18 @@ impl Core {
     {
         self.planes[self.used as usize] = n;
         self.used += 1;
-        self.bits |= bit_of(n);
+        self.bits |= bit_of(n.vector());
     }
 
     // sees to it that the plane is in use; false where there is no room
-    fn put_plane(&mut self, n: V3) -> bool
-        requires room { HasRoom self.old }
-        requires within { IsWithin NORMAL n }
+    fn put_plane(&mut self, n: Normal) -> bool
+        requires { HasRoom self.old }
         ensures room { HasRoom self.new }
         ensures planes { GoesOn (core_planes self.old) (core_planes self.new) }
         ensures pairs { core_pairs self.new ≡ core_pairs self.old }
         ensures put { IsTrue result → Contains (core_planes self.new) n }
     {
-        if self.has_plane(n) {
+        if self.has_plane(n.vector()) {
             return true;
         }
         if self.used >= MOST_CORE_PLANES {
@@ -177,16 +178,16 @@ impl Core {
     }
 
     // so for the planes of facets
-    fn put_facets(&mut self, facets: &[V3]) -> bool
+    fn put_facets(&mut self, facets: &[Normal]) -> bool
         requires room { HasRoom self.old }
-        requires facets { All IsNormal facets.now }
+        requires facets { All (λ n. n ≢ origin) facets.now }
         ensures room { HasRoom self.new }
         ensures planes { GoesOn (core_planes self.old) (core_planes self.new) }
         ensures pairs { core_pairs self.new ≡ core_pairs self.old }
         ensures put { IsTrue result → HasCanons (core_planes self.new) facets.now }
     {
         for n in facets {
-            if !self.put_plane(canon(*n)) {
+            if !self.put_plane(Normal::of(canon(n.vector()))) {
                 return false;
             }
         }
@@ -211,9 +212,9 @@ impl Core {
 
     /// Adds a pair with the planes of its facets; false where there is no room, and then some of the planes may be
     /// added.
-    pub(crate) fn add(&mut self, pair: Arc, facets: &[V3]) -> bool
+    pub(crate) fn add(&mut self, pair: Arc, facets: &[Normal]) -> bool
         requires room { HasRoom self.old }
-        requires facets { All IsNormal facets.now }
+        requires facets { All (λ n. n ≢ origin) facets.now }
         ensures room { HasRoom self.new }
         ensures planes { GoesOn (core_planes self.old) (core_planes self.new) }
         ensures put { IsTrue result → HasCanons (core_planes self.new) facets.now }

@@ -8,14 +8,14 @@ ghost use Rattle.staat_model.specs.Sets.{IsNonempty};
 ghost use Rattle.staat_graph.specs.Graphs.{AreReversed, HasArc};
 ghost use Rattle.staat_core.specs.Cores.{AreLeading, HasGrown, IsCore, core_pairs};
 ghost use Rattle.staat_core.specs.Moves.{HoldsMoves};
-ghost use Rattle.staat_core.specs.Sources.{IsNormal, IsSmallPair, both_ways};
+ghost use Rattle.staat_core.specs.Sources.{IsSmallPair, both_ways};
 
 use crate::cores::Core;
 use crate::joins::{Joins, Moving};
 use crate::source::PairSource;
 use staat_model::{Arc, PartSet};
 use staat_planes::Heading;
-use staat_vec::{DIRECTION, SMALL, V3};
+use staat_vec::{DIRECTION, Normal, SMALL, V3};
 
 /// How often a core grows at most at one direction.
 const ROUNDS: u32 = 2016;
@@ -76,9 +76,8 @@ impl Blocking {
     }
 
     // puts the pair with these facets, if it blocks along the direction or its opposite
-    fn put_pair(&mut self, facets: &[V3], place: u32, heading: &Heading)
-        requires facets { All IsNormal facets.now }
-        requires low { IsTrue heading.now.fair → All (IsWithin SMALL) facets.now }
+    fn put_pair(&mut self, facets: &[Normal], place: u32, heading: &Heading)
+        requires { IsTrue heading.now.fair → All (IsWithin SMALL) facets.now }
     {
         let arc = place.saturating_mul(2);
         let leads = heading.past(facets);

@@ -1,13 +1,13 @@
 // Where pairs of pieces and their facets come from.
-ghost use Rattle.std.specs.Prelude.{◌≡◌, Bool, List, All, Contains, IsTrue};
-ghost use Rattle.staat_vec.specs.Vectors.{IsWithin};
+ghost use Rattle.std.specs.Prelude.{◌≡◌, ◌≢◌, Bool, List, All, Contains, IsTrue};
+ghost use Rattle.staat_vec.specs.Vectors.{IsWithin, origin};
 ghost use Rattle.staat_model.specs.declared.assembly.Part.{Part as PartValue};
 ghost use Rattle.staat_model.specs.declared.certificate.Arc.{Arc as ArcValue};
 ghost use Rattle.staat_model.specs.Assemblies.{IsPart};
-ghost use Rattle.staat_core.specs.Sources.{AreFacetsOf, IsNormal, IsSmallPair};
+ghost use Rattle.staat_core.specs.Sources.{AreFacetsOf, IsSmallPair};
 
 use staat_model::Arc;
-use staat_vec::{SMALL, V3};
+use staat_vec::{Normal, SMALL};
 
 /// Pairs of pieces of different parts, and the facets of each.
 ///
@@ -32,11 +32,10 @@ pub trait PairSource {
     fn has_low_facets(&self) -> bool
         ensures { result ≡ low self.now };
 
-    /// The facets of a pair, all of them. None are zero, and their components are at most
-    /// [`NORMAL`](staat_vec::NORMAL) in absolute value.
-    fn facets(&self, pair: Arc) -> &[V3]
+    /// The facets of a pair, all of them. None are zero.
+    fn facets(&self, pair: Arc) -> &[Normal]
         requires { Contains (pairs self.now) pair }
-        ensures each { All IsNormal result.now }
+        ensures each { All (λ n. n ≢ origin) result.now }
         ensures low { IsTrue (low self.now) → All (IsWithin SMALL) result.now }
         ensures all { (parts : List PartValue) → speaks self.now parts → AreFacetsOf parts pair result.now };
 }

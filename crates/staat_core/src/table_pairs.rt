@@ -7,7 +7,7 @@ ghost use Rattle.staat_core.specs.Listed.{IsTablePair};
 use crate::source::PairSource;
 use staat_model::Arc;
 use staat_planes::PlaneTable;
-use staat_vec::V3;
+use staat_vec::Normal;
 
 /// Pairs of a table, in each of which the piece of the lesser part comes first, with the facets that the table keeps.
 #[derive(Clone, Copy)]
@@ -38,7 +38,7 @@ impl<'a> PairSource for TablePairs<'a> {
         self.low
     }
 
-    fn facets(&self, pair: Arc) -> &[V3] {
+    fn facets(&self, pair: Arc) -> &[Normal] {
         self.table.kept_facets(pair)
     }
 }

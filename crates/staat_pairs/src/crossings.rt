@@ -3,7 +3,7 @@ ghost use Rattle.std.specs.Prelude.{◌≡◌, ◌≢◌, ◌≤◌, drop, lengt
 ghost use Rattle.staat_vec.specs.Primitives.{primitive};
 ghost use Rattle.staat_vec.specs.Vectors.{IsWithin, cross, origin};
 
-use staat_vec::{DIRECTION, NORMAL, V3, VERTEX, cross_normal, primitive};
+use staat_vec::{DIRECTION, NORMAL, Normal, V3, VERTEX, cross_normal, primitive};
 
 /// One of the two primitive vectors along which the planes of the normals `g` and `h` cross; the other is its
 /// opposite.
@@ -23,7 +23,7 @@ pub fn crossing(g: V3, h: V3) -> V3
 }
 
 /// The planes from the place `k` on. `k` is at most their number.
-pub fn planes_from(planes: &[V3], k: usize) -> &[V3]
+pub fn planes_from(planes: &[Normal], k: usize) -> &[Normal]
     requires { k ≤ length planes.now }
     ensures { result.now ≡ drop k planes.now }
 {

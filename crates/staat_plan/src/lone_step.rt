@@ -1,5 +1,5 @@
 // The step of a set of parts that comes apart along one line alone.
-ghost use Rattle.std.specs.Prelude.{◌≢◌, ◌≤◌, List, All, IfOk, IfSome, IsTrue, Some, false, length, true};
+ghost use Rattle.std.specs.Prelude.{◌≢◌, ◌≤◌, List, IfOk, IfSome, IsTrue, Some, false, length, true};
 ghost use Rattle.staat_vec.specs.Vectors.{IsWithin, origin};
 ghost use Rattle.staat_model.specs.declared.assembly.Part.{Part as PartValue};
 ghost use Rattle.staat_model.specs.Outcomes.{IsStep, try_vertex};
@@ -14,23 +14,23 @@ use staat_graph::sink_of;
 use staat_limits::MOST_CELL_PLANES;
 use staat_model::{Kind, PartSet, Step};
 use staat_planes::{PlaneTable, Trial};
-use staat_vec::{DIRECTION, NORMAL, OutOfMemory, Sign, V3, canon, neg, sign_dot};
+use staat_vec::{DIRECTION, Normal, OutOfMemory, Sign, V3, canon, neg, sign_dot};
 use std::alloc::Global;
 
 // Whether a core shows that no direction serves on any of the planes that v does not lie on. What it keeps on the stack
 // is large, and is not to be part of the callers' frames.
 #[inline(never)]
-fn is_lone(table: &PlaneTable, w: PartSet, planes: &[V3], v: V3) -> bool
+fn is_lone(table: &PlaneTable, w: PartSet, planes: &[Normal], v: V3) -> bool
     requires within { IsSubset w table.now.of }
     requires some { IsNonempty w }
-    requires planes { All (IsWithin NORMAL) planes.now }
     requires v { IsWithin DIRECTION v }
     ensures { IsTrue result → (parts : List PartValue) → WasMadeFrom parts table.now
         → OnlyPlanesThroughServe parts w planes.now v }
 {
     let mut trial = SideTrial::new();
-    for g in planes {
-        if sign_dot(*g, v) != Sign::Zero && !trial.rules_out(table, w, *g) {
+    for n in planes {
+        let g = n.vector();
+        if sign_dot(g, v) != Sign::Zero && !trial.rules_out(table, w, g) {
             return false;
         }
     }

@@ -9,9 +9,8 @@ ghost use Rattle.staat_pairs.specs.Tables.{IsTableArc, WasMadeFrom, back, facets
 ghost use Rattle.staat_planes.specs.Tables.{BlocksIn, GainsArcs, IsAhead, IsAheadFrom, IsAheadIn};
 ghost use Rattle.staat_planes.specs.Tables.{IsBehindFrom};
 
-use crate::leads::{Heading, Leads};
+use crate::leads::{Heading, Leads, is_ahead};
 use crate::table::PlaneTable;
-use staat_cone::blocks;
 use staat_graph::Graph;
 use staat_limits::MOST_PARTS;
 use staat_model::{Arc, PartSet};
@@ -42,9 +41,9 @@ impl PlaneTable {
         ensures { IsTrue result ↔ All (λ n. pos 0 <ℤ dot n d) (facets_of self.now arc) }
     {
         if arc.a < arc.b {
-            blocks(self.kept_facets(arc), d)
+            is_ahead(self.kept_facets(arc), d)
         } else {
-            blocks(self.kept_facets(back(arc)), neg(d))
+            is_ahead(self.kept_facets(back(arc)), neg(d))
         }
     }
 

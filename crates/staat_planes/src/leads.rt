@@ -4,7 +4,7 @@ ghost use Rattle.staat_vec.specs.declared.vector.TheConstants.{DIRECTION, NORMAL
 ghost use Rattle.staat_vec.specs.declared.words.TheConstants.{SMALL};
 ghost use Rattle.staat_vec.specs.Vectors.{IsWithin, dot};
 
-use staat_vec::{DIRECTION, NORMAL, SMALL, V3, dot, is_within, small_dot};
+use staat_vec::{DIRECTION, NORMAL, Normal, SMALL, V3, dot, is_within, small_dot};
 
 /// How a direction leads past facets: ahead of all, behind all, or neither. Of no facets both are so.
 #[derive(Clone, Copy)]
@@ -71,28 +71,26 @@ impl Heading {
     }
 
     // the product of a normal and the direction, exact
-    fn along(&self, n: V3) -> i128
-        requires normal { IsWithin NORMAL n }
-        requires small { IsTrue self.now.fair → IsWithin SMALL n }
-        ensures { result ≡ dot n self.now.d }
+    fn along(&self, n: &Normal) -> i128
+        requires { IsTrue self.now.fair → IsWithin SMALL n.now }
+        ensures { result ≡ dot n.now self.now.d }
     {
         if self.near {
-            small_dot(n, self.d) as i128
+            n.small_dot(self.d) as i128
         } else if self.fair {
-            small_dot(self.d, n) as i128
+            small_dot(self.d, n.vector()) as i128
         } else {
-            dot(n, self.d)
+            dot(n.vector(), self.d)
         }
     }
 
     // whether it leads ahead of all the facets
-    fn is_ahead(&self, facets: &[V3]) -> bool
-        requires normals { All (IsWithin NORMAL) facets.now }
-        requires small { IsTrue self.now.fair → All (IsWithin SMALL) facets.now }
+    fn is_ahead(&self, facets: &[Normal]) -> bool
+        requires { IsTrue self.now.fair → All (IsWithin SMALL) facets.now }
         ensures { IsTrue result ↔ All (λ n. pos 0 <ℤ dot n self.now.d) facets.now }
     {
         for n in facets {
-            if self.along(*n) <= 0 {
+            if self.along(n) <= 0 {
                 return false;
             }
         }
@@ -100,13 +98,12 @@ impl Heading {
     }
 
     // whether it leads behind all the facets
-    fn is_behind(&self, facets: &[V3]) -> bool
-        requires normals { All (IsWithin NORMAL) facets.now }
-        requires small { IsTrue self.now.fair → All (IsWithin SMALL) facets.now }
+    fn is_behind(&self, facets: &[Normal]) -> bool
+        requires { IsTrue self.now.fair → All (IsWithin SMALL) facets.now }
         ensures { IsTrue result ↔ All (λ n. dot n self.now.d <ℤ pos 0) facets.now }
     {
         for n in facets {
-            if self.along(*n) >= 0 {
+            if self.along(n) >= 0 {
                 return false;
             }
         }
@@ -116,11 +113,10 @@ impl Heading {
     /// Whether it leads ahead of all the facets, and whether it leads behind all. Of the facets of two pieces it says
     /// whether the first, moved along the direction, meets the second, and whether the second meets the first.
     ///
-    /// The components of the facets are at most [`NORMAL`] in absolute value, and at most [`SMALL`] if it is fair. The
-    /// first facet tells which of the two may be so, and the search ends at one of which it is not.
-    pub fn past(&self, facets: &[V3]) -> Leads
-        requires normals { All (IsWithin NORMAL) facets.now }
-        requires small { IsTrue self.now.fair → All (IsWithin SMALL) facets.now }
+    /// If it is fair, the components of the facets are at most [`SMALL`] in absolute value. The first facet tells which
+    /// of the two may be so, and the search ends at one of which it is not.
+    pub fn past(&self, facets: &[Normal]) -> Leads
+        requires { IsTrue self.now.fair → All (IsWithin SMALL) facets.now }
         ensures ahead { IsTrue result.ahead ↔ All (λ n. pos 0 <ℤ dot n self.now.d) facets.now }
         ensures behind { IsTrue result.behind ↔ All (λ n. dot n self.now.d <ℤ pos 0) facets.now }
     {
@@ -130,7 +126,7 @@ impl Heading {
                 behind: true,
             };
         };
-        let along = self.along(*first);
+        let along = self.along(first);
         if along > 0 {
             Leads {
                 ahead: self.is_ahead(others),
@@ -145,4 +141,12 @@ impl Heading {
             Leads::neither()
         }
     }
+}
+
+/// Whether a direction leads ahead of all the facets. The components of `d` are at most [`DIRECTION`] in absolute value.
+pub(crate) fn is_ahead(facets: &[Normal], d: V3) -> bool
+    requires { IsWithin DIRECTION d }
+    ensures { IsTrue result ↔ All (λ n. pos 0 <ℤ dot n d) facets.now }
+{
+    Heading::of(d, false).is_ahead(facets)
 }

@@ -5,7 +5,7 @@ ghost use Rattle.staat_planes.specs.SetPlanes.{ArePlanesIn};
 
 use crate::table::PlaneTable;
 use staat_model::PartSet;
-use staat_vec::{OutOfMemory, V3};
+use staat_vec::{Normal, OutOfMemory};
 use std::alloc::Global;
 
 impl PlaneTable {
@@ -14,7 +14,7 @@ impl PlaneTable {
     ///
     /// They are those of the table that belong to `w`. Each facet of two pieces of `w` is looked up once, and no source
     /// of facets is asked. It fails for want of memory alone.
-    pub fn planes_of(&self, alloc: Global, w: PartSet) -> Result<Vec<V3>, OutOfMemory>
+    pub fn planes_of(&self, alloc: Global, w: PartSet) -> Result<Vec<Normal>, OutOfMemory>
         requires { IsSubset w self.now.of }
         ensures { IfOk result (λ planes. ArePlanesIn self.now w planes.items) }
     {
@@ -22,7 +22,7 @@ impl PlaneTable {
         let mut planes = Vec::new(alloc);
         for k in 0..self.len() {
             if marks[k as usize] {
-                planes.push(self.plane(k))?;
+                planes.push(Normal::of(self.plane(k)))?;
             }
         }
         Ok(planes)

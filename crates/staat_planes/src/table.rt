@@ -1,5 +1,5 @@
 // The table of the planes of a set of parts and of the facets of their pieces, with a limit on planes.
-ghost use Rattle.std.specs.Prelude.{◌≡◌, ◌<◌, ◌≤◌, ◌+◌, ◌*◌, All, Some, length, slice_get};
+ghost use Rattle.std.specs.Prelude.{◌≡◌, ◌<◌, ◌≤◌, ◌+◌, ◌*◌, Some, length, slice_get};
 ghost use Rattle.staat_vec.specs.declared.vector.V3.{V3 as Vector};
 ghost use Rattle.staat_vec.specs.Primitives.{canon};
 ghost use Rattle.staat_vec.specs.Vectors.{IsWithin, dot, sign};
@@ -11,14 +11,13 @@ use crate::steps::Steps;
 use staat_limits::{LEAST_PLANES, MOST_PIECES, MOST_PLANES};
 use staat_model::{Arc, PartSet};
 use staat_pairs::{FacetTable, SLOTS, back};
-use staat_vec::{DIRECTION, NORMAL, Sign, V3, neg, sign_dot};
+use staat_vec::{DIRECTION, Normal, Sign, V3, neg, sign_dot};
 use std::marker::Model;
 use std::sync::ledger::Ledger;
 
 /// The planes of a set of parts, and the facets of each two pieces of different parts of the set.
 ///
-/// A [`FacetTable`] of 3 to [`MOST_PLANES`] planes: the three coordinate planes, then the others ascending. The
-/// components of planes and facets are at most [`NORMAL`](staat_vec::NORMAL) in absolute value.
+/// A [`FacetTable`] of 3 to [`MOST_PLANES`] planes: the three coordinate planes, then the others ascending.
 #[derive(Drop)]
 pub struct PlaneTable {
     table: FacetTable,
@@ -67,7 +66,7 @@ impl PlaneTable {
     }
 
     /// The normals of the planes.
-    pub fn planes(&self) -> &[V3]
+    pub fn planes(&self) -> &[Normal]
         ensures is { result.now ≡ self.now.planes }
         ensures rules { AreTablePlanes result.now }
         ensures most { length result.now ≤ MOST_PLANES }
@@ -81,7 +80,7 @@ impl PlaneTable {
         ensures is { slice_get self.now.planes k ≡ Some result }
         ensures rules { IsPlaneNormal result }
     {
-        self.table.planes()[k as usize]
+        self.table.planes()[k as usize].vector()
     }
 
     /// The sign of the plane `k` at the direction `d`, which takes one step.
@@ -123,22 +122,20 @@ impl PlaneTable {
 }
 
 // a member of the reversed list
-fn reversed_at(facets: &[V3], m: usize) -> V3
-    requires place { m < length facets.now }
-    requires size { All (IsWithin NORMAL) facets.now }
+fn reversed_at(facets: &[Normal], m: usize) -> V3
+    requires { m < length facets.now }
     ensures { slice_get (reversed_facets facets.now) m ≡ Some result }
 {
-    neg(facets[facets.len() - 1 - m])
+    neg(facets[facets.len() - 1 - m].vector())
 }
 
 impl PlaneTable {
     /// The facets of two pieces of different parts of the set, of which that of the lesser part comes first.
-    pub fn kept_facets(&self, arc: Arc) -> &[V3]
+    pub fn kept_facets(&self, arc: Arc) -> &[Normal]
         requires across { IsTableArc self.now arc }
         requires order { arc.a < arc.b }
         ensures is { result.now ≡ facets_of self.now arc }
         ensures rules { AreTableFacets self.now.planes result.now }
-        ensures size { All (IsWithin NORMAL) result.now }
         ensures table { IsTable self.now }
         ensures most { length self.now.planes ≤ MOST_PLANES }
     {
@@ -191,7 +188,7 @@ impl PlaneTable {
         ensures rules { IsTableFacet self.now.planes result }
     {
         if arc.a < arc.b {
-            self.kept_facets(arc)[m as usize]
+            self.kept_facets(arc)[m as usize].vector()
         } else {
             reversed_at(self.kept_facets(back(arc)), m as usize)
         }

@@ -3,13 +3,13 @@ ghost use Rattle.std.specs.Prelude.{◌≡◌, ◌<◌};
 ghost use Rattle.staat_vec.specs.Vectors.{IsWithin};
 
 use crate::conditions::is_across;
-use crate::fixtures::{CLOSED, DOVETAIL, LIDDED, same, shows, sound, table};
+use crate::fixtures::{CLOSED, DOVETAIL, LIDDED, same, same_vector, shows, sound, table};
 use staat_cone::Plain;
 use staat_graph::{strong_parts, trees_of};
 use staat_model::{Arc, PartSet, Sound};
 use staat_planes::{PlaneTable, PlanesRefusal, Steps, tabulate};
 use staat_samples::at;
-use staat_vec::{DIRECTION, Sign, V3};
+use staat_vec::{DIRECTION, Normal, Sign, V3};
 use std::alloc::Global;
 use std::marker::Brand;
 use std::process::Abort;
@@ -69,6 +69,13 @@ const DOVETAIL_PLANES: [V3; 5] = [
     V3 { x: 2, y: 0, z: 1 },
 ];
 
+fn are_normals(rt: &impl Abort, found: &[Normal], wanted: &[V3]) {
+    same(rt, &found.len(), &wanted.len());
+    for (n, v) in found.iter().zip(wanted) {
+        same_vector(rt, n.vector(), *v);
+    }
+}
+
 // five planes of the parts are more than four
 fn are_too_many(rt: &impl Abort, alloc: Global, parts: &Sound) {
     let all = PartSet::first(parts.assembly().parts());
@@ -79,7 +86,7 @@ fn are_too_many(rt: &impl Abort, alloc: Global, parts: &Sound) {
 fn are_five(rt: &impl Abort, alloc: Global, parts: &Sound) {
     let all = PartSet::first(parts.assembly().parts());
     let table = tabulate(alloc, &Plain, parts, all, 5).expect(rt, "five planes");
-    same(rt, &table.planes(), &DOVETAIL_PLANES.as_slice());
+    are_normals(rt, table.planes(), &DOVETAIL_PLANES);
 }
 
 #[test]
@@ -166,7 +173,7 @@ fn used(rt: &impl Abort, alloc: Global, table: &PlaneTable, parts: PartSet) -> V
 }
 
 // the planes of the parts
-fn planes_of(rt: &impl Abort, alloc: Global, table: &PlaneTable, parts: PartSet) -> Vec<V3> {
+fn planes_of(rt: &impl Abort, alloc: Global, table: &PlaneTable, parts: PartSet) -> Vec<Normal> {
     assert!(rt; parts.within(table.set()));
     table.planes_of(alloc, parts).expect(rt, "memory")
 }
@@ -192,11 +199,11 @@ fn has_planes(rt: &impl Abort, alloc: Global, table: &PlaneTable, word: u32, are
     assert!(rt; found.as_slice() == are_used.as_slice(), "{word}");
     let count = if are_used[3] { 7 } else { 3 };
     let planes = planes_of(rt, alloc, table, parts);
-    same(rt, &planes.as_slice(), &&LIDDED_PLANES[..count]);
+    are_normals(rt, planes.as_slice(), &LIDDED_PLANES[..count]);
 }
 
 fn has_planes_of_fewer(rt: &impl Abort, alloc: Global, lidded: &PlaneTable) {
-    same(rt, &lidded.planes(), &LIDDED_PLANES.as_slice());
+    are_normals(rt, lidded.planes(), &LIDDED_PLANES);
     has_planes(rt, alloc, lidded, 0b001, &AXES);
     has_planes(rt, alloc, lidded, 0b011, &AXES);
     has_planes(rt, alloc, lidded, 0b101, &AXES);

@@ -2,7 +2,7 @@
 use crate::fixtures::{same, same_vector};
 use staat_samples::at;
 use staat_vec::{
-    DIFF, DIRECTION, EDGE, NORMAL, Name, Names, ORIGIN, OutOfMemory, POINT, Sign, VERTEX, add,
+    DIFF, DIRECTION, EDGE, NORMAL, Name, Names, Normal, ORIGIN, OutOfMemory, POINT, Sign, VERTEX, add,
     canon, cross_diff, cross_normal, det, dot, first_nonzero, is_same, neg, order_on, primitive,
     sign_dot, sub,
 };
@@ -44,6 +44,14 @@ fn products(rt: HostRuntime) {
     let m = at(-(1 << 39), 1 << 39, 1 << 39);
     let w = at(1 << 39, -(1 << 39), 1 << 39);
     same(&rt, &det(n, m, w), &664613997892457936451903530140172288);
+}
+
+#[test]
+fn normals(rt: HostRuntime) {
+    let v = at(1 << 39, -(1 << 39), 5);
+    let n = Normal::of(v);
+    same_vector(&rt, n.vector(), v);
+    same(&rt, &n.small_dot(at(3, -(1 << 22), 7)), &2305844658481135651);
 }
 
 #[test]

@@ -1,7 +1,7 @@
 -- Numbers far below the limit of a machine's signed type: each is read from it as it was written, and sums,
 -- differences and negatives are exact.
 use Rattle.std.proofs.Common.{◌≡◌, ◌∙◌, ◌<◌, ◌≤◌, ◌+◌, ◌*◌, ◌^◌, ℕ, ℤ, pos, ◌+ℤ◌, ◌-ℤ◌, ◌*ℤ◌, neg_ℤ, FitsSigned, arith, of_z, to_z, unsigned_abs}
-use Rattle.std.specs.Int.{Width}
+use Rattle.std.specs.Int.{Width, w64, w128}
 use Rattle.std.proofs.lemmas.Int.{fits_signed_from_abs, ints, to_z-of_z}
 use mir.Val.{hbits}
 use Rattle.staat_vec.proofs.Bounds.{abs_diff_le, abs_sum_le}
@@ -48,6 +48,13 @@ neg_read w z n h k = rw (read_back w z n h k, none_minus z) (read_back w (neg_�
 
 pub product_of : (w : Width) (r a b : ℤ) (m n : ℕ) → unsigned_abs a ≤ m → unsigned_abs b ≤ n → m < 2 ^ hbits w → n < 2 ^ hbits w → r ≡ to_z w (of_z w a) *ℤ to_z w (of_z w b) → r ≡ a *ℤ b
 product_of w r a b m n ha hb hm hn e = e ∙ rw (read_back w a m ha hm, read_back w b n hb hn)
+
+-- of words that numbers were cast to
+pub of_words : (r a b p q : ℤ) (m n : ℕ) → unsigned_abs a ≤ m → unsigned_abs b ≤ n → m < 2 ^ hbits w64 → n < 2 ^ hbits w64 → p ≡ to_z w128 (of_z w128 a) → q ≡ to_z w128 (of_z w128 b)
+    → r ≡ to_z w64 (of_z w64 p) *ℤ to_z w64 (of_z w64 q) → r ≡ a *ℤ b
+of_words r a b p q m n ha hb hm hn e f g =
+    product_of w64 r a b m n ha hb hm hn
+    (g ∙ (λ i. to_z w64 (of_z w64 ((e ∙ read_back w128 a m ha (omega arith)) i)) *ℤ to_z w64 (of_z w64 ((f ∙ read_back w128 b n hb (omega arith)) i))))
 
 pub minor_of : (w : Width) (r a b c d : ℤ) (m n : ℕ) → unsigned_abs a ≤ n → unsigned_abs b ≤ n → unsigned_abs c ≤ n → unsigned_abs d ≤ n → n < 2 ^ hbits w
     → unsigned_abs r ≤ m → m < 2 ^ hbits w → r ≡ (to_z w (of_z w a) *ℤ to_z w (of_z w d)) -ℤ (to_z w (of_z w b) *ℤ to_z w (of_z w c)) → to_z w (of_z w r) ≡ (a *ℤ d) -ℤ (b *ℤ c)

@@ -6,15 +6,17 @@ mod course;
 pub mod laws;
 mod lists;
 mod memory;
+mod normal;
 mod products;
 mod rays;
 mod vector;
 mod words;
 
-pub use ascending::in_order;
+pub use ascending::{in_order, normals_in_order};
 pub use course::Course;
 pub use lists::{Bytes, Listed, Name, Names};
 pub use memory::OutOfMemory;
+pub use normal::Normal;
 pub use products::{add, cross_normal, det, dot, neg, order_on, sign_dot, sub};
 pub use rays::{canon, first_nonzero, primitive};
 pub use vector::{DIFF, DIRECTION, EDGE, NORMAL, ORIGIN, POINT, Sign, V3, VERTEX, is_same};

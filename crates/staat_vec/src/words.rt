@@ -2,6 +2,7 @@
 ghost use Rattle.std.specs.Prelude.{◌≡◌, ◌≤◌, ◌*◌, ◌-ℤ◌, ◌*ℤ◌, ◌↔◌, All, IsTrue, unsigned_abs};
 ghost use Rattle.staat_vec.specs.Vectors.{IsWithin, cross, dot, sign};
 
+use crate::normal::Normal;
 use crate::vector::{DIFF, NORMAL, Sign, V3};
 
 /// How great a component of a small vector is at most: a word holds three of its products with components of a normal.
@@ -14,12 +15,12 @@ pub fn is_within(v: V3, bound: u128) -> bool
     v.x.unsigned_abs() <= bound && v.y.unsigned_abs() <= bound && v.z.unsigned_abs() <= bound
 }
 
-/// Whether all these vectors are small.
-pub fn are_small(vectors: &[V3]) -> bool
-    ensures { IsTrue result ↔ All (IsWithin SMALL) vectors.now }
+/// Whether all these normals are small.
+pub fn are_small(normals: &[Normal]) -> bool
+    ensures { IsTrue result ↔ All (IsWithin SMALL) normals.now }
 {
-    for v in vectors {
-        if !is_within(*v, SMALL) {
+    for n in normals {
+        if !is_within(n.vector(), SMALL) {
             return false;
         }
     }
@@ -44,14 +45,18 @@ fn word_product(a: i64, b: i64) -> i64
     a * b
 }
 
-// the exact product of a normal's and a small vector's component
-fn small_product(a: i128, b: i128) -> i64
-    requires a { unsigned_abs a ≤ NORMAL }
-    requires b { unsigned_abs b ≤ SMALL }
-    ensures value { result ≡ a *ℤ b }
-    ensures size { unsigned_abs result ≤ NORMAL * SMALL }
-{
-    word_product(word(a), word(b))
+impl Normal {
+    /// The product of the normal and a small vector, exact. The components of `d` are at most [`SMALL`] in absolute
+    /// value.
+    pub fn small_dot(&self, d: V3) -> i64
+        requires { IsWithin SMALL d }
+        ensures value { result ≡ dot self.now d }
+        ensures turned { result ≡ dot d self.now }
+    {
+        word_product(self.x, word(d.x))
+            + word_product(self.y, word(d.y))
+            + word_product(self.z, word(d.z))
+    }
 }
 
 /// The product of a normal and a small vector, exact.
@@ -63,7 +68,7 @@ pub fn small_dot(n: V3, d: V3) -> i64
     ensures value { result ≡ dot n d }
     ensures turned { result ≡ dot d n }
 {
-    small_product(n.x, d.x) + small_product(n.y, d.y) + small_product(n.z, d.z)
+    Normal::of(n).small_dot(d)
 }
 
 fn sign_of_word(value: i64) -> Sign
@@ -105,7 +110,7 @@ fn small_minor(a: i128, b: i128, c: i128, d: i128) -> i128
     ensures value { result ≡ (a *ℤ d) -ℤ (b *ℤ c) }
     ensures size { unsigned_abs result ≤ NORMAL }
 {
-    long(small_product(a, d) - small_product(b, c))
+    long(word_product(word(a), word(d)) - word_product(word(b), word(c)))
 }
 
 /// The cross product of two differences of points, exact.

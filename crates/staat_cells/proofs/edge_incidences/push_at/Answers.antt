@@ -1,6 +1,7 @@
 use Rattle.std.proofs.Common.{◌∙◌, ◌++◌, ◌∷◌, [], ap, arith, get_or}
 use Rattle.std.proofs.lemmas.Result.{on_ok_weaker}
-use Rattle.staat_vec.specs.Vectors.{negative, origin}
+use Rattle.staat_vec.specs.Vectors.{cross, negative, origin}
+use Rattle.staat_vec.proofs.ListLaws.{other_default}
 use Rattle.staat_cells.specs.Beside.{beside}
 use Rattle.staat_cells.specs.Packing.{incidence_of}
 use Rattle.staat_cells.specs.ZeroSigns.{zero_places}
@@ -17,11 +18,6 @@ offset_bounds-planes-j c =
     let few = c.requires.few in
     omega (arith, small, few)
 
-pub cross_normal-w-requires-clause-a : goal.cross_normal-w-requires-clause-a
-cross_normal-w-requires-clause-a c =
-    c.requires.planes c.args.j origin
-    (zero_place c.args.planes.now c.args.point.now.d c.args.zeros.now c.args.j (c.requires.zeros ∙ ap (zero_places 0) c.requires.signs) c.requires.listed)
-
 pub returns : goal.returns
 returns c =
     let planes = c.args.planes.now in
@@ -29,7 +25,9 @@ returns c =
     let k = c.args.base.of in
     let old = c.args.incidences.now.items in
     let first = c.in_ok-push_towards.ensures in
-    let towards = c.cross_normal-w.ensures.value in
+    let small = zero_place planes v c.args.zeros.now c.args.j (c.requires.zeros ∙ ap (zero_places 0) c.requires.signs) c.requires.listed in
+    let read = c.vector.ensures.is ∙ other_default planes c.args.j c.index-planes-j.result origin small c.index-planes-j.is in
+    let towards = c.cross_normal-w.ensures.value ∙ ap (λ n. cross n c.args.m) read in
     let back = c.neg.ensures.value in
     on_ok_weaker c.push_towards-2.result (λ is.
     incidences_on planes v c.args.m (get_or planes c.args.j origin) k old c.push_towards-2.new.incidences.items

@@ -1,8 +1,8 @@
-use Rattle.std.proofs.Common.{◌≡◌, ℕ, ◌+◌, ◌-◌, ◌<◌, ◌≤◌, List, arith, get_or, sym, subst, ⊎_elim}
+use Rattle.std.proofs.Common.{◌≡◌, ◌∙◌, ℕ, ◌+◌, ◌-◌, ◌<◌, ◌≤◌, List, ap, arith, get_or, sym, subst, ⊎_elim}
 use Rattle.std.specs.Prelude.{Some, slice_get}
-use Rattle.std.proofs.lemmas.Option.{get_or_from_slice_get, slice_get-get_or}
+use Rattle.std.proofs.lemmas.Option.{get_or_from_slice_get}
 use Rattle.staat_vec.specs.declared.vector.V3.{V3}
-use Rattle.staat_vec.specs.Vectors.{origin}
+use Rattle.staat_vec.proofs.ListLaws.{place_is}
 use Rattle.staat_vec.proofs.Naturals.{lt_one_more_cases}
 use Rattle.staat_cells.specs.FirstCell.{HasNoLow}
 use Rattle.staat_cells.proofs.first_cell.edge_before.Goals as goal
@@ -20,7 +20,9 @@ looked_more P planes end j e below here k g le lt is = ⊎_elim
     at k j end same = omega (arith, same)
 
 pub loop-j-preserved : goal.loop-j-preserved
-loop-j-preserved c = looked_more (HasNoLow c.args.planes.now) c.args.planes.now c.args.end c.loop-j.j origin c.loop-j.invariant c.in-None.ensures
+loop-j-preserved c =
+    looked_more (HasNoLow c.args.planes.now) c.args.planes.now c.args.end c.loop-j.j c.index-planes-place.result c.loop-j.invariant
+    (subst (HasNoLow c.args.planes.now) (c.vector.ensures.is ∙ c.index-planes-place.is) c.in-None.ensures)
 
 pub returns-in-Some : goal.returns-in-Some
 returns-in-Some c =
@@ -29,9 +31,10 @@ returns-in-Some c =
     let place = end - 1 - c.loop-j.j in
     let before : place < end = omega (arith, c.loop-j-test.true) in
     record {
-      g = get_or planes place origin;
+      g = c.vector.result;
       before = before;
-      at = slice_get-get_or planes place origin (omega (arith, before, c.requires.end));
+      at = place_is planes place c.index-planes-place.result (omega (arith, before, c.requires.end)) c.index-planes-place.is
+          ∙ ap Some (sym c.vector.ensures.is);
       edge = c.in-Some.ensures;
       later = λ k h more lt is. c.loop-j.invariant k h (omega (arith, more, c.loop-j-test.true)) lt is;
     }

@@ -1,4 +1,4 @@
-use Rattle.std.proofs.Common.{subst, take}
+use Rattle.std.proofs.Common.{Contains, ◌∙◌, ◌++◌, ◌∷◌, [], subst, sym, take}
 use Rattle.std.proofs.lemmas.List.{take_all}
 use Rattle.std.proofs.lemmas.List.Elements.{Contains-get_or}
 use Rattle.staat_cells.specs.FirstCell.{AreArcEnds}
@@ -11,16 +11,19 @@ loop-h-init c = from_axes c.args.planes.now c.args.g c.axis_ends-ends.result c.r
 pub returns-in-None : goal.returns-in-None
 returns-in-None c =
     let planes = c.args.planes.now in
+    let listed = Contains-get_or planes c.loop-h.h-index c.h-item.result c.loop-h-test.true in
     c.in-None.ensures planes (take c.loop-h.h-index planes)
-    (Contains-get_or planes c.loop-h.h-index _ c.loop-h-test.true)
-    c.loop-h.invariant
+    (subst (Contains planes) (sym (c.vector.ensures.is ∙ c.h-item.is)) listed) c.loop-h.invariant
 
 pub loop-h-preserved : goal.loop-h-preserved
 loop-h-preserved c =
     let planes = c.args.planes.now in
-    one_more planes c.args.g c.in-Some.new c.loop-h.h-index _ c.loop-h-test.true
-    (c.in-Some.ensures planes (take c.loop-h.h-index planes)
-    (Contains-get_or planes c.loop-h.h-index _ c.loop-h-test.true) c.loop-h.invariant)
+    let passed = take c.loop-h.h-index planes in
+    let is = c.vector.ensures.is ∙ c.h-item.is in
+    let listed = Contains-get_or planes c.loop-h.h-index c.h-item.result c.loop-h-test.true in
+    one_more planes c.args.g c.in-Some.new c.loop-h.h-index c.h-item.result c.loop-h-test.true
+    (subst (λ h. AreArcEnds planes c.args.g (passed ++ h ∷ []) c.in-Some.new) is
+    (c.in-Some.ensures planes passed (subst (Contains planes) (sym is) listed) c.loop-h.invariant))
 
 pub returns : goal.returns
 returns c =

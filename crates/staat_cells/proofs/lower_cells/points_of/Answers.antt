@@ -7,17 +7,14 @@ use Rattle.staat_cells.specs.declared.incidence.Incidence.{Incidence}
 use Rattle.staat_cells.specs.Compositions.{entry_of}
 use Rattle.staat_cells.specs.Stages.{IsOwnIncidence, cell_at, point_entry}
 use Rattle.staat_cells.proofs.KindLists.{points_listed, points_signs, incidences_listed}
-use Rattle.staat_cells.proofs.TableRules.{listed_small, planes_apart, planes_within, vertices_listed}
+use Rattle.staat_cells.proofs.TableRules.{listed_small, planes_apart, vertices_listed}
 use Rattle.staat_cells.proofs.lower_cells.points_of.Goals as goal
 
-pub directions-requires-clause-planes : goal.directions-requires-clause-planes
-directions-requires-clause-planes c = planes_within c.args.planes.now c.requires.planes
+pub directions-requires : goal.directions-requires
+directions-requires c = planes_apart c.args.planes.now c.requires.planes
 
-pub directions-requires-clause-apart : goal.directions-requires-clause-apart
-directions-requires-clause-apart c = planes_apart c.args.planes.now c.requires.planes
-
-pub points_at-requires-clause-vertices : goal.points_at-requires-clause-vertices
-points_at-requires-clause-vertices c =
+pub points_at-requires : goal.points_at-requires
+points_at-requires c =
     listed_small c.args.planes.now c.deref.result.now c.requires.planes
     (subst (Lists vector_cmp (Contains (vertices c.args.planes.now))) (sym c.deref.ensures.value)
     (vertices_listed c.args.planes.now c.in_ok-directions.field-0.items c.in_ok-directions.ensures))

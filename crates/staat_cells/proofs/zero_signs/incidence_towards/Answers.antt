@@ -1,5 +1,5 @@
-use Rattle.std.proofs.Common.{arith, get_or}
-use Rattle.staat_vec.specs.Vectors.{origin}
+use Rattle.std.proofs.Common.{◌∙◌, ap, arith}
+use Rattle.staat_vec.specs.Vectors.{dot, sign}
 use Rattle.staat_cells.proofs.ZeroPlaces.{towards_all, towards_none, zero_changed, zero_there, zero_within}
 use Rattle.staat_cells.proofs.zero_signs.incidence_towards.Goals as goal
 
@@ -26,14 +26,6 @@ bounds-planes-j c =
     let long = c.requires.signs in
     omega (arith, within, long)
 
-pub sign_dot-requires-clause-n : goal.sign_dot-requires-clause-n
-sign_dot-requires-clause-n c =
-    let within = zero_within c.args.planes.now c.args.signs.now c.args.w c.requires.signs c.loop-i.incidence
-    c.args.base.of
-    c.args.zeros.now c.loop-i.i c.loop-i-test.true c.loop-i.invariant in
-    let long = c.requires.signs in
-    c.requires.planes (get_or c.args.zeros.now c.loop-i.i 0) origin (omega (arith, within, long))
-
 pub changed-incidence-requires-clause-place : goal.changed-incidence-requires-clause-place
 changed-incidence-requires-clause-place c =
     zero_within c.args.planes.now c.args.signs.now c.args.w c.requires.signs c.loop-i.incidence c.args.base.of
@@ -48,7 +40,8 @@ pub loop-i-preserved : goal.loop-i-preserved
 loop-i-preserved c =
     zero_changed c.args.planes.now c.args.signs.now c.args.w c.requires.signs c.loop-i.incidence c.args.base.of
     c.args.zeros.now c.loop-i.i c.loop-i-test.true c.loop-i.invariant c.changed-incidence.result c.sign_dot.result
-    c.sign_dot.ensures c.changed-incidence.ensures
+    c.index-planes-j.result (c.sign_dot.ensures ∙ ap (λ n. sign (dot n c.args.w)) (c.vector.ensures.is ∙ c.index-planes-j.is))
+    c.changed-incidence.ensures
 
 pub returns : goal.returns
 returns c =

@@ -19,9 +19,6 @@ leads_ahead_small-requires-clause-numbers c =
     c.requires.dir.named c.index-lists-dir.is) in
     subst (λ (numbers : List ℕ). All (λ k. k < length c.args.normals.now) numbers) same c.requires.dir.numbers
 
-pub leads_ahead-requires-clause-normals : goal.leads_ahead-requires-clause-normals
-leads_ahead-requires-clause-normals c = c.requires.normals
-
 pub leads_ahead-requires-clause-direction : goal.leads_ahead-requires-clause-direction
 leads_ahead-requires-clause-direction c = c.requires.dir.size
 

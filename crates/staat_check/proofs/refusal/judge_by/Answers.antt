@@ -1,15 +1,11 @@
 use Rattle.std.proofs.Common.{◌<◌, ◌≤◌, ◌*◌, List, arith, refl, subst, sym, All, length}
 use Rattle.std.specs.Prelude.{sum_by, MatchOption, IfSome}
-use Rattle.std.proofs.lemmas.List.Elements.{All-weaker}
-use Rattle.staat_vec.specs.declared.vector.TheConstants.{NORMAL}
 use Rattle.staat_vec.specs.declared.vector.V3.{V3}
 use Rattle.staat_vec.specs.Lists.{FailsFirst, IsFirst}
-use Rattle.staat_vec.specs.Vectors.{IsWithin}
 use Rattle.staat_model.proofs.PlaneLemmas.{NoneParallel}
 use Rattle.staat_model.specs.Certificates.{IsBlocked, IsListed}
 use Rattle.staat_model.specs.Planes.{vertices}
 use Rattle.staat_model.specs.Reasons.{witness_size}
-use Rattle.staat_pairs.specs.Tables.{IsPlaneNormal}
 use Rattle.staat_check.proofs.RefusalRules.{bad_arc_reason, few_lines, refusal_said}
 use Rattle.staat_check.proofs.refusal.judge_by.Goals as goal
 
@@ -43,9 +39,6 @@ returns-in-Some c = λ parts made stuck trees.
 
 pub first_missing-requires-clause-ascending : goal.first_missing-requires-clause-ascending
 first_missing-requires-clause-ascending c = c.requires.fit.order.ascending
-
-pub first_missing-requires-clause-planes : goal.first_missing-requires-clause-planes
-first_missing-requires-clause-planes c = All-weaker IsPlaneNormal (IsWithin NORMAL) (λ n h. h.within) c.planes.result.now c.planes.ensures.rules.each
 
 pub first_missing-requires-clause-apart : goal.first_missing-requires-clause-apart
 first_missing-requires-clause-apart c = subst NoneParallel (sym c.planes.ensures.is) c.requires.apart

@@ -6,9 +6,9 @@ use Rattle.staat_plan.specs.LoneLines.{OnlyPlanesThroughServe}
 use Rattle.staat_plan.proofs.lone_step.is_lone.Given as goal
 
 -- each plane that was passed passes through v, or no direction on it serves
-abbrev pub invariant-loop-g : goal.invariant-loop-g
-invariant-loop-g l = record {
+abbrev pub invariant-loop-n : goal.invariant-loop-n
+invariant-loop-n l = record {
   core : IsSetCore l.table l.trial.core;
   passed : (parts : List Part) → WasMadeFrom parts l.table
-      → OnlyPlanesThroughServe parts l.w (take l.g-index l.planes) l.v;
+      → OnlyPlanesThroughServe parts l.w (take l.n-index l.planes) l.v;
 }

@@ -1,24 +1,18 @@
-use Rattle.std.proofs.Common.{◌≡◌, ◌∙◌, All, List, ap, refl, subst, sym}
+use Rattle.std.proofs.Common.{◌≡◌, ◌∙◌, List, ap, refl, subst, sym}
 use Rattle.std.specs.Prelude.{Some}
-use Rattle.staat_vec.specs.declared.vector.TheConstants.{DIRECTION, NORMAL}
+use Rattle.staat_vec.specs.declared.vector.TheConstants.{DIRECTION}
 use Rattle.staat_vec.specs.Primitives.{canon}
-use Rattle.staat_vec.specs.Vectors.{IsWithin, negative}
+use Rattle.staat_vec.specs.Vectors.{negative}
 use Rattle.staat_model.specs.declared.tree.Kind.TheVariants.{Point}
 use Rattle.staat_model.specs.declared.assembly.Part.{Part}
 use Rattle.staat_model.specs.Outcomes.{Serves}
 use Rattle.staat_graph.proofs.Sides.{moved_of_first}
 use Rattle.staat_pairs.specs.Tables.{WasMadeFrom}
 use Rattle.staat_planes.specs.SetPlanes.{ArePlanesIn}
-use Rattle.staat_cells.proofs.TableRules.{planes_within}
 use Rattle.staat_plan.specs.LoneLines.{OnlyPlanesThroughServe}
 use Rattle.staat_plan.specs.Searches.{MovesAlong}
 use Rattle.staat_plan.proofs.LoneLineLemmas.{line_serves, line_step}
 use Rattle.staat_plan.proofs.lone_step.lone_step.Goals as goal
-
-pub is_lone-requires-clause-planes : goal.is_lone-requires-clause-planes
-is_lone-requires-clause-planes c =
-    let are : ArePlanesIn c.args.table.now c.args.w c.in_ok-planes.planes.items = c.in_ok-planes.ensures in
-    subst (All (IsWithin NORMAL)) (sym c.as_slice.ensures.value) (planes_within c.in_ok-planes.planes.items are.rules)
 
 pub graph_in-graph-requires-clause-direction : goal.graph_in-graph-requires-clause-direction
 graph_in-graph-requires-clause-direction c =

@@ -1,14 +1,16 @@
 use Rattle.std.proofs.Common.{◌∙◌, ap, arith, sym}
 use Rattle.std.specs.Prelude.{Some}
-use Rattle.staat_vec.specs.Vectors.{origin}
+use Rattle.staat_vec.specs.Vectors.{negative}
 use Rattle.staat_pairs.proofs.ReversedFacets.{reversed_at}
 use Rattle.staat_planes.proofs.table.reversed_at.Goals as goal
 
 pub overflow_sub-facets-2 : goal.overflow_sub-facets-2
-overflow_sub-facets-2 c = omega (arith, c.requires.place)
+overflow_sub-facets-2 c = omega (arith, c.requires)
 
 pub bounds-facets-facets : goal.bounds-facets-facets
-bounds-facets-facets c = omega (arith, c.requires.place)
+bounds-facets-facets c = omega (arith, c.requires)
 
 pub returns : goal.returns
-returns c = reversed_at c.args.facets.now c.args.m origin c.requires.place ∙ ap Some (sym c.neg.ensures.value)
+returns c =
+    reversed_at c.args.facets.now c.args.m c.index-facets-facets.result c.requires
+    ∙ ap Some (sym (c.neg.ensures.value ∙ ap negative (c.vector.ensures.is ∙ c.index-facets-facets.is)))

@@ -3,26 +3,8 @@ use Rattle.std.specs.Prelude.{unsigned_abs}
 use Rattle.std.specs.Int.{w128}
 use Rattle.staat_vec.specs.declared.vector.TheConstants.{DIRECTION, NORMAL}
 use Rattle.staat_vec.proofs.Bounds.{abs_dot_le}
-use Rattle.staat_vec.proofs.ReadBack.{plus_fits, product_of, three_fits, three_read, within_back}
+use Rattle.staat_vec.proofs.ReadBack.{plus_fits, product_of, three_fits, three_read}
 use Rattle.staat_vec.proofs.products.dot.Goals as goal
-
-pub product-requires-clause-a : goal.product-requires-clause-a
-product-requires-clause-a c = within_back w128 c.args.n.x NORMAL NORMAL c.requires.n.x (omega arith) (omega arith)
-
-pub product-requires-clause-b : goal.product-requires-clause-b
-product-requires-clause-b c = within_back w128 c.args.d.x DIRECTION DIRECTION c.requires.d.x (omega arith) (omega arith)
-
-pub product-requires-2-clause-a : goal.product-requires-2-clause-a
-product-requires-2-clause-a c = within_back w128 c.args.n.y NORMAL NORMAL c.requires.n.y (omega arith) (omega arith)
-
-pub product-requires-2-clause-b : goal.product-requires-2-clause-b
-product-requires-2-clause-b c = within_back w128 c.args.d.y DIRECTION DIRECTION c.requires.d.y (omega arith) (omega arith)
-
-pub product-requires-3-clause-a : goal.product-requires-3-clause-a
-product-requires-3-clause-a c = within_back w128 c.args.n.z NORMAL NORMAL c.requires.n.z (omega arith) (omega arith)
-
-pub product-requires-3-clause-b : goal.product-requires-3-clause-b
-product-requires-3-clause-b c = within_back w128 c.args.d.z DIRECTION DIRECTION c.requires.d.z (omega arith) (omega arith)
 
 pub overflow_add-result : goal.overflow_add-result
 overflow_add-result c =

@@ -3,20 +3,8 @@ use Rattle.std.specs.Prelude.{unsigned_abs}
 use Rattle.std.specs.Int.{w128}
 use Rattle.staat_vec.specs.declared.vector.TheConstants.{DIRECTION, NORMAL, VERTEX}
 use Rattle.staat_vec.proofs.Bounds.{abs_minor_le}
-use Rattle.staat_vec.proofs.ReadBack.{minus_fits, minus_read, product_of, within_back}
+use Rattle.staat_vec.proofs.ReadBack.{minus_fits, minus_read, product_of}
 use Rattle.staat_vec.proofs.products.minor.Goals as goal
-
-pub product-requires-clause-a : goal.product-requires-clause-a
-product-requires-clause-a c = within_back w128 c.args.a NORMAL NORMAL c.requires.a (omega arith) (omega arith)
-
-pub product-requires-clause-b : goal.product-requires-clause-b
-product-requires-clause-b c = within_back w128 c.args.d NORMAL DIRECTION c.requires.d (omega arith) (omega arith)
-
-pub product-requires-2-clause-a : goal.product-requires-2-clause-a
-product-requires-2-clause-a c = within_back w128 c.args.b NORMAL NORMAL c.requires.b (omega arith) (omega arith)
-
-pub product-requires-2-clause-b : goal.product-requires-2-clause-b
-product-requires-2-clause-b c = within_back w128 c.args.c NORMAL DIRECTION c.requires.c (omega arith) (omega arith)
 
 pub overflow_sub-result : goal.overflow_sub-result
 overflow_sub-result c =

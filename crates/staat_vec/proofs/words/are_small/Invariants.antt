@@ -3,5 +3,5 @@ use Rattle.staat_vec.specs.Vectors.{IsWithin}
 use Rattle.staat_vec.specs.declared.words.TheConstants.{SMALL}
 use Rattle.staat_vec.proofs.words.are_small.Given as goal
 
-abbrev pub invariant-loop-v : goal.invariant-loop-v
-invariant-loop-v l = All (IsWithin SMALL) (take l.v-index l.vectors)
+abbrev pub invariant-loop-n : goal.invariant-loop-n
+invariant-loop-n l = All (IsWithin SMALL) (take l.n-index l.normals)

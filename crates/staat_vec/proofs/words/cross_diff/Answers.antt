@@ -6,54 +6,6 @@ use Rattle.staat_vec.proofs.VecRing.{same_vector}
 use Rattle.staat_vec.proofs.ReadBack.{minor_of, within_back}
 use Rattle.staat_vec.proofs.words.cross_diff.Goals as goal
 
-pub small_minor-requires-clause-a : goal.small_minor-requires-clause-a
-small_minor-requires-clause-a c =
-    within_back w128 c.args.a.y DIFF DIFF c.requires.a.y (omega arith) (omega arith)
-
-pub small_minor-requires-clause-b : goal.small_minor-requires-clause-b
-small_minor-requires-clause-b c =
-    within_back w128 c.args.a.z DIFF DIFF c.requires.a.z (omega arith) (omega arith)
-
-pub small_minor-requires-clause-c : goal.small_minor-requires-clause-c
-small_minor-requires-clause-c c =
-    within_back w128 c.args.b.y DIFF DIFF c.requires.b.y (omega arith) (omega arith)
-
-pub small_minor-requires-clause-d : goal.small_minor-requires-clause-d
-small_minor-requires-clause-d c =
-    within_back w128 c.args.b.z DIFF DIFF c.requires.b.z (omega arith) (omega arith)
-
-pub small_minor-requires-2-clause-a : goal.small_minor-requires-2-clause-a
-small_minor-requires-2-clause-a c =
-    within_back w128 c.args.a.z DIFF DIFF c.requires.a.z (omega arith) (omega arith)
-
-pub small_minor-requires-2-clause-b : goal.small_minor-requires-2-clause-b
-small_minor-requires-2-clause-b c =
-    within_back w128 c.args.a.x DIFF DIFF c.requires.a.x (omega arith) (omega arith)
-
-pub small_minor-requires-2-clause-c : goal.small_minor-requires-2-clause-c
-small_minor-requires-2-clause-c c =
-    within_back w128 c.args.b.z DIFF DIFF c.requires.b.z (omega arith) (omega arith)
-
-pub small_minor-requires-2-clause-d : goal.small_minor-requires-2-clause-d
-small_minor-requires-2-clause-d c =
-    within_back w128 c.args.b.x DIFF DIFF c.requires.b.x (omega arith) (omega arith)
-
-pub small_minor-requires-3-clause-a : goal.small_minor-requires-3-clause-a
-small_minor-requires-3-clause-a c =
-    within_back w128 c.args.a.x DIFF DIFF c.requires.a.x (omega arith) (omega arith)
-
-pub small_minor-requires-3-clause-b : goal.small_minor-requires-3-clause-b
-small_minor-requires-3-clause-b c =
-    within_back w128 c.args.a.y DIFF DIFF c.requires.a.y (omega arith) (omega arith)
-
-pub small_minor-requires-3-clause-c : goal.small_minor-requires-3-clause-c
-small_minor-requires-3-clause-c c =
-    within_back w128 c.args.b.x DIFF DIFF c.requires.b.x (omega arith) (omega arith)
-
-pub small_minor-requires-3-clause-d : goal.small_minor-requires-3-clause-d
-small_minor-requires-3-clause-d c =
-    within_back w128 c.args.b.y DIFF DIFF c.requires.b.y (omega arith) (omega arith)
-
 pub returns-clause-value : goal.returns-clause-value
 returns-clause-value c =
     let a = c.args.a in

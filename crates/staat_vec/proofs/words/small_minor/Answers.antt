@@ -4,43 +4,31 @@ use Rattle.std.specs.Int.{w64, w128}
 use Rattle.staat_vec.specs.declared.vector.TheConstants.{DIFF, NORMAL}
 use Rattle.staat_vec.specs.declared.words.TheConstants.{SMALL}
 use Rattle.staat_vec.proofs.Bounds.{abs_minor_le}
-use Rattle.staat_vec.proofs.ReadBack.{minus_fits, minus_read, product_of, read_back, within_back}
+use Rattle.staat_vec.proofs.ReadBack.{minus_fits, minus_read, of_words, read_back}
 use Rattle.staat_vec.proofs.words.small_minor.Goals as goal
 
-pub small_product-requires-clause-a : goal.small_product-requires-clause-a
-small_product-requires-clause-a c = within_back w128 c.args.a DIFF NORMAL c.requires.a (omega arith) (omega arith)
-
-pub small_product-requires-clause-b : goal.small_product-requires-clause-b
-small_product-requires-clause-b c = within_back w128 c.args.d DIFF SMALL c.requires.d (omega arith) (omega arith)
-
-pub small_product-requires-2-clause-a : goal.small_product-requires-2-clause-a
-small_product-requires-2-clause-a c = within_back w128 c.args.b DIFF NORMAL c.requires.b (omega arith) (omega arith)
-
-pub small_product-requires-2-clause-b : goal.small_product-requires-2-clause-b
-small_product-requires-2-clause-b c = within_back w128 c.args.c DIFF SMALL c.requires.c (omega arith) (omega arith)
-
-pub overflow_sub-small_product : goal.overflow_sub-small_product
-overflow_sub-small_product c =
-    minus_fits w64 c.small_product.result c.small_product-2.result (NORMAL * SMALL) (NORMAL * SMALL)
-    c.small_product.ensures.size c.small_product-2.ensures.size (omega arith)
+pub overflow_sub-word_product : goal.overflow_sub-word_product
+overflow_sub-word_product c =
+    minus_fits w64 c.word_product.result c.word_product-2.result (NORMAL * SMALL) (NORMAL * SMALL)
+    c.word_product.ensures.size c.word_product-2.ensures.size (omega arith)
 
 pub long-requires : goal.long-requires
 long-requires c =
     let h = c.requires in
-    let p = c.small_product in
-    let q = c.small_product-2 in
-    let first = product_of w128 p.result c.args.a c.args.d DIFF DIFF h.a h.d (omega arith) (omega arith) p.ensures.value in
-    let second = product_of w128 q.result c.args.b c.args.c DIFF DIFF h.b h.c (omega arith) (omega arith) q.ensures.value in
+    let p = c.word_product in
+    let q = c.word_product-2 in
+    let first = of_words p.result c.args.a c.args.d c.word.result c.word-2.result DIFF DIFF h.a h.d (omega arith) (omega arith) c.word.ensures c.word-2.ensures p.ensures.value in
+    let second = of_words q.result c.args.b c.args.c c.word-3.result c.word-4.result DIFF DIFF h.b h.c (omega arith) (omega arith) c.word-3.ensures c.word-4.ensures q.ensures.value in
     rw (minus_read w64 p.result q.result (NORMAL * SMALL) (NORMAL * SMALL) p.ensures.size q.ensures.size (omega arith), first, second)
     (abs_minor_le c.args.a c.args.b c.args.c c.args.d DIFF DIFF h.a h.b h.c h.d)
 
 pub returns-clause-value : goal.returns-clause-value
 returns-clause-value c =
     let h = c.requires in
-    let p = c.small_product in
-    let q = c.small_product-2 in
-    let first = product_of w128 p.result c.args.a c.args.d DIFF DIFF h.a h.d (omega arith) (omega arith) p.ensures.value in
-    let second = product_of w128 q.result c.args.b c.args.c DIFF DIFF h.b h.c (omega arith) (omega arith) q.ensures.value in
+    let p = c.word_product in
+    let q = c.word_product-2 in
+    let first = of_words p.result c.args.a c.args.d c.word.result c.word-2.result DIFF DIFF h.a h.d (omega arith) (omega arith) c.word.ensures c.word-2.ensures p.ensures.value in
+    let second = of_words q.result c.args.b c.args.c c.word-3.result c.word-4.result DIFF DIFF h.b h.c (omega arith) (omega arith) c.word-3.ensures c.word-4.ensures q.ensures.value in
     let size = abs_minor_le c.args.a c.args.b c.args.c c.args.d DIFF DIFF h.a h.b h.c h.d in
     rw (c.long.ensures, minus_read w64 p.result q.result (NORMAL * SMALL) (NORMAL * SMALL) p.ensures.size q.ensures.size (omega arith), first, second)
     (read_back w128 ((c.args.a *ℤ c.args.d) -ℤ (c.args.b *ℤ c.args.c)) NORMAL size (omega arith))

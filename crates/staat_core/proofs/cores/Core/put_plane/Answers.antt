@@ -12,7 +12,7 @@ returns-then-self-ge-MOST_CORE_PLANES-clause-planes c = goes_same (core_planes c
 pub returns-clause-room : goal.returns-clause-room
 returns-clause-room c =
     let e = c.push_plane.ensures in
-    plane_pushed c.args.self.now c.push_plane.new.self c.args.n c.requires.room c.requires.within c.if-self-ge-MOST_CORE_PLANES.false e.room e.used e.planes e.pairs e.count
+    plane_pushed c.args.self.now c.push_plane.new.self c.args.n c.requires c.if-self-ge-MOST_CORE_PLANES.false e.room e.used e.planes e.pairs e.count
 
 pub returns-clause-planes : goal.returns-clause-planes
 returns-clause-planes c = goes_one (core_planes c.args.self.now) (core_planes c.push_plane.new.self) c.args.n c.push_plane.ensures.planes

@@ -3,20 +3,16 @@ use Rattle.std.specs.Prelude.{false}
 use Rattle.std.proofs.lemmas.Bool.{false≢true}
 use Rattle.std.proofs.lemmas.List.Elements.{All-rest}
 use Rattle.std.specs.Int.{w128}
-use Rattle.staat_vec.specs.declared.vector.TheConstants.{NORMAL}
 use Rattle.staat_vec.specs.declared.words.TheConstants.{SMALL}
 use Rattle.staat_vec.specs.Vectors.{IsWithin, dot}
 use Rattle.staat_planes.proofs.Passing.{by_first, by_others, not_both, told_ahead, told_behind, untold}
 use Rattle.staat_planes.proofs.leads.Heading.past.Goals as goal
 
-pub is_ahead-requires-clause-small : goal.is_ahead-requires-clause-small
-is_ahead-requires-clause-small c fair = All-rest (IsWithin SMALL) c.in-Some.first.now c.in-Some.others.now c.args.facets.now c.in-Some.ensures.cases.0 (c.requires.small fair)
+pub is_ahead-requires : goal.is_ahead-requires
+is_ahead-requires c fair = All-rest (IsWithin SMALL) c.in-Some.first.now c.in-Some.others.now c.args.facets.now c.in-Some.ensures.cases.0 (c.requires fair)
 
-pub is_behind-requires-clause-normals : goal.is_behind-requires-clause-normals
-is_behind-requires-clause-normals c = All-rest (IsWithin NORMAL) c.in-Some.first.now c.in-Some.others.now c.args.facets.now c.in-Some.ensures.cases.0 c.requires.normals
-
-pub is_behind-requires-clause-small : goal.is_behind-requires-clause-small
-is_behind-requires-clause-small c fair = All-rest (IsWithin SMALL) c.in-Some.first.now c.in-Some.others.now c.args.facets.now c.in-Some.ensures.cases.0 (c.requires.small fair)
+pub is_behind-requires : goal.is_behind-requires
+is_behind-requires c fair = All-rest (IsWithin SMALL) c.in-Some.first.now c.in-Some.others.now c.args.facets.now c.in-Some.ensures.cases.0 (c.requires fair)
 
 pub returns-then-along-gt0-clause-ahead : goal.returns-then-along-gt0-clause-ahead
 returns-then-along-gt0-clause-ahead c =

@@ -9,9 +9,6 @@ returns-clause-is c = c.kept_facets.ensures.is ∙ ap (λ (t : Table). facets_of
 pub returns-clause-rules : goal.returns-clause-rules
 returns-clause-rules c = subst (λ (t : Table). AreTableFacets t.planes c.kept_facets.result.now) c.self.view_is c.kept_facets.ensures.rules
 
-pub returns-clause-size : goal.returns-clause-size
-returns-clause-size c = c.kept_facets.ensures.size
-
 pub returns-clause-table : goal.returns-clause-table
 returns-clause-table c = subst IsTable c.self.view_is c.kept_facets.ensures.table
 

@@ -11,16 +11,16 @@ pub returns-else-arc : goal.returns-else-arc
 returns-else-arc c =
     let list = c.kept_facets-else-arc.result.now in
     let is : facets_of c.args.self.now c.args.arc ≡ reversed_facets list = facets_reversed c.args.self.now c.args.arc c.back.result list c.requires.across c.if-arc.false c.back.ensures c.kept_facets-else-arc.ensures.is in
-    let told : IsTrue c.blocks-else-arc.result ↔ All (λ n. pos 0 <ℤ dot n (negative c.args.d)) list = subst (λ e. IsTrue c.blocks-else-arc.result ↔ All (λ n. pos 0 <ℤ dot n e) list) c.neg.ensures.value c.blocks-else-arc.ensures.ahead in
+    let told : IsTrue c.is_ahead-else-arc.result ↔ All (λ n. pos 0 <ℤ dot n (negative c.args.d)) list = subst (λ e. IsTrue c.is_ahead-else-arc.result ↔ All (λ n. pos 0 <ℤ dot n e) list) c.neg.ensures.value c.is_ahead-else-arc.ensures in
     let law = ahead_reversed list c.args.d in
-    subst (λ l. IsTrue c.blocks-else-arc.result ↔ All (λ n. pos 0 <ℤ dot n c.args.d) l) (sym is) (λ h. law.0 (told.0 h), λ h. told.1 (law.1 h))
+    subst (λ l. IsTrue c.is_ahead-else-arc.result ↔ All (λ n. pos 0 <ℤ dot n c.args.d) l) (sym is) (λ h. law.0 (told.0 h), λ h. told.1 (law.1 h))
 
 pub kept_facets-requires-else-arc-clause-across : goal.kept_facets-requires-else-arc-clause-across
 kept_facets-requires-else-arc-clause-across c =
     subst (IsTableArc c.args.self.now) (sym c.back.ensures) (back_across c.args.self.now c.args.arc c.requires.across)
 
-pub blocks-requires-else-arc-clause-direction : goal.blocks-requires-else-arc-clause-direction
-blocks-requires-else-arc-clause-direction c = c.neg.ensures.size DIRECTION c.requires.direction
+pub is_ahead-requires-else-arc : goal.is_ahead-requires-else-arc
+is_ahead-requires-else-arc c = c.neg.ensures.size DIRECTION c.requires.direction
 
 pub returns-then-arc : goal.returns-then-arc
-returns-then-arc c = subst (λ l. IsTrue c.blocks-then-arc.result ↔ All (λ n. pos 0 <ℤ dot n c.args.d) l) c.kept_facets.ensures.is c.blocks-then-arc.ensures.ahead
+returns-then-arc c = subst (λ l. IsTrue c.is_ahead.result ↔ All (λ n. pos 0 <ℤ dot n c.args.d) l) c.kept_facets.ensures.is c.is_ahead.ensures

@@ -1,4 +1,4 @@
-use Rattle.std.proofs.Common.{◌≡◌, ◌+◌, ◌∙◌, ap, arith, subst, sym, true≢false, false, get_or, length}
+use Rattle.std.proofs.Common.{◌≡◌, ◌+◌, ◌∙◌, [], ◌∷◌, ◌++◌, ap, arith, subst, sym, true≢false, false, get_or, length}
 use Rattle.staat_planes.proofs.PairSteps.{Tells}
 use Rattle.staat_planes.proofs.SetPlanes.{ArePicked, all_picked, none_more_picked, none_picked, one_picked}
 use Rattle.staat_planes.proofs.table.PlaneTable.planes_of.Goals.{then-marks-k+in_ok-push, else-marks-k}
@@ -19,7 +19,7 @@ loop-k-preserved c =
     let tells : Tells t c.args.w k mark = λ parts n made at. marks.each parts k n made at in
     elim c.if-marks-k.branch [
       | then-marks-k+in_ok-push w ↦ subst (ArePicked t c.args.w (k + 1))
-          (sym (ap (λ v. v.items) w.planes-is ∙ w.in_ok-push.ensures.items))
+          (sym (ap (λ v. v.items) w.planes-is ∙ w.in_ok-push.ensures.items ∙ ap (λ n. planes ++ n ∷ []) w.of.ensures))
           (one_picked t c.args.w k w.plane.result planes mark c.loop-k.invariant w.plane.ensures.is tells
           w.if-marks-k.true)
       | else-marks-k w ↦ subst (λ v. ArePicked t c.args.w (k + 1) v.items) (sym w.planes-is)
