@@ -10,7 +10,7 @@ use crate::cell::{Cell, Signs};
 use crate::incidence::{Incidence, incidence_of};
 use crate::signs::{flipped_signs, signs_where};
 use staat_model::Kind;
-use staat_vec::{Normal, OutOfMemory, SMALL, V3, VERTEX, are_small, is_same, neg};
+use staat_vec::{Normal, OutOfMemory, SMALL, V3, VERTEX, are_within, is_same, neg};
 use std::alloc::Global;
 
 // the point at a vertex
@@ -73,7 +73,7 @@ pub(crate) fn points_at(
     requires { All (IsWithin VERTEX) vertices.now }
     ensures { IfOk result (λ cells. map entry_of cells.items ≡ map (point_entry planes.now) vertices.now) }
 {
-    let small = are_small(planes);
+    let small = are_within(planes, SMALL);
     let mut cells = Vec::with_capacity(alloc, vertices.len())?;
     for k in 0..vertices.len() {
         cells.push(point_after(alloc, planes, small, vertices, &cells, k)?)?;

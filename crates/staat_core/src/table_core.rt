@@ -19,7 +19,7 @@ use crate::listed::PairList;
 use crate::table_pairs::TablePairs;
 use staat_model::PartSet;
 use staat_planes::PlaneTable;
-use staat_vec::{NORMAL, ORIGIN, V3, are_small, is_same};
+use staat_vec::{NORMAL, ORIGIN, SMALL, V3, are_within, is_same};
 
 /// Pairs of a table, and a core that grows by them. It takes no memory.
 #[derive(Drop)]
@@ -41,7 +41,7 @@ impl TableCore {
         TableCore {
             list,
             core: Core::none(),
-            low: are_small(table.planes()),
+            low: are_within(table.planes(), SMALL),
         }
     }
 

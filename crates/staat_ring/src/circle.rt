@@ -7,7 +7,7 @@ ghost use Rattle.staat_ring.specs.WholeCircles.{IsWholeCircle, stop_at, vertex_a
 use crate::entry::Entry;
 use crate::half_circle::axis_beside;
 use crate::keys::keys_of;
-use crate::order::{ends_of, in_order};
+use crate::order::{Turn, ends_of, in_order};
 use crate::stop_list::Stops;
 use crate::vertex::Vertex;
 use staat_planes::PlaneTable;
@@ -27,8 +27,9 @@ pub fn circle_of(alloc: Global, table: &PlaneTable, c: u32) -> Result<Stops, Out
     let g = table.plane(c);
     let _axis = table.plane(axis_beside(c));
     let keys = keys_of(alloc, table, c)?;
-    let entries = in_order(alloc, table, g, keys.as_slice())?;
-    let ends = ends_of(alloc, table, g, entries.as_slice())?;
+    let turn = Turn::around(table, g);
+    let entries = in_order(alloc, &turn, keys.as_slice())?;
+    let ends = ends_of(alloc, &turn, entries.as_slice())?;
     Stops::around(entries, ends)
 }
 

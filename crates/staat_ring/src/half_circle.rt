@@ -1,5 +1,5 @@
 // The half turn from the axis of a circle.
-ghost use Rattle.std.specs.Prelude.{◌≡◌, ◌≢◌};
+ghost use Rattle.std.specs.Prelude.{◌≡◌, ◌≢◌, ℕ};
 ghost use Rattle.staat_vec.specs.Vectors.{IsWithin, cross, det, origin};
 ghost use Rattle.staat_model.specs.Circles.{axis_beside};
 ghost use Rattle.staat_ring.specs.Builds.{IsUpper};
@@ -19,6 +19,7 @@ pub fn facet_by(turned: bool, h: V3) -> V3
     requires { IsWithin NORMAL h }
     ensures is { result ≡ facet_by turned h }
     ensures within { IsWithin NORMAL result }
+    ensures size { (bound : ℕ) → IsWithin bound h → IsWithin bound result }
 {
     if turned { neg(h) } else { h }
 }

@@ -94,7 +94,7 @@ pub fn keys_of(alloc: Global, table: &PlaneTable, c: u32) -> Result<Vec<Key>, Ou
     let g = table.plane(c);
     let axis = table.plane(axis_beside(c));
     let dial = Dial::of(g, axis);
-    let mut keys = Vec::new(alloc);
+    let mut keys = Vec::with_capacity(alloc, table.len() as usize)?;
     for j in 0..table.len() {
         if j != c {
             keys.push(dial.key(j, table.plane(j)))?;

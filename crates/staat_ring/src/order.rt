@@ -1,6 +1,7 @@
 // The order of the entries of a circle, and where its stops end.
 ghost use Rattle.std.specs.Prelude.{◌≡◌, ◌↔◌, ℕ, ◌<◌, ℤ, All, Bool, IfOk, IsTrue, OnOk, length, map, pos};
-ghost use Rattle.staat_vec.specs.Vectors.{IsWithin};
+ghost use Rattle.staat_vec.specs.Vectors.{IsWithin, sign};
+ghost use Rattle.staat_vec.specs.declared.vector.TheConstants.{DIFF, NORMAL};
 ghost use Rattle.staat_ring.specs.Builds.{key_entry};
 ghost use Rattle.staat_ring.specs.Order.{AreStopEnds, CrossesBefore, IsInserted, IsOrderOf, IsPlace};
 ghost use Rattle.staat_ring.specs.Order.{facet_of, order_det};
@@ -9,26 +10,69 @@ use crate::entry::Entry;
 use crate::half_circle::facet_by;
 use crate::keys::Key;
 use staat_planes::PlaneTable;
-use staat_vec::{NORMAL, OutOfMemory, Sign, V3, order_on};
+use staat_vec::{
+    DIFF, NORMAL, OutOfMemory, Sign, V3, are_within, is_within, order_on, small_order,
+};
 use std::alloc::Global;
 
+/// The turn on which entries are put in order: around the normal of a plane of a table.
+#[derive(Clone, Copy)]
+pub struct Turn<'a> {
+    table: &'a PlaneTable,
+    g: V3,
+    // whether words hold all determinants
+    near: bool,
+    ghost within: { IsWithin NORMAL g },
+    ghost nearness: { IsTrue near → IsWithin DIFF g × All (IsWithin DIFF) table.now.planes },
+}
+
+impl<'a> Turn<'a> {
+    /// The turn around the normal `g`.
+    pub fn around(table: &'a PlaneTable, g: V3) -> Turn<'a>
+        requires { IsWithin NORMAL g }
+        ensures table { result.table.now ≡ table.now }
+        ensures g { result.g ≡ g }
+    {
+        Turn {
+            table,
+            g,
+            near: is_within(g, DIFF) && are_within(table.planes(), DIFF),
+        }
+    }
+}
+
 // the normal of the plane of an entry, or its negative
-fn facet_of(table: &PlaneTable, e: Entry) -> V3
-    requires { e.plane < length table.now.planes }
-    ensures is { result ≡ facet_of table.now.planes e }
+fn facet_of(turn: &Turn, e: Entry) -> V3
+    requires { e.plane < length turn.now.table.now.planes }
+    ensures is { result ≡ facet_of turn.now.table.now.planes e }
     ensures within { IsWithin NORMAL result }
+    ensures near { All (IsWithin DIFF) turn.now.table.now.planes → IsWithin DIFF result }
 {
-    facet_by(e.turned, table.plane(e.plane))
+    facet_by(e.turned, turn.table.plane(e.plane))
+}
+
+// the sign of the determinant by which two entries are ordered
+fn order_of(turn: &Turn, e: Entry, f: Entry) -> Sign
+    requires e { e.plane < length turn.now.table.now.planes }
+    requires f { f.plane < length turn.now.table.now.planes }
+    ensures { result ≡ sign (order_det turn.now.table.now.planes turn.now.g e f) }
+{
+    let a = facet_of(turn, e);
+    let b = facet_of(turn, f);
+    if turn.near {
+        small_order(turn.g, a, b)
+    } else {
+        order_on(turn.g, a, b)
+    }
 }
 
 // whether the crossing of `e` comes before that of `f`, or they cross on one line and the plane of `e` is less
-fn precedes(table: &PlaneTable, g: V3, e: Entry, f: Entry) -> bool
-    requires g { IsWithin NORMAL g }
-    requires e { e.plane < length table.now.planes }
-    requires f { f.plane < length table.now.planes }
-    ensures { IsTrue result ↔ CrossesBefore table.now.planes g e f }
+fn precedes(turn: &Turn, e: Entry, f: Entry) -> bool
+    requires e { e.plane < length turn.now.table.now.planes }
+    requires f { f.plane < length turn.now.table.now.planes }
+    ensures { IsTrue result ↔ CrossesBefore turn.now.table.now.planes turn.now.g e f }
 {
-    match order_on(g, facet_of(table, e), facet_of(table, f)) {
+    match order_of(turn, e, f) {
         Sign::Pos => true,
         Sign::Zero => e.plane < f.plane,
         Sign::Neg => false,
@@ -37,15 +81,14 @@ fn precedes(table: &PlaneTable, g: V3, e: Entry, f: Entry) -> bool
 
 // Where an entry comes among others in order. The search goes from the last one back: where they come nearly in order,
 // it takes a step or two.
-fn place_in(table: &PlaneTable, g: V3, es: &[Entry], e: Entry) -> usize
-    requires g { IsWithin NORMAL g }
-    requires e { e.plane < length table.now.planes }
-    requires es { All (λ f. f.plane < length table.now.planes) es.now }
-    ensures { IsPlace table.now.planes g es.now e result }
+fn place_in(turn: &Turn, es: &[Entry], e: Entry) -> usize
+    requires e { e.plane < length turn.now.table.now.planes }
+    requires es { All (λ f. f.plane < length turn.now.table.now.planes) es.now }
+    ensures { IsPlace turn.now.table.now.planes turn.now.g es.now e result }
 {
     let mut i = es.len();
     'back: while i > 0 {
-        if !precedes(table, g, e, es[i - 1]) {
+        if !precedes(turn, e, es[i - 1]) {
             return i;
         }
         i -= 1;
@@ -54,13 +97,12 @@ fn place_in(table: &PlaneTable, g: V3, es: &[Entry], e: Entry) -> usize
 }
 
 // puts an entry at its place, unless the one before it is of the same plane
-fn insert(table: &PlaneTable, g: V3, es: &mut Vec<Entry>, e: Entry) -> Result<(), OutOfMemory>
-    requires g { IsWithin NORMAL g }
-    requires e { e.plane < length table.now.planes }
-    requires es { All (λ f. f.plane < length table.now.planes) es.old.items }
-    ensures { OnOk result (IsInserted table.now.planes g e es.old.items es.new.items) }
+fn insert(turn: &Turn, es: &mut Vec<Entry>, e: Entry) -> Result<(), OutOfMemory>
+    requires e { e.plane < length turn.now.table.now.planes }
+    requires es { All (λ f. f.plane < length turn.now.table.now.planes) es.old.items }
+    ensures { OnOk result (IsInserted turn.now.table.now.planes turn.now.g e es.old.items es.new.items) }
 {
-    let i = place_in(table, g, es.as_slice(), e);
+    let i = place_in(turn, es.as_slice(), e);
     if i > 0 && es[i - 1].plane == e.plane {
         return Ok(());
     }
@@ -69,21 +111,15 @@ fn insert(table: &PlaneTable, g: V3, es: &mut Vec<Entry>, e: Entry) -> Result<()
 }
 
 /// The entries of the keys in the order of their crossings, and of their planes where they cross in one vertex.
-pub fn in_order(
-    alloc: Global,
-    table: &PlaneTable,
-    g: V3,
-    keys: &[Key],
-) -> Result<Vec<Entry>, OutOfMemory>
-    requires g { IsWithin NORMAL g }
-    requires keys { All (λ (k : ℤ × ℕ × Bool). k.1 < length table.now.planes) keys.now }
-    ensures { IfOk result (λ v. IsOrderOf table.now.planes g (map key_entry keys.now) v.items) }
+pub fn in_order(alloc: Global, turn: &Turn, keys: &[Key]) -> Result<Vec<Entry>, OutOfMemory>
+    requires keys { All (λ (k : ℤ × ℕ × Bool). k.1 < length turn.now.table.now.planes) keys.now }
+    ensures { IfOk result (λ v. IsOrderOf turn.now.table.now.planes turn.now.g (map key_entry keys.now) v.items) }
 {
-    let mut entries = Vec::new(alloc);
+    // there comes the opposite half circle behind
+    let mut entries = Vec::with_capacity(alloc, keys.len().saturating_mul(2))?;
     for key in keys {
         insert(
-            table,
-            g,
+            turn,
             &mut entries,
             Entry {
                 plane: key.1,
@@ -95,32 +131,22 @@ pub fn in_order(
 }
 
 // whether two entries cross on one line
-fn on_one_line(table: &PlaneTable, g: V3, e: Entry, f: Entry) -> bool
-    requires g { IsWithin NORMAL g }
-    requires e { e.plane < length table.now.planes }
-    requires f { f.plane < length table.now.planes }
-    ensures { IsTrue result ↔ (order_det table.now.planes g e f ≡ pos 0) }
+fn on_one_line(turn: &Turn, e: Entry, f: Entry) -> bool
+    requires e { e.plane < length turn.now.table.now.planes }
+    requires f { f.plane < length turn.now.table.now.planes }
+    ensures { IsTrue result ↔ (order_det turn.now.table.now.planes turn.now.g e f ≡ pos 0) }
 {
-    matches!(
-        order_on(g, facet_of(table, e), facet_of(table, f)),
-        Sign::Zero
-    )
+    matches!(order_of(turn, e, f), Sign::Zero)
 }
 
 /// Where the stops of entries in order end.
-pub fn ends_of(
-    alloc: Global,
-    table: &PlaneTable,
-    g: V3,
-    es: &[Entry],
-) -> Result<Vec<usize>, OutOfMemory>
-    requires g { IsWithin NORMAL g }
-    requires es { All (λ e. e.plane < length table.now.planes) es.now }
-    ensures { IfOk result (λ v. AreStopEnds table.now.planes g es.now v.items) }
+pub fn ends_of(alloc: Global, turn: &Turn, es: &[Entry]) -> Result<Vec<usize>, OutOfMemory>
+    requires es { All (λ e. e.plane < length turn.now.table.now.planes) es.now }
+    ensures { IfOk result (λ v. AreStopEnds turn.now.table.now.planes turn.now.g es.now v.items) }
 {
-    let mut ends = Vec::new(alloc);
+    let mut ends = Vec::with_capacity(alloc, es.len().saturating_mul(2))?;
     for i in 1..es.len() {
-        if !on_one_line(table, g, es[i - 1], es[i]) {
+        if !on_one_line(turn, es[i - 1], es[i]) {
             ends.push(i)?;
         }
     }

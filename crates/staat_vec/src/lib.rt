@@ -20,4 +20,4 @@ pub use normal::Normal;
 pub use products::{add, cross_normal, det, dot, neg, order_on, sign_dot, sub};
 pub use rays::{canon, first_nonzero, primitive};
 pub use vector::{DIFF, DIRECTION, EDGE, NORMAL, ORIGIN, POINT, Sign, V3, VERTEX, is_same};
-pub use words::{SMALL, are_small, cross_diff, is_within, small_dot, small_sign};
+pub use words::{SMALL, are_within, cross_diff, is_within, small_dot, small_order, small_sign};

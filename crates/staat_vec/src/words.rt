@@ -1,6 +1,6 @@
 // Products in words of 64 bits, where these hold them: each takes one multiplication of the machine.
 ghost use Rattle.std.specs.Prelude.{◌≡◌, ◌≤◌, ◌*◌, ◌-ℤ◌, ◌*ℤ◌, ◌↔◌, All, IsTrue, unsigned_abs};
-ghost use Rattle.staat_vec.specs.Vectors.{IsWithin, cross, dot, sign};
+ghost use Rattle.staat_vec.specs.Vectors.{IsWithin, cross, det, dot, sign};
 
 use crate::normal::Normal;
 use crate::vector::{DIFF, NORMAL, Sign, V3};
@@ -15,12 +15,12 @@ pub fn is_within(v: V3, bound: u128) -> bool
     v.x.unsigned_abs() <= bound && v.y.unsigned_abs() <= bound && v.z.unsigned_abs() <= bound
 }
 
-/// Whether all these normals are small.
-pub fn are_small(normals: &[Normal]) -> bool
-    ensures { IsTrue result ↔ All (IsWithin SMALL) normals.now }
+/// Whether no component of these normals is greater than the bound in absolute value.
+pub fn are_within(normals: &[Normal], bound: u128) -> bool
+    ensures { IsTrue result ↔ All (IsWithin bound) normals.now }
 {
     for n in normals {
-        if !is_within(n.vector(), SMALL) {
+        if !is_within(n.vector(), bound) {
             return false;
         }
     }
@@ -128,4 +128,15 @@ pub fn cross_diff(a: V3, b: V3) -> V3
         y: small_minor(a.z, a.x, b.z, b.x),
         z: small_minor(a.x, a.y, b.x, b.y),
     }
+}
+
+/// The sign of `det(n, a, b)`, as [`order_on`](crate::order_on) has it, of three vectors whose components are at most
+/// [`DIFF`] in absolute value.
+pub fn small_order(n: V3, a: V3, b: V3) -> Sign
+    requires n { IsWithin DIFF n }
+    requires a { IsWithin DIFF a }
+    requires b { IsWithin DIFF b }
+    ensures { result ≡ sign (det n a b) }
+{
+    small_sign(cross_diff(a, b), n)
 }

@@ -6,5 +6,5 @@ abbrev pub invariant-loop-i : goal.invariant-loop-i
 invariant-loop-i l = record {
   all : l.i-end ≡ length l.es;
   later : 1 ≤ l.i;
-  breaks : AreBreaksBelow l.table.planes l.g l.es l.i l.ends.items;
+  breaks : AreBreaksBelow l.turn.table.now.planes l.turn.g l.es l.i l.ends.items;
 }

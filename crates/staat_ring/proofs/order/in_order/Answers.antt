@@ -12,26 +12,26 @@ abbrev no_key : ℤ × ℕ × Bool
 no_key = (pos 0, 0, false)
 
 pub loop-key-init : goal.loop-key-init
-loop-key-init c = subst (IsOrderOf c.args.table.now.planes c.args.g []) (sym c.new-entries.ensures.items) (order_none c.args.table.now.planes c.args.g)
+loop-key-init c = subst (IsOrderOf c.args.turn.now.table.now.planes c.args.turn.now.g []) (sym c.in_ok-entries.ensures.items) (order_none c.args.turn.now.table.now.planes c.args.turn.now.g)
 
 pub loop-key-preserved : goal.loop-key-preserved
 loop-key-preserved c =
     let keys = c.args.keys.now in
     let i = c.loop-key.key-index in
-    order_more c.args.table.now.planes c.args.g (key_entry (get_or keys i no_key)) (map key_entry (take i keys)) (map key_entry (take (i + 1) keys)) c.loop-key.entries.items c.insert.new.es.items
+    order_more c.args.turn.now.table.now.planes c.args.turn.now.g (key_entry (get_or keys i no_key)) (map key_entry (take i keys)) (map key_entry (take (i + 1) keys)) c.loop-key.entries.items c.insert.new.es.items
     (map_more key_entry keys i no_key c.loop-key-test.true) c.in_ok-insert.ensures c.loop-key.invariant
 
 pub insert-requires-clause-es : goal.insert-requires-clause-es
 insert-requires-clause-es c = λ k d lt.
     let keys = take c.loop-key.key-index c.args.keys.now in
     let (x, cx, ex) = Contains-from_map key_entry keys (get_or c.loop-key.entries.items k d) (c.loop-key.invariant.only (get_or c.loop-key.entries.items k d) (k, lt, get_or_default c.loop-key.entries.items k (get_or c.loop-key.entries.items k d) d lt)) in
-    subst (λ (e : Entry). e.plane < length c.args.table.now.planes) ex
-    (All-contains (λ (k : ℤ × ℕ × Bool). k.1 < length c.args.table.now.planes) keys x (All-take (λ (k : ℤ × ℕ × Bool). k.1 < length c.args.table.now.planes) c.loop-key.key-index c.args.keys.now c.requires.keys) cx)
+    subst (λ (e : Entry). e.plane < length c.args.turn.now.table.now.planes) ex
+    (All-contains (λ (k : ℤ × ℕ × Bool). k.1 < length c.args.turn.now.table.now.planes) keys x (All-take (λ (k : ℤ × ℕ × Bool). k.1 < length c.args.turn.now.table.now.planes) c.loop-key.key-index c.args.keys.now c.requires.keys) cx)
 
 pub insert-requires-clause-e : goal.insert-requires-clause-e
 insert-requires-clause-e c = c.requires.keys c.loop-key.key-index no_key c.loop-key-test.true
 
 pub returns : goal.returns
 returns c =
-    subst (λ l. IsOrderOf c.args.table.now.planes c.args.g (map key_entry l) c.loop-key.entries.items)
+    subst (λ l. IsOrderOf c.args.turn.now.table.now.planes c.args.turn.now.g (map key_entry l) c.loop-key.entries.items)
     (take_all c.loop-key.key-index c.args.keys.now c.loop-key-test.false) c.loop-key.invariant

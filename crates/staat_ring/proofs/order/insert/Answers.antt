@@ -9,7 +9,7 @@ pub returns : goal.returns
 returns c =
     let old = c.args.es.now.items in
     let i = c.place_in-i.result in
-    let at = subst (λ (es : List Entry). IsPlace c.args.table.now.planes c.args.g es c.args.e i) c.as_slice.ensures.value c.place_in-i.ensures in
+    let at = subst (λ (es : List Entry). IsPlace c.args.turn.now.table.now.planes c.args.turn.now.g es c.args.e i) c.as_slice.ensures.value c.place_in-i.ensures in
     inl (
       i,
       at,

@@ -5,12 +5,12 @@ use Rattle.staat_ring.proofs.order.place_in.Goals as goal
 
 pub back-preserved : goal.back-preserved
 back-preserved c =
-    let planes = c.args.table.now.planes in
+    let planes = c.args.turn.now.table.now.planes in
     let es = c.args.es.now in
     record {
       within = omega (arith, c.back.invariant.within);
-      after = λ k le lt. ⊎_elim {C = CrossesBefore planes c.args.g c.args.e (entry_at es k)}
-          (λ q. subst (λ j. CrossesBefore planes c.args.g c.args.e (entry_at es j)) (sym q) (c.precedes.ensures.0 c.if-not-precedes.false))
+      after = λ k le lt. ⊎_elim {C = CrossesBefore planes c.args.turn.now.g c.args.e (entry_at es k)}
+          (λ q. subst (λ j. CrossesBefore planes c.args.turn.now.g c.args.e (entry_at es j)) (sym q) (c.precedes.ensures.0 c.if-not-precedes.false))
           (λ ne. c.back.invariant.after k (omega (arith, le, ne)) lt)
           (same_or k (c.back.i - 1));
     }
@@ -25,5 +25,5 @@ pub returns-then-not-precedes : goal.returns-then-not-precedes
 returns-then-not-precedes c = record {
   within = c.back.invariant.within;
   after = c.back.invariant.after;
-  before = λ k e p. off (sym c.if-not-precedes.true ∙ c.precedes.ensures.1 (subst (λ j. CrossesBefore c.args.table.now.planes c.args.g c.args.e (entry_at c.args.es.now j)) (place k c.back.i e) p));
+  before = λ k e p. off (sym c.if-not-precedes.true ∙ c.precedes.ensures.1 (subst (λ j. CrossesBefore c.args.turn.now.table.now.planes c.args.turn.now.g c.args.e (entry_at c.args.es.now j)) (place k c.back.i e) p));
 }

@@ -1,22 +1,21 @@
-use Rattle.std.proofs.Common.{⊎_elim, ◌<◌, inl, inr, refl}
+use Rattle.std.proofs.Common.{⊎_elim, ◌<◌, ◌∙◌, inl, inr, refl, sym}
 use Rattle.std.proofs.lemmas.Bool.{ltb-true}
 use Rattle.staat_vec.proofs.Integers.{zero_not_positive}
 use Rattle.staat_vec.proofs.Naturals.{lt_test}
 use Rattle.staat_vec.proofs.Signs.{sign_negative, sign_positive, zero_sign}
-use Rattle.staat_vec.specs.declared.vector.Sign.TheVariants.{Neg, Pos, Zero}
 use Rattle.staat_ring.specs.Order.{order_det}
-use Rattle.staat_ring.proofs.Ordering.{not_precedes, order_sign}
+use Rattle.staat_ring.proofs.Ordering.{not_precedes}
 use Rattle.staat_ring.proofs.order.precedes.Goals as goal
 
 pub returns-in-Pos : goal.returns-in-Pos
-returns-in-Pos c = (λ t. inl (sign_positive (order_det c.args.table.now.planes c.args.g c.args.e c.args.f) (order_sign c.args.table.now.planes c.args.g c.args.e c.args.f c.facet_of.result c.facet_of-2.result c.order_on.result Pos c.facet_of.ensures.is c.facet_of-2.ensures.is c.order_on.ensures c.in-Pos.is)), λ p. refl)
+returns-in-Pos c = (λ t. inl (sign_positive (order_det c.args.turn.now.table.now.planes c.args.turn.now.g c.args.e c.args.f) (sym c.order_of.ensures ∙ c.in-Pos.is)), λ p. refl)
 
 pub returns-in-Zero : goal.returns-in-Zero
 returns-in-Zero c =
-    let z = zero_sign (order_det c.args.table.now.planes c.args.g c.args.e c.args.f) (order_sign c.args.table.now.planes c.args.g c.args.e c.args.f c.facet_of.result c.facet_of-2.result c.order_on.result Zero c.facet_of.ensures.is c.facet_of-2.ensures.is c.order_on.ensures c.in-Zero.is) in
-    (λ t. inr (z, ltb-true c.args.e.plane c.args.f.plane t), λ p. lt_test c.args.e.plane c.args.f.plane (⊎_elim {C = c.args.e.plane < c.args.f.plane} (λ h. absurd (zero_not_positive (order_det c.args.table.now.planes c.args.g c.args.e c.args.f) z h)) (λ h. h.1) p))
+    let z = zero_sign (order_det c.args.turn.now.table.now.planes c.args.turn.now.g c.args.e c.args.f) (sym c.order_of.ensures ∙ c.in-Zero.is) in
+    (λ t. inr (z, ltb-true c.args.e.plane c.args.f.plane t), λ p. lt_test c.args.e.plane c.args.f.plane (⊎_elim {C = c.args.e.plane < c.args.f.plane} (λ h. absurd (zero_not_positive (order_det c.args.turn.now.table.now.planes c.args.turn.now.g c.args.e c.args.f) z h)) (λ h. h.1) p))
 
 pub returns-in-Neg : goal.returns-in-Neg
 returns-in-Neg c =
-    let n = sign_negative (order_det c.args.table.now.planes c.args.g c.args.e c.args.f) (order_sign c.args.table.now.planes c.args.g c.args.e c.args.f c.facet_of.result c.facet_of-2.result c.order_on.result Neg c.facet_of.ensures.is c.facet_of-2.ensures.is c.order_on.ensures c.in-Neg.is) in
-    (λ t. cc, λ p. absurd (not_precedes c.args.table.now.planes c.args.g c.args.e c.args.f n p))
+    let n = sign_negative (order_det c.args.turn.now.table.now.planes c.args.turn.now.g c.args.e c.args.f) (sym c.order_of.ensures ∙ c.in-Neg.is) in
+    (λ t. cc, λ p. absurd (not_precedes c.args.turn.now.table.now.planes c.args.turn.now.g c.args.e c.args.f n p))
