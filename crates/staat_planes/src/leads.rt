@@ -143,7 +143,7 @@ impl Heading {
     }
 }
 
-/// Whether a direction leads ahead of all the facets. The components of `d` are at most [`DIRECTION`] in absolute value.
+/// Whether `d` leads ahead of all the facets. Its components are at most [`DIRECTION`] in absolute value.
 pub(crate) fn is_ahead(facets: &[Normal], d: V3) -> bool
     requires { IsWithin DIRECTION d }
     ensures { IsTrue result ↔ All (λ n. pos 0 <ℤ dot n d) facets.now }

@@ -2,9 +2,9 @@
 use crate::fixtures::{same, same_vector};
 use staat_samples::at;
 use staat_vec::{
-    DIFF, DIRECTION, EDGE, NORMAL, Name, Names, Normal, ORIGIN, OutOfMemory, POINT, Sign, VERTEX, add,
-    canon, cross_diff, cross_normal, det, dot, first_nonzero, is_same, neg, order_on, primitive,
-    sign_dot, sub,
+    DIFF, DIRECTION, EDGE, NORMAL, Name, Names, Normal, ORIGIN, OutOfMemory, POINT, Sign, VERTEX,
+    add, canon, cross_diff, cross_normal, det, dot, first_nonzero, is_same, neg, order_on,
+    primitive, sign_dot, sub,
 };
 use std::alloc::Global;
 use std::process::Abort;
@@ -51,7 +51,11 @@ fn normals(rt: HostRuntime) {
     let v = at(1 << 39, -(1 << 39), 5);
     let n = Normal::of(v);
     same_vector(&rt, n.vector(), v);
-    same(&rt, &n.small_dot(at(3, -(1 << 22), 7)), &2305844658481135651);
+    same(
+        &rt,
+        &n.small_dot(at(3, -(1 << 22), 7)),
+        &2305844658481135651,
+    );
 }
 
 #[test]
