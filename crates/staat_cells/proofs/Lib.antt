@@ -40,5 +40,4 @@ pub mod MachineWords
 pub mod Narrowing
 pub mod LowEdges
 pub mod LeastCell
-pub mod Flipping
 pub mod ZeroPlanes
