@@ -90,13 +90,15 @@ module _ (planes : List V3) (are : AreTablePlanes planes) (few : length planes �
         (edge_entry planes (holds_axes planes are) (planes_apart planes are) (planes_some planes are) (map entry_of points) points_are)
         (edge_some planes (holds_axes planes are) (planes_apart planes are) (planes_some planes are) (map entry_of points) points_are))
 
-    pub edge_signs : HaveSigns (composed_up_to Edge (map entry_of points) incidences (length incidences))
-        (begun_up_to incidences (length incidences))
-    edge_signs =
-        begun_signs planes Edge (map entry_of points) incidences few edge_lists
+    pub edge_signs : (cells : List Cell) (own : List Incidence)
+        → map entry_of cells ≡ composed_up_to Edge (map entry_of points) incidences (length incidences)
+        → own ≡ begun_up_to incidences (length incidences) → HaveSigns (map entry_of cells) own
+    edge_signs cells own made is =
+        subst (HaveSigns (map entry_of cells)) (sym is) (subst (λ l. HaveSigns l (begun_up_to incidences (length incidences))) (sym made)
+        (begun_signs planes Edge (map entry_of points) incidences few edge_lists
         (edge_two planes (holds_axes planes are) (planes_apart planes are) (planes_some planes are) (map entry_of points) points_are)
         (edge_entry planes (holds_axes planes are) (planes_apart planes are) (planes_some planes are) (map entry_of points) points_are)
-        (edge_some planes (holds_axes planes are) (planes_apart planes are) (planes_some planes are) (map entry_of points) points_are)
+        (edge_some planes (holds_axes planes are) (planes_apart planes are) (planes_some planes are) (map entry_of points) points_are)))
 
   -- ---- open cells
 

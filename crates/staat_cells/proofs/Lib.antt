@@ -18,7 +18,6 @@ pub mod OpenCells
 pub mod Grouping
 pub mod SignOrder
 pub mod Composing
-pub mod AddedCells
 pub mod Words
 pub mod IncidenceOrder
 pub mod Mirrors
