@@ -1,5 +1,4 @@
 pub mod Halves
-pub mod Patching
 pub mod ZeroSignLemmas
 pub mod ZeroPlaces
 pub mod Filling
