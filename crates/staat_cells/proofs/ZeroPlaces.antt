@@ -1,5 +1,5 @@
 -- Signs that give way at the places of their zeros, one after another.
-use Rattle.std.proofs.Common.{◌≡◌, ◌⊎◌, inl, inr, ℕ, zero, suc, ◌+◌, ◌<◌, ◌≤◌}
+use Rattle.std.proofs.Common.{◌≡◌, ◌⊎◌, inl, inr, ℕ, suc, ◌+◌, ◌<◌, ◌≤◌}
 use Rattle.std.proofs.Common.{true, false, refl, sym, ap, subst, ◌∙◌, arith}
 use Rattle.std.proofs.Common.{add-one, append_assoc, drop-cons, List, [], ◌∷◌, ◌++◌, drop, get_or, length}
 use Rattle.std.proofs.lemmas.List.{drop_all, drop_more, get_or-map, length-map, length-set}

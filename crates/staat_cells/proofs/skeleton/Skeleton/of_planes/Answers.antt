@@ -9,7 +9,7 @@ use Rattle.staat_cells.specs.declared.incidence.Incidence.{Incidence}
 use Rattle.staat_cells.specs.declared.skeleton.Skeleton.{Skeleton}
 use Rattle.staat_cells.specs.Compositions.{HaveEqualLengths, HavePairs, begun_up_to, composed_up_to, entry_of}
 use Rattle.staat_cells.specs.Packing.{incidence_cmp}
-use Rattle.staat_cells.specs.Stages.{HaveSigns, IsFilledIncidence, IsIncidence}
+use Rattle.staat_cells.specs.Stages.{IsFilledIncidence, IsIncidence}
 use Rattle.staat_cells.proofs.KindLists.{edge_pairs, edge_signs, edges_listed, skeleton_is}
 use Rattle.staat_cells.proofs.WholeLists.{equal_lengths, few_signs, points_small}
 use Rattle.staat_cells.proofs.skeleton.Skeleton.of_planes.Goals as goal
