@@ -23,7 +23,7 @@ use Rattle.staat_cells.specs.Batches.{HasLeft, IsJoinedArc, IsLeft, IsLeftByAll,
 use Rattle.staat_cells.specs.CellGraphs.{HasArcsOf, IsAheadBy, IsArcAt, IsCellGraph}
 use Rattle.staat_cells.proofs.Elements.{any_more}
 use Rattle.staat_cells.proofs.FacetPlanes.{ahead_by_signs}
-use Rattle.staat_cells.proofs.PushingIncidences.{either_more}
+use Rattle.staat_cells.proofs.Growing.{grown_none, grown_take}
 use Rattle.staat_vec.proofs.Naturals.{lt_or_le}
 
 -- ---- the arcs of a batch
@@ -38,10 +38,7 @@ pub record AddsLeft (outside : ℕ) (arcs : List ArcCones) (old new : List ℕ) 
   pub has : (a b : ℕ) → HasArc new a b ↔ (HasArc old a b ⊎ Any (IsArcLeft outside a b) arcs)
 
 pub none_left : (outside : ℕ) (rows : List ℕ) → AddsLeft outside [] rows rows
-none_left outside rows = record {
-  long = λ e. e;
-  has = λ a b. (λ h. inl h, ⊎_elim (λ h. h) (λ p. absurd (let lt = p.2 in omega (arith, lt))));
-}
+none_left outside rows = record { long = λ e. e; has = λ a b. grown_none (λ p. let lt = p.2 in omega (arith, lt)) }
 
 one_left : (outside word : ℕ) (x : ArcCones) (rows : List ℕ) → x.a < length rows
     → ((q : ℕ) → (bit_at word q ≡ 1) ↔ ((bit_at (slice_index rows x.a) q ≡ 1) ⊎ ((q ≡ x.b)
@@ -68,9 +65,8 @@ pub left_more : (outside word k : ℕ) (arcs : List ArcCones) (x : ArcCones) (ol
     → AddsLeft outside (take k arcs) old mid → AddsLeft outside (take (k + 1) arcs) old (slice_set mid x.a word)
 left_more outside word k arcs x old mid is lt at small bits before = record {
   long = λ e. length-set mid x.a word ∙ before.long e;
-  has = λ a b. either_more (before.has a b)
-      (one_left outside word x mid (let e = before.long is in omega (arith, e, small)) bits a b)
-      (any_more (IsArcLeft outside a b) arcs k x lt at);
+  has = λ a b. grown_take (IsArcLeft outside a b) arcs k x lt at (before.has a b)
+      (one_left outside word x mid (let e = before.long is in omega (arith, e, small)) bits a b);
 }
 
 pub batch_arcs : (batch : JoinedBatch) (signs : List Sign) (outside k : ℕ) (arcs : List ArcCones) (tests : List JoinedTest)

@@ -26,6 +26,7 @@ pub mod EdgeIncidences
 pub mod Zeros
 pub mod Beside
 pub mod Elements
+pub mod Growing
 pub mod SignLists
 pub mod Cones
 pub mod ConeTests
