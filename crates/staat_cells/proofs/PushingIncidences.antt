@@ -5,6 +5,7 @@ use Rattle.staat_vec.specs.declared.vector.V3.{V3}
 use Rattle.staat_vec.specs.declared.vector.Sign.TheVariants.{Zero}
 use Rattle.staat_vec.specs.Vectors.{cross, dot, negative, sign}
 use Rattle.staat_vec.proofs.Unique.{Contains-front}
+use Rattle.staat_cells.proofs.Growing.{grown_both}
 use Rattle.staat_cells.specs.declared.incidence.Incidence.{Incidence}
 use Rattle.staat_cells.specs.Packing.{incidence_of}
 use Rattle.staat_cells.specs.Beside.{beside}
@@ -14,19 +15,16 @@ use Rattle.staat_vec.proofs.Signs.{zero_sign}
 
 -- ---- lists that grow
 
-pub grew_pair : (P : Incidence → Type 0) (old new : List Incidence) (a b : Incidence) → new ≡ (old ++ a ∷ []) ++ b ∷ [] → ((x : Incidence) → P x ↔ ((x ≡ a) ⊎ (x ≡ b))) → GrewByAll P old new
-grew_pair P old new a b is two x = (
-  λ c. ⊎_elim {C = Contains old x ⊎ P x}
-      (λ early. ⊎_elim {C = Contains old x ⊎ P x} (λ h. inl h) (λ e. inr ((two x).1 (inl (sym e)))) (Contains-push_cases old a x early))
-      (λ e. inr ((two x).1 (inr (sym e))))
-      (Contains-push_cases (old ++ a ∷ []) b x (subst (λ l. Contains l x) is c)),
-  ⊎_elim {C = Contains new x}
-      (λ c. subst (λ l. Contains l x) (sym is) (Contains-append_left (old ++ a ∷ []) (b ∷ []) x (Contains-append_left old (a ∷ []) x c)))
-      (λ p. ⊎_elim {C = Contains new x}
-      (λ e. subst (λ l. Contains l x) (sym is) (Contains-append_left (old ++ a ∷ []) (b ∷ []) x (subst (Contains (old ++ a ∷ [])) (sym e) (Contains-push old a))))
-      (λ e. subst (λ l. Contains l x) (sym is) (subst (Contains ((old ++ a ∷ []) ++ b ∷ [])) (sym e) (Contains-push (old ++ a ∷ []) b)))
-      ((two x).0 p)),
+pub grew_one : (old new : List Incidence) (a : Incidence) → new ≡ old ++ a ∷ [] → GrewByAll (λ x. x ≡ a) old new
+grew_one old new a is x = (
+  λ c. ⊎_elim {C = Contains old x ⊎ (x ≡ a)} (λ h. inl h) (λ e. inr (sym e)) (Contains-push_cases old a x (subst (λ l. Contains l x) is c)),
+  λ h. subst (λ l. Contains l x) (sym is) (⊎_elim {C = Contains (old ++ a ∷ []) x} (λ c. Contains-append_left old (a ∷ []) x c)
+      (λ e. subst (Contains (old ++ a ∷ [])) (sym e) (Contains-push old a)) h),
 )
+
+pub grew_pair : (P : Incidence → Type 0) (old new : List Incidence) (a b : Incidence) → new ≡ (old ++ a ∷ []) ++ b ∷ []
+    → ((x : Incidence) → P x ↔ ((x ≡ a) ⊎ (x ≡ b))) → GrewByAll P old new
+grew_pair P old new a b is two x = grown_both (grew_one old (old ++ a ∷ []) a refl x) (grew_one (old ++ a ∷ []) new b is x) (two x)
 
 -- ---- the incidences on one plane
 
