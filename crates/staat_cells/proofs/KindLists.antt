@@ -17,12 +17,12 @@ use Rattle.staat_cells.specs.declared.skeleton.Skeleton.{Skeleton}
 use Rattle.staat_cells.specs.Packing.{incidence_cmp, incidence_of}
 use Rattle.staat_cells.specs.Skeletons.{IsSkeleton}
 use Rattle.staat_cells.specs.Stages.{cell_at, point_entry, HaveSigns, IsFilledIncidence, IsOwnIncidence, IsIncidence}
-use Rattle.staat_cells.proofs.EdgeCells.{edge_entry, edge_some, edge_two}
+use Rattle.staat_cells.proofs.EdgeCells.{edges_made_up}
 use Rattle.staat_cells.proofs.Grouping.{begun_signs, composed_are_cells, pairs}
 use Rattle.staat_cells.proofs.Numbered.{listed_was}
-use Rattle.staat_cells.proofs.OpenCells.{open_entry, open_some, open_two}
+use Rattle.staat_cells.proofs.OpenCells.{opens_made_up}
 use Rattle.staat_cells.proofs.PointCells.{points_are}
-use Rattle.staat_cells.proofs.TableRules.{holds_axes, planes_apart, planes_some}
+use Rattle.staat_cells.proofs.TableRules.{holds_axes, planes_apart}
 use Rattle.staat_cells.proofs.WholeLists.{edges_small, equal_lengths, lists_same, open_incidences_are}
 use Rattle.staat_vec.proofs.ListLaws.{any_default}
 
@@ -80,15 +80,13 @@ module _ (planes : List V3) (are : AreTablePlanes planes) (few : length planes �
   module _ (points : List Cell) (points_are : AreCellsOf planes Point (map entry_of points)) (incidences : List Incidence)
       (edge_lists : Lists incidence_cmp (IsIncidence planes Edge (map entry_of points)) incidences) where
     pub edge_pairs : HavePairs incidences (length points)
-    edge_pairs = counted Edge points incidences (pairs planes Edge (map entry_of points) incidences few edge_lists (edge_two planes (holds_axes planes are) (planes_apart planes are) (planes_some planes are) (map entry_of points) points_are))
+    edge_pairs = counted Edge points incidences (pairs planes Edge (map entry_of points) incidences few edge_lists (edges_made_up planes are (map entry_of points) points_are))
 
     pub edges_listed : (cells : List Cell) → map entry_of cells ≡ composed_up_to Edge (map entry_of points) incidences (length incidences) → AreCellsOf planes Edge (map entry_of cells)
     edges_listed cells made =
         subst (AreCellsOf planes Edge) (sym made)
         (composed_are_cells planes Edge (map entry_of points) incidences few edge_lists
-        (edge_two planes (holds_axes planes are) (planes_apart planes are) (planes_some planes are) (map entry_of points) points_are)
-        (edge_entry planes (holds_axes planes are) (planes_apart planes are) (planes_some planes are) (map entry_of points) points_are)
-        (edge_some planes (holds_axes planes are) (planes_apart planes are) (planes_some planes are) (map entry_of points) points_are))
+        (edges_made_up planes are (map entry_of points) points_are))
 
     pub edge_signs : (cells : List Cell) (own : List Incidence)
         → map entry_of cells ≡ composed_up_to Edge (map entry_of points) incidences (length incidences)
@@ -96,9 +94,7 @@ module _ (planes : List V3) (are : AreTablePlanes planes) (few : length planes �
     edge_signs cells own made is =
         subst (HaveSigns (map entry_of cells)) (sym is) (subst (λ l. HaveSigns l (begun_up_to incidences (length incidences))) (sym made)
         (begun_signs planes Edge (map entry_of points) incidences few edge_lists
-        (edge_two planes (holds_axes planes are) (planes_apart planes are) (planes_some planes are) (map entry_of points) points_are)
-        (edge_entry planes (holds_axes planes are) (planes_apart planes are) (planes_some planes are) (map entry_of points) points_are)
-        (edge_some planes (holds_axes planes are) (planes_apart planes are) (planes_some planes are) (map entry_of points) points_are)))
+        (edges_made_up planes are (map entry_of points) points_are)))
 
   -- ---- open cells
 
@@ -113,14 +109,12 @@ module _ (planes : List V3) (are : AreTablePlanes planes) (few : length planes �
 
     pub open_pairs : HavePairs incidences (length edges)
     open_pairs = counted Open edges incidences (pairs planes Open (map entry_of edges) incidences few open_lists
-        (open_two planes (holds_axes planes are) (planes_apart planes are) (planes_some planes are) (map entry_of edges) edges_are))
+        (opens_made_up planes are (map entry_of edges) edges_are))
 
     pub opens_listed : AreCellsOf planes Open (composed_up_to Open (map entry_of edges) incidences (length incidences))
     opens_listed =
         composed_are_cells planes Open (map entry_of edges) incidences few open_lists
-        (open_two planes (holds_axes planes are) (planes_apart planes are) (planes_some planes are) (map entry_of edges) edges_are)
-        (open_entry planes (holds_axes planes are) (planes_apart planes are) (planes_some planes are) (map entry_of edges) edges_are)
-        (open_some planes (holds_axes planes are) (planes_apart planes are) (planes_some planes are) (map entry_of edges) edges_are)
+        (opens_made_up planes are (map entry_of edges) edges_are)
 
   pub skeleton_is : (s : Skeleton) → AreCellsOf planes Point (map entry_of s.points.items)
       → AreCellsOf planes Edge (map entry_of s.edges.items)

@@ -12,6 +12,7 @@ pub mod Numbered
 pub mod TableRules
 pub mod PushingIncidences
 pub mod Listed
+pub mod Borders
 pub mod EdgeCells
 pub mod OpenCells
 pub mod Grouping

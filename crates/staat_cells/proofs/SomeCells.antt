@@ -23,11 +23,11 @@ use Rattle.staat_cells.specs.Compositions.{composed_up_to}
 use Rattle.staat_cells.specs.Packing.{incidence_cmp, incidence_of}
 use Rattle.staat_cells.specs.Stages.{IsAxisOff, IsBesideIncidence, IsBesideOn, IsEdgeIncidence, IsFilledIncidence}
 use Rattle.staat_cells.specs.Stages.{IsIncidence, IsOwnIncidence, cell_at, point_entry}
-use Rattle.staat_cells.proofs.EdgeCells.{edge_entry, edge_some, edge_two, point_in}
+use Rattle.staat_cells.proofs.EdgeCells.{edges_made_up, point_in}
 use Rattle.staat_cells.proofs.Grouping.{composed_are_cells}
 use Rattle.staat_cells.proofs.IncidenceOrder.{incidence_exact, incidence_total}
 use Rattle.staat_cells.proofs.Numbered.{edge_numbered, filled_numbered, own_numbered}
-use Rattle.staat_cells.proofs.OpenCells.{open_entry, open_some, open_two}
+use Rattle.staat_cells.proofs.OpenCells.{opens_made_up}
 use Rattle.staat_cells.proofs.PointCells.{points_are}
 use Rattle.staat_cells.proofs.TableRules.{edge_incidences_are, holds_axes, planes_apart, planes_some, vertex_off}
 use Rattle.staat_cells.proofs.WholeLists.{open_incidences_are}
@@ -135,12 +135,12 @@ module _ (planes : List V3) (are : AreTablePlanes planes) (few : length planes �
 
   module _ (points : List CellEntry) (points_of : AreCellsOf planes Point points) where
     signs_at : (k : ℕ) → k < length points → (cell_at points k).signs ≡ signs_of planes (cell_at points k).d
-    signs_at k lt = sym (point_in planes rules apart some points points_of k lt).1
+    signs_at k lt = sym (point_in planes are points points_of k lt).1
 
     edges_at : (k : ℕ) → k < length points → Listing (IsEdgeIncidence planes (cell_at points k).d k)
     edges_at k lt =
         let v = (cell_at points k).d in
-        let has = (point_in planes rules apart some points points_of k lt).0 in
+        let has = (point_in planes are points points_of k lt).0 in
         let (m, off) = axis_off v (vertex_off planes v are has) in
         listing_as (λ x. (edge_incidences_are planes v m k x are has off).0)
         (λ x. (edge_incidences_are planes v m k x are has off).1)
@@ -165,9 +165,7 @@ module _ (planes : List V3) (are : AreTablePlanes planes) (few : length planes �
         let (incidences, sorted) = listing_sorted incidence_cmp incidence_total incidence_exact edge_listing in (
           composed_up_to Edge points incidences (length incidences),
           composed_are_cells planes Edge points incidences few sorted
-              (edge_two planes rules apart some points points_of)
-              (edge_entry planes rules apart some points points_of)
-              (edge_some planes rules apart some points points_of),
+              (edges_made_up planes are points points_of),
         )
 
   -- ---- open cells
@@ -186,8 +184,7 @@ module _ (planes : List V3) (are : AreTablePlanes planes) (few : length planes �
         let (incidences, sorted) = listing_sorted incidence_cmp incidence_total incidence_exact
         (listing_as (λ x. (same x).0) (λ x. (same x).1) filled_listing) in (
           composed_up_to Open edges incidences (length incidences),
-          composed_are_cells planes Open edges incidences few sorted (open_two planes rules apart some edges edges_of)
-              (open_entry planes rules apart some edges edges_of) (open_some planes rules apart some edges edges_of),
+          composed_are_cells planes Open edges incidences few sorted (opens_made_up planes are edges edges_of),
         )
 
   pub some_cells : (cells : List CellEntry) × AreCells planes cells
