@@ -176,8 +176,8 @@ batch_empty batches grown none cones tests arcs is rules =
           (length (batches ++ none ∷ []) - 1) (omega (arith, long)))) (omega (arith, ap length cones));
       arcs = λ signs x y. (
         λ h. ⊎_elim {C = IsListedArc batches signs x y} (λ o. o) (λ p. absurd (no_batch_arcs none arcs signs x y p))
-            ((any_pushed (λ b. IsBatchArc b signs x y) batches none).0 h),
-        λ o. (any_pushed (λ b. IsBatchArc b signs x y) batches none).1 (inl o),
+            ((any_pushed (λ b. IsBatchArc b signs x y) batches (batches ++ none ∷ []) none refl).0 h),
+        λ o. (any_pushed (λ b. IsBatchArc b signs x y) batches (batches ++ none ∷ []) none refl).1 (inl o),
       );
       batches = All-push IsBatch batches none rules (record {
         few = omega (arith, ap length cones);
