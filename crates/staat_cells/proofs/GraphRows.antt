@@ -1,18 +1,17 @@
 -- The rows of the graph of a cell, batch by batch.
 use Rattle.std.proofs.Common.{◌≡◌, ◌≢◌, ◌⊎◌, ◌↔◌, inl, inr, ⊎_elim, ℕ, ◌+◌, ◌<◌}
-use Rattle.std.proofs.Common.{◌≤◌, refl, sym, ap, subst, ◌∙◌, arith}
+use Rattle.std.proofs.Common.{◌≤◌, refl, sym, subst, ◌∙◌, arith}
 use Rattle.std.proofs.Common.{List, [], length, get_or, replicate, take, Any}
 use Rattle.std.specs.Prelude.{slice_index, slice_set}
 use Rattle.std.specs.Int.{bit_at}
-use Rattle.std.proofs.lemmas.List.{get_or_past, get_or-replicate, length-set, take_all}
-use Rattle.std.proofs.lemmas.Nat.Bits.{bit_at-zero}
+use Rattle.std.proofs.lemmas.List.{length-set, take_all}
 use Rattle.staat_vec.specs.declared.vector.V3.{V3}
 use Rattle.staat_vec.specs.declared.vector.Sign.{Sign}
 use Rattle.staat_model.specs.declared.assembly.Part.{Part}
 use Rattle.staat_model.specs.Cells.{signs_of}
 use Rattle.staat_graph.specs.Blocking.{ShowsBlocking}
 use Rattle.staat_graph.specs.Graphs.{HasArc}
-use Rattle.staat_graph.proofs.Arcs.{row_set}
+use Rattle.staat_graph.proofs.Arcs.{empty_graph, row_set}
 use Rattle.staat_pairs.specs.Tables.{IsTable, Table, WasMadeFrom}
 use Rattle.staat_planes.specs.Tables.{IsAhead}
 use Rattle.staat_planes.proofs.GraphLaw.{arcs_are_blocking, shows_blocking}
@@ -23,7 +22,6 @@ use Rattle.staat_cells.specs.Batches.{HasLeft, IsJoinedArc, IsLeft, IsLeftByAll,
 use Rattle.staat_cells.specs.CellGraphs.{HasArcsOf, IsAheadBy, IsArcAt, IsCellGraph}
 use Rattle.staat_cells.proofs.FacetPlanes.{ahead_by_signs}
 use Rattle.staat_cells.proofs.Growing.{grown_first, grown_none, grown_take}
-use Rattle.staat_vec.proofs.Naturals.{lt_or_le}
 
 -- ---- the arcs of a batch
 
@@ -111,13 +109,6 @@ batch_arcs batch signs outside k arcs tests old new arcs_are tests_are le ruled 
 
 -- ---- all batches
 
-pub no_arc : (a b : ℕ) → HasArc (replicate 32 0) a b → ⊥
-no_arc a b h = let e : bit_at (slice_index (replicate 32 0) a) b ≡ 0 =
-    ap (λ r. bit_at r b) zero_row ∙ bit_at-zero b in omega (arith, e, h)
-  where
-    zero_row : slice_index (replicate 32 0) a ≡ 0
-    zero_row = ⊎_elim (λ lt. get_or-replicate 32 a 0 0 lt) (λ le. get_or_past (replicate 32 0) a 0 le) (lt_or_le a 32)
-
 -- no rows have grown by the arcs of the first batches
 abbrev pub HasArcsUpTo : List ℕ → List JoinedBatch → List Sign → ℕ → Type 0
 HasArcsUpTo rows batches signs k = (a b : ℕ)
@@ -128,7 +119,7 @@ pub graph_is : (t : Table) (batches : List JoinedBatch) (signs : List Sign) (row
     → HasArcsUpTo rows batches signs k → HasArcsOf t batches
     → IsCellGraph t signs rows
 graph_is t batches signs rows k le all tells a b =
-    let law = grown_first (all a b) (no_arc a b) in (
+    let law = grown_first (all a b) (empty_graph a b) in (
       λ h. (tells.arcs signs a b).0 (subst (λ l. IsArcAt l signs a b) (take_all k batches le) (law.0 h)),
       λ h. law.1 (subst (λ l. IsArcAt l signs a b) (sym (take_all k batches le)) ((tells.arcs signs a b).1 h)),
     )

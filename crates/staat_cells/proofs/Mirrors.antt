@@ -18,7 +18,7 @@ use Rattle.staat_cells.proofs.IncidenceOrder.{incidence_exact, incidence_total}
 use Rattle.staat_cells.proofs.SignOrder.{sorted_join, sorted_push}
 use Rattle.staat_vec.proofs.ListLaws.{Contains-from_map, Contains-map}
 use Rattle.staat_vec.proofs.Naturals.{trichotomy}
-use Rattle.staat_vec.proofs.Truth.{not_true_clash}
+use Rattle.staat_vec.proofs.Truth.{false_true_clash, not_true_clash}
 use Rattle.staat_vec.proofs.Unique.{Contains-front, Contains-later}
 
 -- ---- mirror images
@@ -33,11 +33,6 @@ nat_mirror s x y up_x up_y = by_order (trichotomy y x)
 
 left_back : (s x : ℕ) → x ≤ s → s - (s - x) ≡ x
 left_back s x le = omega arith
-
-is_less : (o : Ordering) → is_lt o ≡ true → o ≡ Less
-is_less Less e = refl
-is_less Equal e = cc
-is_less Greater e = cc
 
 turned_back : (x y : Incidence) → incidence_cmp x y ≡ Greater → incidence_cmp y x ≡ Less
 turned_back x y e = incidence_total.antisymm y x ∙ ap ordering_reverse e
@@ -98,8 +93,15 @@ module _ (sum : Incidence) where
         (All-filter (λ y. is_low sum y) (Contains old) old (All-contains_itself old))
 
     low : (x : Incidence) → Contains (lows sum old) x → incidence_cmp x (mirrored sum x) ≡ Less
-    low x c = is_less (incidence_cmp x (mirrored sum x))
-        (All-contains (λ y. is_low sum y ≡ true) (lows sum old) x (filter_passes (λ y. is_low sum y) old) c)
+    low x c = by_order (incidence_cmp x (mirrored sum x)) refl
+      where
+        is : is_low sum x ≡ true
+        is = All-contains (λ y. is_low sum y ≡ true) (lows sum old) x (filter_passes (λ y. is_low sum y) old) c
+
+        by_order : (o : Ordering) → incidence_cmp x (mirrored sum x) ≡ o → incidence_cmp x (mirrored sum x) ≡ Less
+        by_order Less e = e
+        by_order Equal e = absurd (false_true_clash (is_low sum x) (ap is_lt e) is)
+        by_order Greater e = absurd (false_true_clash (is_low sum x) (ap is_lt e) is)
 
     kept : (x : Incidence) → Contains old x → is_low sum x ≡ true → Contains (lows sum old) x
     kept x c is = ⊎_elim {C = Contains (lows sum old) x} (λ h. h)
