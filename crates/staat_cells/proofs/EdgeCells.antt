@@ -88,7 +88,8 @@ module _ (planes : List V3) (rules : AreTablePlanes planes) (points : List CellE
       let q = point_in k uk.listed in
       let u = (cell_at points j).d in
       let v = (cell_at points k).d in
-      let sum = sum_of_ends planes rules s u v uj.cell uj.by_count (under_end s j uj) (under_end s k uk) (λ e. not_same planes Point points are j k lt uk.listed (sym p.1 ∙ ap (signs_of planes) e ∙ q.1)) in
+      let sum = sum_of_ends planes rules s u v uj.cell uj.by_count (under_end s j uj) (under_end s k uk)
+      (λ e. not_same planes Point points are j k lt uk.listed (sym p.1 ∙ ap (signs_of planes) e ∙ q.1)) in
       let on = edge_sum_in planes s axes apart some uj.cell uj.by_count (plus u v) sum in
       let bu = let b = under_end s j uj in b.border in
       let bv = let b = under_end s k uk in b.border in

@@ -7,7 +7,7 @@ use Rattle.std.specs.List.Sorted.{IsStrictlySortedBy}
 use Rattle.std.proofs.lemmas.Bool.{eq-eqb, eqb-true}
 use Rattle.std.proofs.lemmas.Cmp.{tied_itself}
 use Rattle.std.proofs.lemmas.List.{get_or_append_left, get_or_push, length-map, length_push, map-append}
-use Rattle.std.proofs.lemmas.List.Elements.{All-nil, All-append, All-cons, Contains-get_or, Contains-push, Contains-push_cases, Contains-append_left}
+use Rattle.std.proofs.lemmas.List.Elements.{All-nil, All-push, Contains-get_or, Contains-push, Contains-push_cases, Contains-append_left}
 use Rattle.std.proofs.lemmas.Map.Keys.{Less-from_sorted}
 use Rattle.staat_vec.specs.declared.vector.V3.{V3}
 use Rattle.staat_vec.specs.declared.vector.Sign.{Sign}
@@ -214,6 +214,18 @@ module _ (planes : List V3) (kind : Kind) (lower : List CellEntry) (incidences :
 
     -- ---- what is composed
 
+    -- where a cell begins, its entry is composed
+    made_at : (i : ℕ) (s : List Sign) → HasSigns i s → begins_cell incidences i ≡ true
+        → IsEntry planes kind (composed_at kind lower incidences i) × ((composed_at kind lower incidences i).signs ≡ s)
+    made_at i s a first =
+        let b = second i s a first in
+        let j = (get_or incidences i no_incidence).of in
+        let k = (get_or incidences (suc i) no_incidence).of in
+        let made = made_up.entry s j k a.under b.under (first_less i s a first) (first_two i s a first) in
+        let at_new : composed_at kind lower incidences i ≡ composed_cell kind (cell_at lower j) (cell_at lower k) =
+        ap (λ n. composed_cell kind (cell_at lower j) (cell_at lower (get_or incidences n no_incidence).of)) (add-one i) in
+        (subst (IsEntry planes kind) (sym at_new) made.0, ap (λ c. c.signs) at_new ∙ made.1)
+
     abbrev signs_in : List CellEntry → List (List Sign)
     signs_in cells = map (λ c. c.signs) cells
 
@@ -247,22 +259,15 @@ module _ (planes : List V3) (kind : Kind) (lower : List CellEntry) (incidences :
       where
         go : (s : List Sign) × HasSigns i s → AreUpTo (suc i) (cells ++ composed_at kind lower incidences i ∷ [])
         go (s, a) =
-            let b = second i s a first in
-            let j = (get_or incidences i no_incidence).of in
-            let k = (get_or incidences (suc i) no_incidence).of in
-            let made = made_up.entry s j k a.under b.under (first_less i s a first) (first_two i s a first) in
-            let at_new : composed_at kind lower incidences i ≡ composed_cell kind (cell_at lower j) (cell_at lower k) = ap (λ n. composed_cell kind (cell_at lower j) (cell_at lower (get_or incidences n no_incidence).of)) (add-one i) in
-            let new_signs : new_of ≡ s = ap (λ c. c.signs) at_new ∙ made.1 in
-            let list : signs_in (cells ++ composed_at kind lower incidences i ∷ []) ≡ signs_in cells ++ s ∷ [] = map-append (λ c. c.signs) cells (composed_at kind lower incidences i ∷ []) ∙ ap (λ t. signs_in cells ++ t ∷ []) new_signs in record {
+            let made = made_at i s a first in
+            let list : signs_in (cells ++ composed_at kind lower incidences i ∷ []) ≡ signs_in cells ++ s ∷ [] =
+            map-append (λ c. c.signs) cells (composed_at kind lower incidences i ∷ []) ∙ ap (λ t. signs_in cells ++ t ∷ []) made.1 in record {
               ascending = subst (IsStrictlySortedBy signs_cmp) (sym list) (sorted_push signs_cmp (signs_in cells) s up.ascending (λ t c. below s a t (up.from t c)));
               from = λ t c. from s a t (Contains-push_cases (signs_in cells) s t (subst (λ l. Contains l t) list c));
               has = λ m t d less. subst (λ l. Contains l t) (sym list) (has s a m t d (lt_suc_cases m i less));
-              each = All-append (IsEntry planes kind) cells (composed_at kind lower incidences i ∷ []) up.each (All-cons (IsEntry planes kind) (composed_at kind lower incidences i) [] (subst (IsEntry planes kind) (sym at_new) made.0) (All-nil (IsEntry planes kind)));
+              each = All-push (IsEntry planes kind) cells (composed_at kind lower incidences i) up.each made.0;
             }
           where
-            new_of : List Sign
-            new_of = (composed_at kind lower incidences i).signs
-
             below : (s : List Sign) → HasSigns i s → (t : List Sign) → (m : ℕ) × (m < i) × HasSigns m t → signs_cmp t s ≡ Less
             below s a t (m, less, d) = ⊎_elim (λ h. h) (λ r. absurd (none_before i m s a (subst (HasSigns m) r.0 d) first less)) (rising m i t s d a less)
 
@@ -279,9 +284,16 @@ module _ (planes : List V3) (kind : Kind) (lower : List CellEntry) (incidences :
     up_to zero le = none
     up_to (suc i) le = by_start (begins_cell incidences i) refl (up_to i (omega arith))
       where
-        by_start : (b : Bool) → begins_cell incidences i ≡ b → AreUpTo i (composed_up_to kind lower incidences i) → AreUpTo (suc i) (composed_up_to kind lower incidences i ++ (if begins_cell incidences i then composed_at kind lower incidences i ∷ [] else []))
-        by_start true e up = subst (λ b. AreUpTo (suc i) (composed_up_to kind lower incidences i ++ (if b then composed_at kind lower incidences i ∷ [] else []))) (sym e) (more i (composed_up_to kind lower incidences i) (omega arith) e up)
-        by_start false e up = subst (λ b. AreUpTo (suc i) (composed_up_to kind lower incidences i ++ (if b then composed_at kind lower incidences i ∷ [] else []))) (sym e) (subst (AreUpTo (suc i)) (sym (append_nothing (composed_up_to kind lower incidences i))) (same i (composed_up_to kind lower incidences i) (omega arith) e up))
+        cells : List CellEntry
+        cells = composed_up_to kind lower incidences i
+
+        With : Bool → Type 0
+        With b = AreUpTo (suc i) (cells ++ (if b then composed_at kind lower incidences i ∷ [] else []))
+
+        by_start : (b : Bool) → begins_cell incidences i ≡ b → AreUpTo i cells → With (begins_cell incidences i)
+        by_start true e up = subst With (sym e) (more i cells (omega arith) e up)
+        by_start false e up = subst With (sym e)
+            (subst (AreUpTo (suc i)) (sym (append_nothing cells)) (same i cells (omega arith) e up))
 
     -- an incidence at which a cell begins has the signs of what is composed there
     begun_at : (i : ℕ) → i < length incidences → begins_cell incidences i ≡ true
@@ -289,14 +301,7 @@ module _ (planes : List V3) (kind : Kind) (lower : List CellEntry) (incidences :
         ≡ incidence_of (composed_at kind lower incidences i).signs (get_or incidences i no_incidence).of
     begun_at i lt first =
         let (s, a) = signs_at i lt in
-        let b = second i s a first in
-        let j = (get_or incidences i no_incidence).of in
-        let k = (get_or incidences (suc i) no_incidence).of in
-        let made = made_up.entry s j k a.under b.under (first_less i s a first) (first_two i s a first) in
-        let at_new : composed_at kind lower incidences i ≡ composed_cell kind (cell_at lower j) (cell_at lower k) =
-        ap (λ n. composed_cell kind (cell_at lower j) (cell_at lower (get_or incidences n no_incidence).of)) (add-one i) in
-        let signs : (composed_at kind lower incidences i).signs ≡ s = ap (λ c. c.signs) at_new ∙ made.1 in
-        a.is ∙ ap (λ t. incidence_of t j) (sym signs)
+        a.is ∙ ap (λ t. incidence_of t (get_or incidences i no_incidence).of) (sym (made_at i s a first).1)
 
     begun_to : (i : ℕ) → i ≤ length incidences
         → HaveSigns (composed_up_to kind lower incidences i) (begun_up_to incidences i)
