@@ -10,7 +10,7 @@ use Rattle.staat_cells.specs.declared.batches.ArcCones.{ArcCones}
 use Rattle.staat_cells.specs.declared.batches.Batch.{Batch}
 use Rattle.staat_cells.specs.declared.half_spaces.HalfSpace.{HalfSpace}
 use Rattle.staat_cells.specs.HalfSpaces.{AreInside}
-use Rattle.staat_cells.specs.Batches.{AddsToBatch, AreInsideCone, HasCone, HasParts, IsBatch, IsBatchArc, IsLeftByAll, outside_by}
+use Rattle.staat_cells.specs.Batches.{AddsToBatch, AreInsideCone, HasCone, HasConeAmong, HasParts, IsBatch, IsBatchArc, IsLeftByAll, outside_by}
 use Rattle.staat_cells.specs.CellGraphs.{AddsCone, HasConeRoom, IsListedArc}
 use Rattle.staat_cells.proofs.ConeTests.{AddsHalfSpaces}
 use Rattle.staat_cells.proofs.Elements.{any_pushed, any_set}
@@ -21,7 +21,21 @@ abbrev pub AddsArc : ℕ → ℕ → ℕ → List ArcCones → List ArcCones →
 AddsArc a b j old new = (x y k : ℕ) → HasCone new x y k ↔ (HasCone old x y k ⊎ ((x ≡ a) × (y ≡ b)
     × (k ≡ j)))
 
--- ---- a list with one more at the end
+-- the cones that are left of two parts, where only the cone j has come, which is left where Q holds
+among_more : (old new : List ArcCones) (before after : ℕ → Type 0) (a b j x y : ℕ) (Q : Type 0) → AddsArc a b j old new
+    → ((k : ℕ) → HasCone old x y k → before k ↔ after k) → after j ↔ Q
+    → HasConeAmong new after x y ↔ (HasConeAmong old before x y ⊎ ((x ≡ a) × (y ≡ b) × Q))
+among_more old new before after a b j x y Q adds same here = (from, to)
+  where
+    from : HasConeAmong new after x y → HasConeAmong old before x y ⊎ ((x ≡ a) × (y ≡ b) × Q)
+    from h = ⊎_elim {C = HasConeAmong old before x y ⊎ ((x ≡ a) × (y ≡ b) × Q)}
+        (λ o. inl (record { cone = h.cone; has = o; is_left = (same h.cone o).1 h.is_left }))
+        (λ p. inr (p.0, p.1, here.0 (subst after p.2 h.is_left)))
+        ((adds x y h.cone).0 h.has)
+
+    to : HasConeAmong old before x y ⊎ ((x ≡ a) × (y ≡ b) × Q) → HasConeAmong new after x y
+    to (inl h) = record { cone = h.cone; has = (adds x y h.cone).1 (inl h.has); is_left = (same h.cone h.has).0 h.is_left }
+    to (inr (e, f, q)) = record { cone = j; has = (adds x y j).1 (inr (e, f, refl)); is_left = here.1 q }
 
 -- ---- parts more
 
@@ -42,36 +56,17 @@ parts_batch old new cone a b j rules cones_are tests_are at parts adds = record 
         ((adds x y k).0 h));
     parts = parts;
   };
-  arcs = λ signs x y. (from signs x y, to signs x y);
+  arcs = λ signs x y. among_more old.arcs.items new.arcs.items (IsLeftByAll (outside_by signs) old.tests.items)
+      (IsLeftByAll (outside_by signs) new.tests.items) a b j x y (AreInside signs cone) adds
+      (λ k o. (
+        subst (λ l. IsLeftByAll (outside_by signs) l k) (sym tests_are),
+        subst (λ l. IsLeftByAll (outside_by signs) l k) tests_are,
+      )) (
+        λ left. (rules.tests signs j).0 (subst (λ l. IsLeftByAll (outside_by signs) l j) tests_are left) cone at,
+        λ inside. subst (λ l. IsLeftByAll (outside_by signs) l j) (sym tests_are) ((rules.tests signs j).1
+            (λ o is. subst (AreInside signs) (one_at_place old.cones.items j cone o at is) inside)),
+      );
 }
-  where
-    from : (signs : List Sign) (x y : ℕ) → IsBatchArc new signs x y
-        → IsBatchArc old signs x y ⊎ ((x ≡ a) × (y ≡ b) × AreInside signs cone)
-    from signs x y h =
-        let is_left = subst (λ l. IsLeftByAll (outside_by signs) l h.cone) tests_are h.is_left in
-        ⊎_elim {C = IsBatchArc old signs x y ⊎ ((x ≡ a) × (y ≡ b) × AreInside signs cone)}
-        (λ o. inl (record { cone = h.cone; has = o; is_left = is_left }))
-        (λ p. inr (
-          p.0,
-          p.1,
-          (rules.tests signs j).0 (subst (IsLeftByAll (outside_by signs) old.tests.items) p.2 is_left) cone at,
-        ))
-        ((adds x y h.cone).0 h.has)
-
-    to : (signs : List Sign) (x y : ℕ) → IsBatchArc old signs x y ⊎ ((x ≡ a) × (y ≡ b)
-        × AreInside signs cone)
-        → IsBatchArc new signs x y
-    to signs x y (inl h) = record {
-      cone = h.cone;
-      has = (adds x y h.cone).1 (inl h.has);
-      is_left = subst (λ l. IsLeftByAll (outside_by signs) l h.cone) (sym tests_are) h.is_left;
-    }
-    to signs x y (inr (e, f, inside)) = record {
-      cone = j;
-      has = (adds x y j).1 (inr (e, f, refl));
-      is_left = subst (λ l. IsLeftByAll (outside_by signs) l j) (sym tests_are) ((rules.tests signs j).1
-          (λ o is. subst (AreInside signs) (one_at_place old.cones.items j cone o at is) inside));
-    }
 
 -- ---- a cone more
 
@@ -94,7 +89,18 @@ cone_batch old new cone a b j rules last room cones_are half_spaces parts adds =
         ((adds x y k).0 h));
     parts = parts;
   };
-  arcs = λ signs x y. (from signs x y, to signs x y);
+  arcs = λ signs x y. among_more old.arcs.items new.arcs.items (IsLeftByAll (outside_by signs) old.tests.items)
+      (IsLeftByAll (outside_by signs) new.tests.items) a b j x y (AreInside signs cone) adds
+      (λ k o. (
+        λ left. (half_spaces signs k).1 (left, λ e. absurd (let lt = rules.within x y k o in omega (arith, lt, e, last))),
+        λ left. ((half_spaces signs k).0 left).0,
+      )) (
+        λ left. ((half_spaces signs j).0 left).1 refl,
+        λ inside. (half_spaces signs j).1 (
+          (rules.tests signs j).1 (λ o is. absurd (let lt = place_within old.cones.items j o is in omega (arith, lt, last))),
+          λ same. inside,
+        ),
+      );
 }
   where
     tested : (signs : List Sign) (k : ℕ) → IsLeftByAll (outside_by signs) new.tests.items k
@@ -114,36 +120,6 @@ cone_batch old new cone a b j rules last room cones_are half_spaces parts adds =
           (subst (λ n. slice_get (old.cones.items ++ cone ∷ []) n ≡ Some cone) (sym (e ∙ last))
           (push_end old.cones.items cone))),
     )
-
-    from : (signs : List Sign) (x y : ℕ) → IsBatchArc new signs x y
-        → IsBatchArc old signs x y ⊎ ((x ≡ a) × (y ≡ b) × AreInside signs cone)
-    from signs x y h =
-        let both = (half_spaces signs h.cone).0 h.is_left in
-        ⊎_elim {C = IsBatchArc old signs x y ⊎ ((x ≡ a) × (y ≡ b) × AreInside signs cone)}
-        (λ o. inl (record { cone = h.cone; has = o; is_left = both.0 }))
-        (λ p. inr (p.0, p.1, both.1 p.2))
-        ((adds x y h.cone).0 h.has)
-
-    to : (signs : List Sign) (x y : ℕ) → IsBatchArc old signs x y ⊎ ((x ≡ a) × (y ≡ b)
-        × AreInside signs cone)
-        → IsBatchArc new signs x y
-    to signs x y (inl h) = record {
-      cone = h.cone;
-      has = (adds x y h.cone).1 (inl h.has);
-      is_left = (half_spaces signs h.cone).1 (
-        h.is_left,
-        λ e. absurd (let lt = rules.within x y h.cone h.has in omega (arith, lt, e, last)),
-      );
-    }
-    to signs x y (inr (e, f, inside)) = record {
-      cone = j;
-      has = (adds x y j).1 (inr (e, f, refl));
-      is_left = (half_spaces signs j).1 (
-        (rules.tests signs j).1 (λ o is. absurd (let lt = place_within old.cones.items j o is in
-            omega (arith, lt, last))),
-        λ same. inside,
-      );
-    }
 
 pub no_batch_arcs : (batch : Batch) → batch.arcs.items ≡ [] → (signs : List Sign) (x y : ℕ)
     → IsBatchArc batch signs x y
@@ -176,8 +152,8 @@ batch_empty batches grown none cones tests arcs is rules =
           (length (batches ++ none ∷ []) - 1) (omega (arith, long)))) (omega (arith, ap length cones));
       arcs = λ signs x y. (
         λ h. ⊎_elim {C = IsListedArc batches signs x y} (λ o. o) (λ p. absurd (no_batch_arcs none arcs signs x y p))
-            ((any_pushed (λ b. IsBatchArc b signs x y) batches none).0 h),
-        λ o. (any_pushed (λ b. IsBatchArc b signs x y) batches none).1 (inl o),
+            ((any_pushed (λ b. IsBatchArc b signs x y) batches (batches ++ none ∷ []) none refl).0 h),
+        λ o. (any_pushed (λ b. IsBatchArc b signs x y) batches (batches ++ none ∷ []) none refl).1 (inl o),
       );
       batches = All-push IsBatch batches none rules (record {
         few = omega (arith, ap length cones);

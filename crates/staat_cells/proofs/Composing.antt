@@ -1,15 +1,55 @@
 -- Steps of the loops that join lists of signs and cells.
-use Rattle.std.proofs.Common.{◌≡◌, ℕ, ◌+◌, ◌<◌, ◌≤◌, ap, sym, ◌∙◌, refl, add-one, append_assoc, List, [], ◌∷◌, ◌++◌}
-use Rattle.std.proofs.Common.{drop, length, get_or, map, false, true, if◌then◌else◌}
-use Rattle.std.proofs.lemmas.List.{at_drop_more, drop_all, get_or-map, map-append}
+use Rattle.std.proofs.Common.{◌≡◌, ℕ, zero, suc, ◌+◌, ◌<◌, ◌≤◌, ap, arith, sym, ◌∙◌, refl, add-one, append_assoc, List, [], ◌∷◌, ◌++◌}
+use Rattle.std.proofs.Common.{drop, length, get_or, map, take, false, true, if◌then◌else◌}
+use Rattle.std.specs.Prelude.{slice_set}
+use Rattle.std.proofs.lemmas.List.{at_drop_more, drop_all, drop_more, get_or_at, get_or-map, length-take-le, map-append}
+use Rattle.std.proofs.lemmas.List.{set_at, take_all, take_more}
+use Rattle.staat_vec.specs.declared.vector.Sign.{Sign}
 use Rattle.staat_model.specs.declared.tree.Kind.{Kind}
 use Rattle.staat_model.specs.Cells.{CellEntry}
 use Rattle.staat_cells.specs.declared.cell.Cell.{Cell}
 use Rattle.staat_cells.specs.declared.incidence.Incidence.{Incidence}
-use Rattle.staat_cells.specs.Compositions.{begins_cell, begun_up_to, entry_of, composed_at, composed_up_to, no_cell, no_incidence}
+use Rattle.staat_cells.specs.Compositions.{begins_cell, begun_up_to, composed, entry_of, composed_at, composed_up_to, no_cell, no_incidence}
+use Rattle.staat_cells.specs.Beside.{then_sign}
 use Rattle.staat_cells.specs.Skeletons.{IsComposedAt}
 use Rattle.staat_cells.specs.Stages.{cell_at}
-use Rattle.staat_vec.proofs.ListLaws.{append_nothing}
+use Rattle.staat_vec.proofs.ListLaws.{any_default, append_nothing}
+
+-- ---- signs that give way to composed ones, from the first on
+
+composed_sign : (a b : List Sign) (j : ℕ) (d : Sign) → j < length a → length a ≡ length b
+    → get_or (composed a b) j d ≡ then_sign (get_or a j d) (get_or b j d)
+composed_sign [] b j d lt e = absurd (omega arith)
+composed_sign (x ∷ a) [] j d lt e = absurd (omega arith)
+composed_sign (x ∷ a) (y ∷ b) zero d lt e = refl
+composed_sign (x ∷ a) (y ∷ b) (suc j) d lt e = composed_sign a b j d (omega arith) (omega arith)
+
+composed_long : (a b : List Sign) → length a ≡ length b → length (composed a b) ≡ length a
+composed_long [] b e = refl
+composed_long (x ∷ a) [] e = absurd (omega arith)
+composed_long (x ∷ a) (y ∷ b) e = let h = composed_long a b (omega arith) in omega (arith, h)
+
+pub compose_next : (a b items : List Sign) (j : ℕ) (d e : Sign) → length a ≡ length b → j < length a
+    → items ≡ take j (composed a b) ++ drop j a
+    → slice_set items j (then_sign (get_or items j d) (get_or b j e)) ≡ take (j + 1) (composed a b) ++ drop (j + 1) a
+compose_next a b items j d e same lt is =
+    let p = take j (composed a b) in
+    let rest = drop (j + 1) a in
+    let long = composed_long a b same in
+    let p_long : length p ≡ j = length-take-le j (composed a b) (omega (arith, long, lt)) in
+    let split : items ≡ p ++ get_or a j d ∷ rest = is ∙ ap (λ l. p ++ l) (drop_more a j d lt) in
+    let value : then_sign (get_or items j d) (get_or b j e) ≡ get_or (composed a b) j d =
+    (λ i. then_sign ((ap (λ l. get_or l j d) split ∙ get_or_at p (get_or a j d) rest d j p_long) i)
+    (any_default b j e d (omega (arith, same, lt)) i)) ∙ sym (composed_sign a b j d lt same) in
+    (λ i. slice_set (split i) j (value i)) ∙ set_at p (get_or a j d) rest (get_or (composed a b) j d) j p_long
+    ∙ sym (append_assoc p (get_or (composed a b) j d ∷ []) rest)
+    ∙ ap (λ l. l ++ rest) (sym (take_more (composed a b) j d (omega (arith, long, lt))))
+
+pub compose_end : (a b items : List Sign) (j : ℕ) → length a ≡ length b → length a ≤ j
+    → items ≡ take j (composed a b) ++ drop j a → items ≡ composed a b
+compose_end a b items j same le is =
+    is ∙ (λ i. take_all j (composed a b) (let long = composed_long a b same in omega (arith, long, le)) i ++ drop_all j a le i)
+    ∙ append_nothing (composed a b)
 
 -- ---- cells of the first incidences
 

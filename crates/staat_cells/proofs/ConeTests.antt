@@ -28,7 +28,7 @@ set_bit x j k lt = ⊎_elim {C = (bit_at (bit_or x (1 * 2 ^ j % 2 ^ 128)) k ≡ 
     (same_or k j)
 
 -- a bit that is set to no purpose of Q
-clear_bit : (x j k : ℕ) (Q : Type 0) → j < 128 → (Q → ⊥)
+pub clear_bit : (x j k : ℕ) (Q : Type 0) → j < 128 → (Q → ⊥)
     → (bit_at (bit_or x (1 * 2 ^ j % 2 ^ 128)) k ≡ 0) ↔ ((bit_at x k ≡ 0) × (k ≡ j → Q))
 clear_bit x j k Q lt never = ⊎_elim {C = (bit_at (bit_or x (1 * 2 ^ j % 2 ^ 128)) k ≡ 0) ↔ ((bit_at x k ≡ 0)
     × (k ≡ j → Q))}
@@ -38,53 +38,12 @@ clear_bit x j k Q lt never = ⊎_elim {C = (bit_at (bit_or x (1 * 2 ^ j % 2 ^ 12
     (λ h. (sym kept ∙ h, λ e. absurd (ne e)), λ h. kept ∙ h.0))
     (same_or k j)
 
-same_bit : (x j k : ℕ) (s : Sign) → (bit_at x k ≡ 0) ↔ ((bit_at x k ≡ 0) × (k ≡ j → s ≡ s))
-same_bit x j k s = (λ h. (h, λ e. refl), λ h. h.0)
-
-module _ (o : List ℕ) (j : ℕ) (lt : j < 128) where
-  abbrev Bit : ℕ
-  Bit = 1 * 2 ^ j % 2 ^ 128
-
-  -- the words are those with the cone j on the side s
-  abbrev IsGrown : List ℕ → Sign → Type 0
-  IsGrown new s = (t : Sign) (k : ℕ) → (bit_at (slice_index new (sign_place t)) k ≡ 0)
-      ↔ ((bit_at (slice_index o (sign_place t)) k ≡ 0) × (k ≡ j → t ≡ s))
-
-  below_it : IsGrown (slice_index o 0 ∷ bit_or (slice_index o 1) Bit ∷ bit_or (slice_index o 2) Bit ∷ []) Neg
-  below_it Neg k = same_bit (slice_index o 0) j k Neg
-  below_it Zero k = clear_bit (slice_index o 1) j k (Zero ≡ Neg) lt (λ e. cc)
-  below_it Pos k = clear_bit (slice_index o 2) j k (Pos ≡ Neg) lt (λ e. cc)
-
-  on_it : IsGrown (bit_or (slice_index o 0) Bit ∷ slice_index o 1 ∷ bit_or (slice_index o 2) Bit ∷ []) Zero
-  on_it Neg k = clear_bit (slice_index o 0) j k (Neg ≡ Zero) lt (λ e. cc)
-  on_it Zero k = same_bit (slice_index o 1) j k Zero
-  on_it Pos k = clear_bit (slice_index o 2) j k (Pos ≡ Zero) lt (λ e. cc)
-
-  above_it : IsGrown (bit_or (slice_index o 0) Bit ∷ bit_or (slice_index o 1) Bit ∷ slice_index o 2 ∷ []) Pos
-  above_it Neg k = clear_bit (slice_index o 0) j k (Neg ≡ Pos) lt (λ e. cc)
-  above_it Zero k = clear_bit (slice_index o 1) j k (Zero ≡ Pos) lt (λ e. cc)
-  above_it Pos k = same_bit (slice_index o 2) j k Pos
-
-  pub grown_below : (s : Sign) → s ≡ Neg
-      → IsGrown (slice_index o 0 ∷ bit_or (slice_index o 1) Bit ∷ bit_or (slice_index o 2) Bit ∷ []) s
-  grown_below s e =
-      subst (IsGrown (slice_index o 0 ∷ bit_or (slice_index o 1) Bit ∷ bit_or (slice_index o 2) Bit ∷ []))
-      (sym e)
-      below_it
-
-  pub grown_on : (s : Sign) → s ≡ Zero
-      → IsGrown (bit_or (slice_index o 0) Bit ∷ slice_index o 1 ∷ bit_or (slice_index o 2) Bit ∷ []) s
-  grown_on s e =
-      subst (IsGrown (bit_or (slice_index o 0) Bit ∷ slice_index o 1 ∷ bit_or (slice_index o 2) Bit ∷ []))
-      (sym e)
-      on_it
-
-  pub grown_above : (s : Sign) → s ≡ Pos
-      → IsGrown (bit_or (slice_index o 0) Bit ∷ bit_or (slice_index o 1) Bit ∷ slice_index o 2 ∷ []) s
-  grown_above s e =
-      subst (IsGrown (bit_or (slice_index o 0) Bit ∷ bit_or (slice_index o 1) Bit ∷ slice_index o 2 ∷ []))
-      (sym e)
-      above_it
+-- what holds of the word of each side holds of the test
+pub each_side : (P : Sign → ℕ → Type 0) (below on above : ℕ) → P Neg below → P Zero on → P Pos above
+    → (t : Sign) → P t (slice_index (below ∷ on ∷ above ∷ []) (sign_place t))
+each_side P below on above n z p Neg = n
+each_side P below on above n z p Zero = z
+each_side P below on above n z p Pos = p
 
 -- ---- a half-space more
 

@@ -13,21 +13,24 @@ use Rattle.staat_model.specs.Cells.{kind_of, signs_of, CellEntry, IsBorder, IsCe
 use Rattle.staat_model.proofs.Corners.{HoldsAxes}
 use Rattle.staat_model.proofs.EndLemmas.{edge_has_sum, edge_sum_in}
 use Rattle.staat_model.proofs.PlaneLemmas.{NoneParallel}
+use Rattle.staat_pairs.specs.Tables.{AreTablePlanes}
 use Rattle.staat_cells.specs.Compositions.{composed, composed_cell}
 use Rattle.staat_cells.specs.Stages.{cell_at, IsUnder}
-use Rattle.staat_cells.proofs.Listed.{entry_at, composed_signs, not_same, place_of, StandsAt}
+use Rattle.staat_cells.proofs.Borders.{HasTwo, IsOnBorder, some_under, two_under}
+use Rattle.staat_cells.proofs.Grouping.{AreMadeUp}
+use Rattle.staat_cells.proofs.Listed.{entry_at, composed_signs, not_same}
+use Rattle.staat_cells.proofs.TableRules.{holds_axes, planes_apart, planes_some}
 use Rattle.staat_cells.proofs.VertexSigns.{same_vertex, vertex_point}
 use Rattle.staat_vec.proofs.VectorLists.{one_of_two}
 use Rattle.staat_vec.proofs.VectorLaws.{plus_comm}
 use Rattle.staat_vec.proofs.VectorOrder.{vector_not_below_itself}
-use Rattle.staat_vec.proofs.Naturals.{same_or}
 use Rattle.staat_model.proofs.ListedVertices.{vertex_some}
 
-module _ (planes : List V3) (axes : HoldsAxes planes) (apart : NoneParallel planes) (some : (g : V3) → Contains planes g → g ≢ origin) where
+module _ (planes : List V3) (rules : AreTablePlanes planes) where
   -- the sum of any two different ends is the representative
   pub sum_of_ends : (s : List Sign) (u v : V3) → IsCell planes s → kind_of s ≡ Edge → IsEnd planes s u → IsEnd planes s v → u ≢ v → IsEdgeSum planes s (plus u v)
   sum_of_ends s u v cell edge u_end v_end differ =
-      let (d, e) = edge_has_sum planes s axes apart some cell edge in
+      let (d, e) = edge_has_sum planes s (holds_axes planes rules) (planes_apart planes rules) (planes_some planes rules) cell edge in
       let l = e.ends in
       go d e (one_of_two e.u e.v u (l.all u u_end)) (one_of_two e.u e.v v (l.all v v_end))
     where
@@ -37,69 +40,56 @@ module _ (planes : List V3) (axes : HoldsAxes planes) (apart : NoneParallel plan
       go d e (inl p) (inr q) = record { u = e.u; v = e.v; ends = e.ends; is = λ i. plus (p i) (q i) }
       go d e (inr p) (inl q) = record { u = e.u; v = e.v; ends = e.ends; is = (λ i. plus (p i) (q i)) ∙ plus_comm e.v e.u }
 
-module _ (planes : List V3) (axes : HoldsAxes planes) (apart : NoneParallel planes) (some : (g : V3) → Contains planes g → g ≢ origin) (points : List CellEntry) (are : AreCellsOf planes Point points) where
+module _ (planes : List V3) (rules : AreTablePlanes planes) (points : List CellEntry) (are : AreCellsOf planes Point points) where
+  axes : HoldsAxes planes
+  axes = holds_axes planes rules
+
+  apart : NoneParallel planes
+  apart = planes_apart planes rules
+
+  some : (g : V3) → Contains planes g → g ≢ origin
+  some = planes_some planes rules
+
   -- the vertex of a listed point
   pub point_in : (k : ℕ) → k < length points → Contains (vertices planes) (cell_at points k).d × (signs_of planes (cell_at points k).d ≡ (cell_at points k).signs)
   point_in k lt = let e = entry_at planes Point points are k lt in IsFirst-in (λ v. signs_of planes v ≡ (cell_at points k).signs) (vertices planes) (cell_at points k).d e.representative
 
-  -- each vertex is listed
-  record IsListedAt (v : V3) (k : ℕ) : Type 0 where
-    stands : StandsAt planes Point points are (signs_of planes v) k
-    is : (cell_at points k).d ≡ v
-
-  listed : (v : V3) → Contains (vertices planes) v → (k : ℕ) × IsListedAt v k
-  listed v v_in =
-      let (k, stands) = place_of planes Point points are (signs_of planes v) (record { d = v; nonzero = vertex_some planes v apart v_in; is = refl }) (vertex_point planes v apart v_in) in
-      let p = point_in k stands.lt in
-      (k, record { stands = stands; is = same_vertex planes (cell_at points k).d v axes apart p.0 v_in (p.1 ∙ stands.is) })
-
-  end_under : (s : List Sign) (v : V3) (k : ℕ) → IsCell planes s → kind_of s ≡ Edge → IsEnd planes s v → IsListedAt v k → IsUnder planes Edge points s k
-  end_under s v k cell edge end at = let a = at.stands in record { cell = cell; by_count = edge; listed = a.lt; border = subst (λ t. IsBorder t s) (sym a.is) end.border }
-
   under_end : (s : List Sign) (k : ℕ) → IsUnder planes Edge points s k → IsEnd planes s (cell_at points k).d
   under_end s k u = let p = point_in k u.listed in record { vertex = p.0; border = subst (λ t. IsBorder t s) (sym p.1) u.border }
 
+  end_on : (s : List Sign) (v : V3) → IsEnd planes s v → IsOnBorder planes Point s (signs_of planes v)
+  end_on s v end = record {
+    cell = record { d = v; nonzero = vertex_some planes v apart end.vertex; is = refl };
+    by_count = vertex_point planes v apart end.vertex;
+    border = end.border;
+  }
+
   -- the two ends of an edge
-  ends_of : (s : List Sign) → IsCell planes s → kind_of s ≡ Edge → (d : V3) × IsEdgeSum planes s d
-  ends_of s cell edge = edge_has_sum planes s axes apart some cell edge
+  two_ends : (s : List Sign) → IsCell planes s → kind_of s ≡ Edge → HasTwo planes Point s
+  two_ends s cell edge =
+      let (d, e) = edge_has_sum planes s axes apart some cell edge in
+      let l = e.ends in
+      let first = l.each e.u (0, omega arith, refl) in
+      let second = l.each e.v (1, omega arith, refl) in
+      let less = All-contains (λ q. vector_cmp e.u q ≡ Less) (e.v ∷ []) e.v (All-after_first vector_cmp e.u (e.v ∷ []) l.ascending) (0, omega arith, refl) in
+      record {
+        e = signs_of planes e.u;
+        f = signs_of planes e.v;
+        e_is = end_on s e.u first;
+        f_is = end_on s e.v second;
+        different = λ p. vector_not_below_itself e.v (subst (λ z. vector_cmp z e.v ≡ Less)
+            (same_vertex planes e.u e.v axes apart first.vertex second.vertex p) less);
+      }
 
-  first_end : (s : List Sign) (d : V3) → (e : IsEdgeSum planes s d) → IsEnd planes s e.u
-  first_end s d e = let l = e.ends in l.each e.u (0, omega arith, refl)
-
-  second_end : (s : List Sign) (d : V3) → (e : IsEdgeSum planes s d) → IsEnd planes s e.v
-  second_end s d e = let l = e.ends in l.each e.v (1, omega arith, refl)
-
-  ends_differ : (s : List Sign) (d : V3) → (e : IsEdgeSum planes s d) → e.u ≢ e.v
-  ends_differ s d e p = let l = e.ends in vector_not_below_itself e.v (subst (λ z. vector_cmp z e.v ≡ Less) p (All-contains (λ q. vector_cmp e.u q ≡ Less) (e.v ∷ []) e.v (All-after_first vector_cmp e.u (e.v ∷ []) l.ascending) (0, omega arith, refl)))
-
-  pub edge_some : (s : List Sign) → IsCell planes s → kind_of s ≡ Edge → (k : ℕ) × IsUnder planes Edge points s k
-  edge_some s cell edge =
-      let (d, e) = ends_of s cell edge in
-      let end = first_end s d e in
-      let (k, at) = listed e.u end.vertex in
-      (k, end_under s e.u k cell edge end at)
-
-  pub edge_two : (s : List Sign) (k : ℕ) → IsUnder planes Edge points s k → (j : ℕ) × IsUnder planes Edge points s j × (j ≢ k)
-  edge_two s k under =
-      let (d, e) = ends_of s under.cell under.by_count in
-      let first = first_end s d e in
-      let second = second_end s d e in
-      let (i, at_i) = listed e.u first.vertex in
-      let (j, at_j) = listed e.v second.vertex in
-      go e.u e.v i j (ends_differ s d e) first second at_i at_j (same_or i k)
-    where
-      go : (u v : V3) (i j : ℕ) → u ≢ v → IsEnd planes s u → IsEnd planes s v → IsListedAt u i → IsListedAt v j → (i ≡ k) ⊎ (i ≢ k) → (j : ℕ) × IsUnder planes Edge points s j × (j ≢ k)
-      go u v i j differ first second at_i at_j (inr n) = (i, end_under s u i under.cell under.by_count first at_i, n)
-      go u v i j differ first second at_i at_j (inl e) = (j, end_under s v j under.cell under.by_count second at_j, λ f. differ (sym at_i.is ∙ ap (λ m. (cell_at points m).d) (e ∙ sym f) ∙ at_j.is))
-
-  pub edge_entry : (s : List Sign) (j k : ℕ) → IsUnder planes Edge points s j → IsUnder planes Edge points s k → j < k → ((m : ℕ) → IsUnder planes Edge points s m → (m ≡ j) ⊎ ((m ≡ k) ⊎ (k < m)))
+  edge_entry : (s : List Sign) (j k : ℕ) → IsUnder planes Edge points s j → IsUnder planes Edge points s k → j < k → ((m : ℕ) → IsUnder planes Edge points s m → (m ≡ j) ⊎ ((m ≡ k) ⊎ (k < m)))
       → IsEntry planes Edge (composed_cell Edge (cell_at points j) (cell_at points k)) × (composed (cell_at points j).signs (cell_at points k).signs ≡ s)
   edge_entry s j k uj uk lt least =
       let p = point_in j uj.listed in
       let q = point_in k uk.listed in
       let u = (cell_at points j).d in
       let v = (cell_at points k).d in
-      let sum = sum_of_ends planes axes apart some s u v uj.cell uj.by_count (under_end s j uj) (under_end s k uk) (λ e. not_same planes Point points are j k lt uk.listed (sym p.1 ∙ ap (signs_of planes) e ∙ q.1)) in
+      let sum = sum_of_ends planes rules s u v uj.cell uj.by_count (under_end s j uj) (under_end s k uk)
+      (λ e. not_same planes Point points are j k lt uk.listed (sym p.1 ∙ ap (signs_of planes) e ∙ q.1)) in
       let on = edge_sum_in planes s axes apart some uj.cell uj.by_count (plus u v) sum in
       let bu = let b = under_end s j uj in b.border in
       let bv = let b = under_end s k uk in b.border in
@@ -112,3 +102,10 @@ module _ (planes : List V3) (axes : HoldsAxes planes) (apart : NoneParallel plan
         },
         signs,
       )
+
+  pub edges_made_up : AreMadeUp planes Edge points
+  edges_made_up = record {
+    some = λ s cell edge. some_under planes Point Edge points are s cell edge (two_ends s cell edge);
+    two = λ s k u. two_under planes Point Edge points are s k u (two_ends s u.cell u.by_count);
+    entry = edge_entry;
+  }

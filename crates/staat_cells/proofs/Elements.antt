@@ -25,8 +25,8 @@ use Rattle.std.proofs.lemmas.List.Elements.{Contains-append_left, Contains-push,
 use Rattle.std.specs.Prelude.{Some}
 
 module _ {X : Type 0} (P : X → Type 0) where
-  pub any_pushed : (xs : List X) (x : X) → Any P (xs ++ x ∷ []) ↔ (Any P xs ⊎ P x)
-  any_pushed xs x = (from, to)
+  pub any_pushed : (xs new : List X) (x : X) → new ≡ xs ++ x ∷ [] → Any P new ↔ (Any P xs ⊎ P x)
+  any_pushed xs new x is = subst (λ l. Any P l ↔ (Any P xs ⊎ P x)) (sym is) (from, to)
     where
       from : Any P (xs ++ x ∷ []) → Any P xs ⊎ P x
       from (k, y, lt, e, p) = ⊎_elim {C = Any P xs ⊎ P x} (λ c. inl (c.0, y, c.1, c.2, p))
@@ -60,10 +60,7 @@ module _ {X : Type 0} (P : X → Type 0) where
 
   pub any_more : (xs : List X) (k : ℕ) (x : X) → k < length xs → x ≡ get_or xs k x
       → Any P (take (k + 1) xs) ↔ (Any P (take k xs) ⊎ P x)
-  any_more xs k x lt at = subst (λ l. Any P l ↔ (Any P (take k xs) ⊎ P x)) (sym grown) (any_pushed (take k xs) x)
-    where
-      grown : take (k + 1) xs ≡ take k xs ++ x ∷ []
-      grown = take_more xs k x lt ∙ ap (λ y. take k xs ++ y ∷ []) (sym at)
+  any_more xs k x lt at = any_pushed (take k xs) (take (k + 1) xs) x (take_more xs k x lt ∙ ap (λ y. take k xs ++ y ∷ []) (sym at))
 
   -- a member gives way to one with P exactly where it has P and Q holds
   pub all_set : (xs : List X) (k : ℕ) (d y : X) (Q : Type 0) → k < length xs → P y ↔ (P (get_or xs k d) × Q)

@@ -1,9 +1,8 @@
 -- The facets of two pieces by their planes, one more at a time.
 use Rattle.std.proofs.Common.{◌≡◌, ◌↔◌, ℕ, zero, suc, ◌+◌, ◌≤◌, sym, ap, subst}
 use Rattle.std.proofs.Common.{◌≢◌, ◌∙◌, ⊎_elim, arith, Contains}
-use Rattle.std.proofs.Common.{ℤ, pos, neg_ℤ, ◌<ℤ◌, List, [], ◌∷◌, ◌++◌, length, take, All}
+use Rattle.std.proofs.Common.{pos, ◌<ℤ◌, List, [], ◌∷◌, ◌++◌, length, take, All}
 use Rattle.std.specs.Prelude.{Some, slice_get}
-use Rattle.std.proofs.lemmas.Int.{ints}
 use Rattle.std.proofs.lemmas.List.{take_all}
 use Rattle.std.proofs.lemmas.List.Elements.{All-contains}
 use Rattle.std.proofs.lemmas.Option.{slice_get-get_or}
@@ -26,7 +25,7 @@ use Rattle.staat_model.specs.declared.certificate.Arc.{Arc}
 use Rattle.staat_model.proofs.Decisions.{nat_or}
 use Rattle.staat_model.proofs.Members.{All-from_members}
 use Rattle.staat_cells.proofs.Elements.{all_pushed}
-use Rattle.staat_vec.proofs.Integers.{turned_negative}
+use Rattle.staat_vec.proofs.Integers.{opposite_positive_back, turned_negative}
 use Rattle.staat_vec.proofs.ListLaws.{take_next}
 use Rattle.staat_vec.proofs.Signs.{positive_sign, negative_sign, sign_positive, sign_negative}
 use Rattle.staat_vec.proofs.VectorLaws.{some_square}
@@ -37,36 +36,14 @@ sign_there [] k g d e = cc
 sign_there (h ∷ planes) zero g d e = cc
 sign_there (h ∷ planes) (suc k) g d e = sign_there planes k g d e
 
--- ---- the half-space of a plane
-
-pub ahead_positive : (planes : List V3) (n d : V3) (k : ℕ) → slice_get planes k ≡ Some n
-    → IsInHalfSpace (signs_of planes d) (record { plane = k; sign = Pos }) ↔ (pos 0 <ℤ dot n d)
-ahead_positive planes n d k at =
-    let here = sign_there planes k n d at in (
-      λ h. sign_positive (dot n d) (sym here ∙ h),
-      λ lt. here ∙ positive_sign (dot n d) lt,
-    )
-
-pub ahead_negative : (planes : List V3) (n d : V3) (k : ℕ) → slice_get planes k ≡ Some (negative n)
-    → IsInHalfSpace (signs_of planes d) (record { plane = k; sign = Neg }) ↔ (pos 0 <ℤ dot n d)
-ahead_negative planes n d k at =
-    let here = sign_there planes k (negative n) d at in (
-      λ h. turned_back (dot n d) (dot (negative n) d) (negative_dot n d)
-          (sign_negative (dot (negative n) d) (sym here ∙ h)),
-      λ lt. here ∙ negative_sign (dot (negative n) d)
-          (turned_negative (dot n d) (dot (negative n) d) (negative_dot n d) lt),
-    )
-  where
-    turned_back : (a b : ℤ) → b ≡ neg_ℤ a → b <ℤ pos 0 → pos 0 <ℤ a
-    turned_back a b e lt = omega (arith, ints, e, lt)
-
 -- ---- the half-space of a facet
 
-sign_of_square : (n : V3) → n ≢ origin → sign (dot n n) ≡ Pos
-sign_of_square n some = positive_sign (dot n n) (some_square n some)
+pub own_positive : (n : V3) → n ≢ origin → canon n ≡ n → sign (dot (canon n) n) ≡ Pos
+own_positive n some same = ap (λ m. sign (dot m n)) same ∙ positive_sign (dot n n) (some_square n some)
 
-sign_of_turned : (n : V3) → n ≢ origin → sign (dot (negative n) n) ≡ Neg
-sign_of_turned n some = negative_sign (dot (negative n) n) (turned_negative (dot n n) (dot (negative n) n) (negative_dot n n) (some_square n some))
+pub own_negative : (n : V3) → n ≢ origin → canon n ≡ negative n → sign (dot (canon n) n) ≡ Neg
+own_negative n some turned = ap (λ m. sign (dot m n)) turned
+    ∙ negative_sign (dot (negative n) n) (turned_negative (dot n n) (dot (negative n) n) (negative_dot n n) (some_square n some))
 
 -- a plane stands at one place
 one_place : (planes : List V3) → AreTablePlanes planes → (k m : ℕ) (n : V3) → slice_get planes k ≡ Some n
@@ -74,26 +51,13 @@ one_place : (planes : List V3) → AreTablePlanes planes → (k m : ℕ) (n : V3
 one_place planes rules k m n at also = ⊎_elim {C = k ≡ m} (λ e. e)
     (λ ne. absurd (rules.apart k m n n at also ne (cross_self n))) (nat_or k m)
 
-module _ (planes : List V3) (rules : AreTablePlanes planes) (n : V3) (some : n ≢ origin) (k : ℕ) where
-  pub half_space_positive : slice_get planes k ≡ Some n → canon n ≡ n → (signs : List Sign)
-      → IsInHalfSpace signs (record { plane = k; sign = Pos }) ↔ IsSignAhead planes signs n
-  half_space_positive at same signs = (
-    λ h. record { plane = k; at = at ∙ ap Some (sym same); same = h ∙ sym own },
-    λ h. ap (sign_at signs) (one_place planes rules k h.plane n at (h.at ∙ ap Some same)) ∙ h.same ∙ own,
-  )
-    where
-      own : sign (dot (canon n) n) ≡ Pos
-      own = ap (λ m. sign (dot m n)) same ∙ sign_of_square n some
-
-  pub half_space_negative : slice_get planes k ≡ Some (negative n) → canon n ≡ negative n → (signs : List Sign)
-      → IsInHalfSpace signs (record { plane = k; sign = Neg }) ↔ IsSignAhead planes signs n
-  half_space_negative at same signs = (
-    λ h. record { plane = k; at = at ∙ ap Some (sym same); same = h ∙ sym own },
-    λ h. ap (sign_at signs) (one_place planes rules k h.plane (negative n) at (h.at ∙ ap Some same)) ∙ h.same ∙ own,
-  )
-    where
-      own : sign (dot (canon n) n) ≡ Neg
-      own = ap (λ m. sign (dot m n)) same ∙ sign_of_turned n some
+pub half_space_is : (planes : List V3) → AreTablePlanes planes → (n : V3) (k : ℕ) (t : Sign) → slice_get planes k ≡ Some (canon n)
+    → sign (dot (canon n) n) ≡ t → (signs : List Sign)
+    → IsInHalfSpace signs (record { plane = k; sign = t }) ↔ IsSignAhead planes signs n
+half_space_is planes rules n k t at own signs = (
+  λ h. record { plane = k; at = at; same = h ∙ sym own },
+  λ h. ap (sign_at signs) (one_place planes rules k h.plane (canon n) at h.at) ∙ h.same ∙ own,
+)
 
 -- by the signs of a direction it is ahead of a facet exactly where it is ahead of it
 ahead_by_sign : (planes : List V3) (rules : AreTablePlanes planes) (n d : V3) → IsTableFacet planes n
@@ -102,13 +66,19 @@ ahead_by_sign planes rules n d facet =
     let (k, lt, is) = facet.plane in
     let at : slice_get planes k ≡ Some (canon n) = slice_get-get_or planes k (canon n) lt ∙ ap Some is in
     let some = IsPrimitive-some n facet.primitive in
+    let there = sign_there planes k (canon n) d at in
+    let m = negative n in
     ⊎_elim {C = IsSignAhead planes (signs_of planes d) n ↔ (pos 0 <ℤ dot n d)}
-    (λ e. let here = at ∙ ap Some e in
-    let half_space = half_space_positive planes rules n some k here e (signs_of planes d) in
-    let law = ahead_positive planes n d k here in (λ h. law.0 (half_space.1 h), λ lt. half_space.0 (law.1 lt)))
-    (λ e. let here = at ∙ ap Some e in
-    let half_space = half_space_negative planes rules n some k here e (signs_of planes d) in
-    let law = ahead_negative planes n d k here in (λ h. law.0 (half_space.1 h), λ lt. half_space.0 (law.1 lt)))
+    (λ e. let here = there ∙ ap (λ g. sign (dot g d)) e in
+    let half_space = half_space_is planes rules n k Pos at (own_positive n some e) (signs_of planes d) in (
+      λ h. sign_positive (dot n d) (sym here ∙ half_space.1 h),
+      λ up. half_space.0 (here ∙ positive_sign (dot n d) up),
+    ))
+    (λ e. let here = there ∙ ap (λ g. sign (dot g d)) e in
+    let half_space = half_space_is planes rules n k Neg at (own_negative n some e) (signs_of planes d) in (
+      λ h. opposite_positive_back (dot m d) (dot n d) (negative_dot n d) (sign_negative (dot m d) (sym here ∙ half_space.1 h)),
+      λ up. half_space.0 (here ∙ negative_sign (dot m d) (turned_negative (dot n d) (dot m d) (negative_dot n d) up)),
+    ))
     (canon-either n)
 
 pub ahead_by_signs : (t : Table) (d : V3) (a b : ℕ) → IsTable t

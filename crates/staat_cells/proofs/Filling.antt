@@ -9,10 +9,9 @@ use Rattle.std.proofs.lemmas.Nat.{and_mod, and_shr}
 use Rattle.staat_vec.specs.declared.vector.Sign.{Sign}
 use Rattle.staat_vec.specs.declared.vector.Sign.TheVariants.{Neg, Zero, Pos}
 use Rattle.staat_model.specs.Cells.{sign_place}
-use Rattle.staat_cells.specs.declared.incidence.Incidence.{Incidence}
 use Rattle.staat_cells.specs.Beside.{filled, then_sign}
 use Rattle.staat_cells.specs.ZeroSigns.{IsSignWord}
-use Rattle.staat_cells.specs.Packing.{incidence_of, packed, packed_after}
+use Rattle.staat_cells.specs.Packing.{packed, packed_after}
 use Rattle.staat_cells.proofs.ZeroSignLemmas.{below}
 use Rattle.staat_cells.proofs.Words.{length_taken}
 
@@ -148,34 +147,10 @@ word_fits word h =
 pub word_of : (word : ℕ) (s : List Sign) → word ≡ packed (take 64 s) → IsSignWord word
 word_of word s e = record { signs = take 64 s; is = sym e; few = length_taken s }
 
--- the rest of a filled list is the filled rest
-rest_filled : (t : Sign) (s : List Sign) → drop 64 (filled t s) ≡ filled t (drop 64 s)
-rest_filled t s = drop-map (λ x. then_sign x t) 64 s
-
-first_filled : (t : Sign) (s : List Sign) → packed (filled t (take 64 s)) ≡ packed (take 64 (filled t s))
-first_filled t s = ap packed (sym (take-map (λ x. then_sign x t) 64 s))
-
--- the words of the filled signs, given that the four new words are filled
-pub filled_words : (t : Sign) (s : List Sign) (x : Incidence) (a b c d : ℕ) → x ≡ incidence_of s x.of
-    → ((l : List Sign) → packed l ≡ x.a → length l ≤ 64 → a ≡ packed (filled t l))
-    → ((l : List Sign) → packed l ≡ x.b → length l ≤ 64 → b ≡ packed (filled t l))
-    → ((l : List Sign) → packed l ≡ x.c → length l ≤ 64 → c ≡ packed (filled t l))
-    → ((l : List Sign) → packed l ≡ x.d → length l ≤ 64 → d ≡ packed (filled t l))
-    → record { a = a; b = b; c = c; d = d; of = x.of } ≡ incidence_of (filled t s) x.of
-filled_words t s x a b c d is fa fb fc fd =
-    let s1 = drop 64 s in
-    let s2 = drop 64 s1 in
-    let s3 = drop 64 s2 in
-    let r1 : filled t s1 ≡ drop 64 (filled t s) = sym (rest_filled t s) in
-    let r2 : filled t s2 ≡ drop 64 (drop 64 (filled t s)) = sym (rest_filled t s1) ∙ ap (drop 64) r1 in
-    let r3 : filled t s3 ≡ drop 64 (drop 64 (drop 64 (filled t s))) = sym (rest_filled t s2) ∙ ap (drop 64) r2 in
-    λ i. record {
-      a = (fa (take 64 s) (sym (ap (λ y. y.a) is)) (length_taken s) ∙ first_filled t s) i;
-      b = (fb (take 64 s1) (sym (ap (λ y. y.b) is)) (length_taken s1) ∙ first_filled t s1
-          ∙ ap (λ l. packed (take 64 l)) r1) i;
-      c = (fc (take 64 s2) (sym (ap (λ y. y.c) is)) (length_taken s2) ∙ first_filled t s2
-          ∙ ap (λ l. packed (take 64 l)) r2) i;
-      d = (fd (take 64 s3) (sym (ap (λ y. y.d) is)) (length_taken s3) ∙ first_filled t s3
-          ∙ ap (λ l. packed (take 64 l)) r3) i;
-      of = x.of;
-    }
+-- the word of the filled signs from n on, where the new word is the filled one
+pub filled_word_at : (n : ℕ) (t : Sign) (s : List Sign) (word new : ℕ) → word ≡ packed (take 64 (drop n s))
+    → ((l : List Sign) → packed l ≡ word → length l ≤ 64 → new ≡ packed (filled t l))
+    → new ≡ packed (take 64 (drop n (filled t s)))
+filled_word_at n t s word new e given =
+    given (take 64 (drop n s)) (sym e) (length_taken (drop n s))
+    ∙ ap packed (sym (take-map (λ x. then_sign x t) 64 (drop n s)) ∙ ap (take 64) (sym (drop-map (λ x. then_sign x t) n s)))

@@ -1,18 +1,17 @@
 -- The rows of the graph of a cell, batch by batch.
 use Rattle.std.proofs.Common.{◌≡◌, ◌≢◌, ◌⊎◌, ◌↔◌, inl, inr, ⊎_elim, ℕ, ◌+◌, ◌<◌}
-use Rattle.std.proofs.Common.{◌≤◌, refl, sym, ap, subst, ◌∙◌, arith}
+use Rattle.std.proofs.Common.{◌≤◌, refl, sym, subst, ◌∙◌, arith}
 use Rattle.std.proofs.Common.{List, [], length, get_or, replicate, take, Any}
 use Rattle.std.specs.Prelude.{slice_index, slice_set}
 use Rattle.std.specs.Int.{bit_at}
-use Rattle.std.proofs.lemmas.List.{get_or_past, get_or-replicate, length-set, take_all}
-use Rattle.std.proofs.lemmas.Nat.Bits.{bit_at-zero}
+use Rattle.std.proofs.lemmas.List.{length-set, take_all}
 use Rattle.staat_vec.specs.declared.vector.V3.{V3}
 use Rattle.staat_vec.specs.declared.vector.Sign.{Sign}
 use Rattle.staat_model.specs.declared.assembly.Part.{Part}
 use Rattle.staat_model.specs.Cells.{signs_of}
 use Rattle.staat_graph.specs.Blocking.{ShowsBlocking}
 use Rattle.staat_graph.specs.Graphs.{HasArc}
-use Rattle.staat_graph.proofs.Arcs.{row_set}
+use Rattle.staat_graph.proofs.Arcs.{empty_graph, row_set}
 use Rattle.staat_pairs.specs.Tables.{IsTable, Table, WasMadeFrom}
 use Rattle.staat_planes.specs.Tables.{IsAhead}
 use Rattle.staat_planes.proofs.GraphLaw.{arcs_are_blocking, shows_blocking}
@@ -21,10 +20,8 @@ use Rattle.staat_cells.specs.declared.joined_batches.JoinedBatch.{JoinedBatch}
 use Rattle.staat_cells.specs.declared.joined_batches.JoinedTest.{JoinedTest}
 use Rattle.staat_cells.specs.Batches.{HasLeft, IsJoinedArc, IsLeft, IsLeftByAll, joined_outside}
 use Rattle.staat_cells.specs.CellGraphs.{HasArcsOf, IsAheadBy, IsArcAt, IsCellGraph}
-use Rattle.staat_cells.proofs.Elements.{any_more}
 use Rattle.staat_cells.proofs.FacetPlanes.{ahead_by_signs}
-use Rattle.staat_cells.proofs.PushingIncidences.{either_more}
-use Rattle.staat_vec.proofs.Naturals.{lt_or_le}
+use Rattle.staat_cells.proofs.Growing.{grown_first, grown_none, grown_take}
 
 -- ---- the arcs of a batch
 
@@ -38,10 +35,7 @@ pub record AddsLeft (outside : ℕ) (arcs : List ArcCones) (old new : List ℕ) 
   pub has : (a b : ℕ) → HasArc new a b ↔ (HasArc old a b ⊎ Any (IsArcLeft outside a b) arcs)
 
 pub none_left : (outside : ℕ) (rows : List ℕ) → AddsLeft outside [] rows rows
-none_left outside rows = record {
-  long = λ e. e;
-  has = λ a b. (λ h. inl h, ⊎_elim (λ h. h) (λ p. absurd (let lt = p.2 in omega (arith, lt))));
-}
+none_left outside rows = record { long = λ e. e; has = λ a b. grown_none (λ p. let lt = p.2 in omega (arith, lt)) }
 
 one_left : (outside word : ℕ) (x : ArcCones) (rows : List ℕ) → x.a < length rows
     → ((q : ℕ) → (bit_at word q ≡ 1) ↔ ((bit_at (slice_index rows x.a) q ≡ 1) ⊎ ((q ≡ x.b)
@@ -68,9 +62,8 @@ pub left_more : (outside word k : ℕ) (arcs : List ArcCones) (x : ArcCones) (ol
     → AddsLeft outside (take k arcs) old mid → AddsLeft outside (take (k + 1) arcs) old (slice_set mid x.a word)
 left_more outside word k arcs x old mid is lt at small bits before = record {
   long = λ e. length-set mid x.a word ∙ before.long e;
-  has = λ a b. either_more (before.has a b)
-      (one_left outside word x mid (let e = before.long is in omega (arith, e, small)) bits a b)
-      (any_more (IsArcLeft outside a b) arcs k x lt at);
+  has = λ a b. grown_take (IsArcLeft outside a b) arcs k x lt at (before.has a b)
+      (one_left outside word x mid (let e = before.long is in omega (arith, e, small)) bits a b);
 }
 
 pub batch_arcs : (batch : JoinedBatch) (signs : List Sign) (outside k : ℕ) (arcs : List ArcCones) (tests : List JoinedTest)
@@ -116,43 +109,20 @@ batch_arcs batch signs outside k arcs tests old new arcs_are tests_are le ruled 
 
 -- ---- all batches
 
--- the rows have the arcs of the first batches
+-- no rows have grown by the arcs of the first batches
 abbrev pub HasArcsUpTo : List ℕ → List JoinedBatch → List Sign → ℕ → Type 0
-HasArcsUpTo rows batches signs k = (a b : ℕ) → HasArc rows a b ↔ IsArcAt (take k batches) signs a b
-
-pub no_rows : (batches : List JoinedBatch) (signs : List Sign) → HasArcsUpTo (replicate 32 0) batches signs 0
-no_rows batches signs a b = (λ h. absurd (none h), λ h. absurd (let lt = h.2 in omega (arith, lt)))
-  where
-    zero_row : slice_index (replicate 32 0) a ≡ 0
-    zero_row = ⊎_elim (λ lt. get_or-replicate 32 a 0 0 lt) (λ le. get_or_past (replicate 32 0) a 0 le) (lt_or_le a 32)
-
-    none : HasArc (replicate 32 0) a b → ⊥
-    none h = let e : bit_at (slice_index (replicate 32 0) a) b ≡ 0 =
-        ap (λ r. bit_at r b) zero_row ∙ bit_at-zero b in absurd (omega (arith, e, h))
-
-pub rows_after : (batches : List JoinedBatch) (signs : List Sign) (k : ℕ) (x : JoinedBatch) (old new : List ℕ)
-    → k < length batches → x ≡ get_or batches k x
-    → ((a b : ℕ) → HasArc new a b ↔ (HasArc old a b ⊎ IsJoinedArc x signs a b))
-    → HasArcsUpTo old batches signs k → HasArcsUpTo new batches signs (k + 1)
-rows_after batches signs k x old new lt at grew before a b =
-    let more = any_more (λ batch. IsJoinedArc batch signs a b) batches k x lt at in (
-      λ h. more.1 (⊎_elim {C = IsArcAt (take k batches) signs a b ⊎ IsJoinedArc x signs a b}
-          (λ o. inl ((before a b).0 o)) (λ p. inr p) ((grew a b).0 h)),
-      λ h. (grew a b).1 (⊎_elim {C = HasArc old a b ⊎ IsJoinedArc x signs a b}
-          (λ o. inl ((before a b).1 o)) (λ p. inr p) (more.0 h)),
-    )
+HasArcsUpTo rows batches signs k = (a b : ℕ)
+    → HasArc rows a b ↔ (HasArc (replicate 32 0) a b ⊎ IsArcAt (take k batches) signs a b)
 
 pub graph_is : (t : Table) (batches : List JoinedBatch) (signs : List Sign) (rows : List ℕ) (k : ℕ)
     → length batches ≤ k
     → HasArcsUpTo rows batches signs k → HasArcsOf t batches
     → IsCellGraph t signs rows
-graph_is t batches signs rows k le all tells a b = (
-  λ h. (tells.arcs signs a b).0 (subst (λ l. IsArcAt l signs a b) whole ((all a b).0 h)),
-  λ h. (all a b).1 (subst (λ l. IsArcAt l signs a b) (sym whole) ((tells.arcs signs a b).1 h)),
-)
-  where
-    whole : take k batches ≡ batches
-    whole = take_all k batches le
+graph_is t batches signs rows k le all tells a b =
+    let law = grown_first (all a b) (empty_graph a b) in (
+      λ h. (tells.arcs signs a b).0 (subst (λ l. IsArcAt l signs a b) (take_all k batches le) (law.0 h)),
+      λ h. law.1 (subst (λ l. IsArcAt l signs a b) (sym (take_all k batches le)) ((tells.arcs signs a b).1 h)),
+    )
 
 -- the arcs by the signs of a direction are those at the direction
 pub graph_at : (t : Table) (d : V3) (signs : List Sign) (rows : List ℕ) → IsTable t → IsCellGraph t signs rows

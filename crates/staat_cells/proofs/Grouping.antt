@@ -7,7 +7,7 @@ use Rattle.std.specs.List.Sorted.{IsStrictlySortedBy}
 use Rattle.std.proofs.lemmas.Bool.{eq-eqb, eqb-true}
 use Rattle.std.proofs.lemmas.Cmp.{tied_itself}
 use Rattle.std.proofs.lemmas.List.{get_or_append_left, get_or_push, length-map, length_push, map-append}
-use Rattle.std.proofs.lemmas.List.Elements.{All-nil, All-append, All-cons, Contains-get_or, Contains-push, Contains-push_cases, Contains-append_left}
+use Rattle.std.proofs.lemmas.List.Elements.{All-nil, All-push, Contains-get_or, Contains-push, Contains-push_cases, Contains-append_left}
 use Rattle.std.proofs.lemmas.Map.Keys.{Less-from_sorted}
 use Rattle.staat_vec.specs.declared.vector.V3.{V3}
 use Rattle.staat_vec.specs.declared.vector.Sign.{Sign}
@@ -68,6 +68,14 @@ more_signs cells c incidences x have is = record { long = long; each = each }
     each : (k : ℕ) → k < length (cells ++ c ∷ []) → Here k
     each k lt = ⊎_elim {C = Here k} (λ l. early k l) (λ e. last k (sym e))
         (lt_one_more_cases k (length cells) (omega (arith, lt, length_push cells c)))
+
+-- the cells of the kind are made up of lower cells: each has two of them at least on its border, and the first two make it
+pub record AreMadeUp (planes : List V3) (kind : Kind) (lower : List CellEntry) : Type 0 where
+  pub some : (s : List Sign) → IsCell planes s → kind_of s ≡ kind → (k : ℕ) × IsUnder planes kind lower s k
+  pub two : (s : List Sign) (k : ℕ) → IsUnder planes kind lower s k → (j : ℕ) × IsUnder planes kind lower s j × (j ≢ k)
+  pub entry : (s : List Sign) (j k : ℕ) → IsUnder planes kind lower s j → IsUnder planes kind lower s k → j < k
+      → ((m : ℕ) → IsUnder planes kind lower s m → (m ≡ j) ⊎ ((m ≡ k) ⊎ (k < m)))
+      → IsEntry planes kind (composed_cell kind (cell_at lower j) (cell_at lower k)) × (composed (cell_at lower j).signs (cell_at lower k).signs ≡ s)
 
 module _ (planes : List V3) (kind : Kind) (lower : List CellEntry) (incidences : List Incidence) (few : length planes ≤ 256) (lists : Lists incidence_cmp (IsIncidence planes kind lower) incidences) where
   -- the signs of the incidence at a place
@@ -158,11 +166,11 @@ module _ (planes : List V3) (kind : Kind) (lower : List CellEntry) (incidences :
       let of : (get_or incidences i no_incidence).of ≡ k = ap (λ x. x.of) at in
       (i, record { signs = record { lt = lt; under = subst (IsUnder planes kind lower s) (sym of) under; is = at ∙ ap (incidence_of s) (sym of) }; of = of })
 
-  module _ (two : (s : List Sign) (k : ℕ) → IsUnder planes kind lower s k → (j : ℕ) × IsUnder planes kind lower s j × (j ≢ k)) where
+  module _ (made_up : AreMadeUp planes kind lower) where
     -- behind the incidence where a cell begins_cell there is another one of it
     second : (i : ℕ) (s : List Sign) → HasSigns i s → begins_cell incidences i ≡ true → HasSigns (suc i) s
     second i s a first =
-        let (j, under, other) = two s (get_or incidences i no_incidence).of a.under in
+        let (j, under, other) = made_up.two s (get_or incidences i no_incidence).of a.under in
         let (p, stands) = find s j under in
         by_place p stands.signs (λ e. other (sym stands.of ∙ ap (λ k. (get_or incidences k no_incidence).of) (sym e))) (trichotomy i p)
       where
@@ -204,130 +212,133 @@ module _ (planes : List V3) (kind : Kind) (lower : List CellEntry) (incidences :
       follow = λ i lt first. let (s, a) = signs_at i lt in let b = second i s a first in let l = b.lt in rw add-one l;
     }
 
-    -- what is composed of two lower cells on the border of a cell, the first two, is its entry
-    module _ (entry : (s : List Sign) (j k : ℕ) → IsUnder planes kind lower s j → IsUnder planes kind lower s k → j < k → ((m : ℕ) → IsUnder planes kind lower s m → (m ≡ j) ⊎ ((m ≡ k) ⊎ (k < m)))
-        → IsEntry planes kind (composed_cell kind (cell_at lower j) (cell_at lower k)) × (composed (cell_at lower j).signs (cell_at lower k).signs ≡ s))
-        (some : (s : List Sign) → IsCell planes s → kind_of s ≡ kind → (k : ℕ) × IsUnder planes kind lower s k) where
-      abbrev signs_in : List CellEntry → List (List Sign)
-      signs_in cells = map (λ c. c.signs) cells
+    -- ---- what is composed
 
-      -- the cells of the first incidences
-      record AreUpTo (i : ℕ) (cells : List CellEntry) : Type 0 where
-        ascending : IsStrictlySortedBy signs_cmp (signs_in cells)
-        from : (s : List Sign) → Contains (signs_in cells) s → (j : ℕ) × (j < i) × HasSigns j s
-        has : (j : ℕ) (s : List Sign) → HasSigns j s → j < i → Contains (signs_in cells) s
-        each : All (IsEntry planes kind) cells
+    -- where a cell begins, its entry is composed
+    made_at : (i : ℕ) (s : List Sign) → HasSigns i s → begins_cell incidences i ≡ true
+        → IsEntry planes kind (composed_at kind lower incidences i) × ((composed_at kind lower incidences i).signs ≡ s)
+    made_at i s a first =
+        let b = second i s a first in
+        let j = (get_or incidences i no_incidence).of in
+        let k = (get_or incidences (suc i) no_incidence).of in
+        let made = made_up.entry s j k a.under b.under (first_less i s a first) (first_two i s a first) in
+        let at_new : composed_at kind lower incidences i ≡ composed_cell kind (cell_at lower j) (cell_at lower k) =
+        ap (λ n. composed_cell kind (cell_at lower j) (cell_at lower (get_or incidences n no_incidence).of)) (add-one i) in
+        (subst (IsEntry planes kind) (sym at_new) made.0, ap (λ c. c.signs) at_new ∙ made.1)
 
-      none : AreUpTo 0 []
-      unfolding IsStrictlySortedBy
-      none = record { ascending = tt; from = λ s c. absurd (Contains-nothing s c); has = λ j s a lt. absurd (omega arith); each = All-nil (IsEntry planes kind) }
+    abbrev signs_in : List CellEntry → List (List Sign)
+    signs_in cells = map (λ c. c.signs) cells
 
-      same : (i : ℕ) (cells : List CellEntry) → i < length incidences → begins_cell incidences i ≡ false → AreUpTo i cells → AreUpTo (suc i) cells
-      same zero cells lt none up = cc
-      same (suc m) cells lt none up = record {
-        ascending = up.ascending;
-        from = λ s c. let (j, less, a) = up.from s c in (j, omega arith, a);
-        has = has;
-        each = up.each;
-      }
-        where
-          has : (j : ℕ) (s : List Sign) → HasSigns j s → j < suc (suc m) → Contains (signs_in cells) s
-          has j s a less = ⊎_elim (λ early. up.has j s a early)
-              (λ e. let (t, b) = signs_at m (omega arith) in subst (Contains (signs_in cells)) (goes_on m t s b (subst (λ k. HasSigns k s) e a) none) (up.has m t b (omega arith)))
-              (lt_suc_cases j (suc m) less)
+    -- the cells of the first incidences
+    record AreUpTo (i : ℕ) (cells : List CellEntry) : Type 0 where
+      ascending : IsStrictlySortedBy signs_cmp (signs_in cells)
+      from : (s : List Sign) → Contains (signs_in cells) s → (j : ℕ) × (j < i) × HasSigns j s
+      has : (j : ℕ) (s : List Sign) → HasSigns j s → j < i → Contains (signs_in cells) s
+      each : All (IsEntry planes kind) cells
 
-      more : (i : ℕ) (cells : List CellEntry) → i < length incidences → begins_cell incidences i ≡ true → AreUpTo i cells → AreUpTo (suc i) (cells ++ composed_at kind lower incidences i ∷ [])
-      more i cells lt first up = go (signs_at i lt)
-        where
-          go : (s : List Sign) × HasSigns i s → AreUpTo (suc i) (cells ++ composed_at kind lower incidences i ∷ [])
-          go (s, a) =
-              let b = second i s a first in
-              let j = (get_or incidences i no_incidence).of in
-              let k = (get_or incidences (suc i) no_incidence).of in
-              let made = entry s j k a.under b.under (first_less i s a first) (first_two i s a first) in
-              let at_new : composed_at kind lower incidences i ≡ composed_cell kind (cell_at lower j) (cell_at lower k) = ap (λ n. composed_cell kind (cell_at lower j) (cell_at lower (get_or incidences n no_incidence).of)) (add-one i) in
-              let new_signs : new_of ≡ s = ap (λ c. c.signs) at_new ∙ made.1 in
-              let list : signs_in (cells ++ composed_at kind lower incidences i ∷ []) ≡ signs_in cells ++ s ∷ [] = map-append (λ c. c.signs) cells (composed_at kind lower incidences i ∷ []) ∙ ap (λ t. signs_in cells ++ t ∷ []) new_signs in record {
-                ascending = subst (IsStrictlySortedBy signs_cmp) (sym list) (sorted_push signs_cmp (signs_in cells) s up.ascending (λ t c. below s a t (up.from t c)));
-                from = λ t c. from s a t (Contains-push_cases (signs_in cells) s t (subst (λ l. Contains l t) list c));
-                has = λ m t d less. subst (λ l. Contains l t) (sym list) (has s a m t d (lt_suc_cases m i less));
-                each = All-append (IsEntry planes kind) cells (composed_at kind lower incidences i ∷ []) up.each (All-cons (IsEntry planes kind) (composed_at kind lower incidences i) [] (subst (IsEntry planes kind) (sym at_new) made.0) (All-nil (IsEntry planes kind)));
-              }
-            where
-              new_of : List Sign
-              new_of = (composed_at kind lower incidences i).signs
+    none : AreUpTo 0 []
+    unfolding IsStrictlySortedBy
+    none = record { ascending = tt; from = λ s c. absurd (Contains-nothing s c); has = λ j s a lt. absurd (omega arith); each = All-nil (IsEntry planes kind) }
 
-              below : (s : List Sign) → HasSigns i s → (t : List Sign) → (m : ℕ) × (m < i) × HasSigns m t → signs_cmp t s ≡ Less
-              below s a t (m, less, d) = ⊎_elim (λ h. h) (λ r. absurd (none_before i m s a (subst (HasSigns m) r.0 d) first less)) (rising m i t s d a less)
+    same : (i : ℕ) (cells : List CellEntry) → i < length incidences → begins_cell incidences i ≡ false → AreUpTo i cells → AreUpTo (suc i) cells
+    same zero cells lt none up = cc
+    same (suc m) cells lt none up = record {
+      ascending = up.ascending;
+      from = λ s c. let (j, less, a) = up.from s c in (j, omega arith, a);
+      has = has;
+      each = up.each;
+    }
+      where
+        has : (j : ℕ) (s : List Sign) → HasSigns j s → j < suc (suc m) → Contains (signs_in cells) s
+        has j s a less = ⊎_elim (λ early. up.has j s a early)
+            (λ e. let (t, b) = signs_at m (omega arith) in subst (Contains (signs_in cells)) (goes_on m t s b (subst (λ k. HasSigns k s) e a) none) (up.has m t b (omega arith)))
+            (lt_suc_cases j (suc m) less)
 
-              from : (s : List Sign) → HasSigns i s → (t : List Sign) → Contains (signs_in cells) t ⊎ (s ≡ t) → (m : ℕ) × (m < suc i) × HasSigns m t
-              from s a t (inl c) = let (m, less, d) = up.from t c in (m, omega arith, d)
-              from s a t (inr e) = (i, omega arith, subst (HasSigns i) e a)
+    more : (i : ℕ) (cells : List CellEntry) → i < length incidences → begins_cell incidences i ≡ true → AreUpTo i cells → AreUpTo (suc i) (cells ++ composed_at kind lower incidences i ∷ [])
+    more i cells lt first up = go (signs_at i lt)
+      where
+        go : (s : List Sign) × HasSigns i s → AreUpTo (suc i) (cells ++ composed_at kind lower incidences i ∷ [])
+        go (s, a) =
+            let made = made_at i s a first in
+            let list : signs_in (cells ++ composed_at kind lower incidences i ∷ []) ≡ signs_in cells ++ s ∷ [] =
+            map-append (λ c. c.signs) cells (composed_at kind lower incidences i ∷ []) ∙ ap (λ t. signs_in cells ++ t ∷ []) made.1 in record {
+              ascending = subst (IsStrictlySortedBy signs_cmp) (sym list) (sorted_push signs_cmp (signs_in cells) s up.ascending (λ t c. below s a t (up.from t c)));
+              from = λ t c. from s a t (Contains-push_cases (signs_in cells) s t (subst (λ l. Contains l t) list c));
+              has = λ m t d less. subst (λ l. Contains l t) (sym list) (has s a m t d (lt_suc_cases m i less));
+              each = All-push (IsEntry planes kind) cells (composed_at kind lower incidences i) up.each made.0;
+            }
+          where
+            below : (s : List Sign) → HasSigns i s → (t : List Sign) → (m : ℕ) × (m < i) × HasSigns m t → signs_cmp t s ≡ Less
+            below s a t (m, less, d) = ⊎_elim (λ h. h) (λ r. absurd (none_before i m s a (subst (HasSigns m) r.0 d) first less)) (rising m i t s d a less)
 
-              has : (s : List Sign) → HasSigns i s → (m : ℕ) (t : List Sign) → HasSigns m t → (m < i) ⊎ (m ≡ i) → Contains (signs_in cells ++ s ∷ []) t
-              has s a m t d (inl less) = Contains-append_left (signs_in cells) (s ∷ []) t (up.has m t d less)
-              has s a m t d (inr e) = subst (Contains (signs_in cells ++ s ∷ [])) (one_list i s t a (subst (λ k. HasSigns k t) e d)) (Contains-push (signs_in cells) s)
+            from : (s : List Sign) → HasSigns i s → (t : List Sign) → Contains (signs_in cells) t ⊎ (s ≡ t) → (m : ℕ) × (m < suc i) × HasSigns m t
+            from s a t (inl c) = let (m, less, d) = up.from t c in (m, omega arith, d)
+            from s a t (inr e) = (i, omega arith, subst (HasSigns i) e a)
 
-      up_to : (i : ℕ) → i ≤ length incidences → AreUpTo i (composed_up_to kind lower incidences i)
-      unfolding composed_up_to
-      up_to zero le = none
-      up_to (suc i) le = by_start (begins_cell incidences i) refl (up_to i (omega arith))
-        where
-          by_start : (b : Bool) → begins_cell incidences i ≡ b → AreUpTo i (composed_up_to kind lower incidences i) → AreUpTo (suc i) (composed_up_to kind lower incidences i ++ (if begins_cell incidences i then composed_at kind lower incidences i ∷ [] else []))
-          by_start true e up = subst (λ b. AreUpTo (suc i) (composed_up_to kind lower incidences i ++ (if b then composed_at kind lower incidences i ∷ [] else []))) (sym e) (more i (composed_up_to kind lower incidences i) (omega arith) e up)
-          by_start false e up = subst (λ b. AreUpTo (suc i) (composed_up_to kind lower incidences i ++ (if b then composed_at kind lower incidences i ∷ [] else []))) (sym e) (subst (AreUpTo (suc i)) (sym (append_nothing (composed_up_to kind lower incidences i))) (same i (composed_up_to kind lower incidences i) (omega arith) e up))
+            has : (s : List Sign) → HasSigns i s → (m : ℕ) (t : List Sign) → HasSigns m t → (m < i) ⊎ (m ≡ i) → Contains (signs_in cells ++ s ∷ []) t
+            has s a m t d (inl less) = Contains-append_left (signs_in cells) (s ∷ []) t (up.has m t d less)
+            has s a m t d (inr e) = subst (Contains (signs_in cells ++ s ∷ [])) (one_list i s t a (subst (λ k. HasSigns k t) e d)) (Contains-push (signs_in cells) s)
 
-      -- an incidence at which a cell begins has the signs of what is composed there
-      begun_at : (i : ℕ) → i < length incidences → begins_cell incidences i ≡ true
-          → get_or incidences i no_incidence
-          ≡ incidence_of (composed_at kind lower incidences i).signs (get_or incidences i no_incidence).of
-      begun_at i lt first =
-          let (s, a) = signs_at i lt in
-          let b = second i s a first in
-          let j = (get_or incidences i no_incidence).of in
-          let k = (get_or incidences (suc i) no_incidence).of in
-          let made = entry s j k a.under b.under (first_less i s a first) (first_two i s a first) in
-          let at_new : composed_at kind lower incidences i ≡ composed_cell kind (cell_at lower j) (cell_at lower k) =
-          ap (λ n. composed_cell kind (cell_at lower j) (cell_at lower (get_or incidences n no_incidence).of)) (add-one i) in
-          let signs : (composed_at kind lower incidences i).signs ≡ s = ap (λ c. c.signs) at_new ∙ made.1 in
-          a.is ∙ ap (λ t. incidence_of t j) (sym signs)
+    up_to : (i : ℕ) → i ≤ length incidences → AreUpTo i (composed_up_to kind lower incidences i)
+    unfolding composed_up_to
+    up_to zero le = none
+    up_to (suc i) le = by_start (begins_cell incidences i) refl (up_to i (omega arith))
+      where
+        cells : List CellEntry
+        cells = composed_up_to kind lower incidences i
 
-      begun_to : (i : ℕ) → i ≤ length incidences
-          → HaveSigns (composed_up_to kind lower incidences i) (begun_up_to incidences i)
-      unfolding composed_up_to begun_up_to
-      begun_to zero le = record { long = refl; each = λ k lt. absurd (omega arith) }
-      begun_to (suc i) le = by_start (begins_cell incidences i) refl (begun_to i (omega arith))
-        where
-          cells : List CellEntry
-          cells = composed_up_to kind lower incidences i
+        With : Bool → Type 0
+        With b = AreUpTo (suc i) (cells ++ (if b then composed_at kind lower incidences i ∷ [] else []))
 
-          found : List Incidence
-          found = begun_up_to incidences i
+        by_start : (b : Bool) → begins_cell incidences i ≡ b → AreUpTo i cells → With (begins_cell incidences i)
+        by_start true e up = subst With (sym e) (more i cells (omega arith) e up)
+        by_start false e up = subst With (sym e)
+            (subst (AreUpTo (suc i)) (sym (append_nothing cells)) (same i cells (omega arith) e up))
 
-          With : Bool → Type 0
-          With b = HaveSigns (cells ++ (if b then composed_at kind lower incidences i ∷ [] else []))
-              (found ++ (if b then get_or incidences i no_incidence ∷ [] else []))
+    -- an incidence at which a cell begins has the signs of what is composed there
+    begun_at : (i : ℕ) → i < length incidences → begins_cell incidences i ≡ true
+        → get_or incidences i no_incidence
+        ≡ incidence_of (composed_at kind lower incidences i).signs (get_or incidences i no_incidence).of
+    begun_at i lt first =
+        let (s, a) = signs_at i lt in
+        a.is ∙ ap (λ t. incidence_of t (get_or incidences i no_incidence).of) (sym (made_at i s a first).1)
 
-          by_start : (b : Bool) → begins_cell incidences i ≡ b → HaveSigns cells found → With (begins_cell incidences i)
-          by_start true e before = subst With (sym e)
-              (more_signs cells (composed_at kind lower incidences i) found (get_or incidences i no_incidence) before
-              (begun_at i (omega arith) e))
-          by_start false e before = subst With (sym e)
-              (subst (λ l. HaveSigns l (found ++ [])) (sym (append_nothing cells))
-              (subst (HaveSigns cells) (sym (append_nothing found)) before))
+    begun_to : (i : ℕ) → i ≤ length incidences
+        → HaveSigns (composed_up_to kind lower incidences i) (begun_up_to incidences i)
+    unfolding composed_up_to begun_up_to
+    begun_to zero le = record { long = refl; each = λ k lt. absurd (omega arith) }
+    begun_to (suc i) le = by_start (begins_cell incidences i) refl (begun_to i (omega arith))
+      where
+        cells : List CellEntry
+        cells = composed_up_to kind lower incidences i
 
-      pub begun_signs : HaveSigns (composed_up_to kind lower incidences (length incidences))
-          (begun_up_to incidences (length incidences))
-      begun_signs = begun_to (length incidences) (omega arith)
+        found : List Incidence
+        found = begun_up_to incidences i
 
-      -- the composed cells are all cells of the kind
-      pub composed_are_cells : AreCellsOf planes kind (composed_up_to kind lower incidences (length incidences))
-      composed_are_cells =
-          let up = up_to (length incidences) (omega arith) in record {
-            each = up.each;
-            signs = record {
-              ascending = up.ascending;
-              each = λ s c. let (j, less, a) = up.from s c in let u = a.under in (u.cell, u.by_count);
-              all = λ s h. let (k, under) = some s h.0 h.1 in let (i, stands) = find s k under in let a = stands.signs in up.has i s a a.lt;
-            };
-          }
+        With : Bool → Type 0
+        With b = HaveSigns (cells ++ (if b then composed_at kind lower incidences i ∷ [] else []))
+            (found ++ (if b then get_or incidences i no_incidence ∷ [] else []))
+
+        by_start : (b : Bool) → begins_cell incidences i ≡ b → HaveSigns cells found → With (begins_cell incidences i)
+        by_start true e before = subst With (sym e)
+            (more_signs cells (composed_at kind lower incidences i) found (get_or incidences i no_incidence) before
+            (begun_at i (omega arith) e))
+        by_start false e before = subst With (sym e)
+            (subst (λ l. HaveSigns l (found ++ [])) (sym (append_nothing cells))
+            (subst (HaveSigns cells) (sym (append_nothing found)) before))
+
+    pub begun_signs : HaveSigns (composed_up_to kind lower incidences (length incidences))
+        (begun_up_to incidences (length incidences))
+    begun_signs = begun_to (length incidences) (omega arith)
+
+    -- the composed cells are all cells of the kind
+    pub composed_are_cells : AreCellsOf planes kind (composed_up_to kind lower incidences (length incidences))
+    composed_are_cells =
+        let up = up_to (length incidences) (omega arith) in record {
+          each = up.each;
+          signs = record {
+            ascending = up.ascending;
+            each = λ s c. let (j, less, a) = up.from s c in let u = a.under in (u.cell, u.by_count);
+            all = λ s h. let (k, under) = made_up.some s h.0 h.1 in let (i, stands) = find s k under in let a = stands.signs in up.has i s a a.lt;
+          };
+        }

@@ -1,6 +1,6 @@
 -- Tests of a batch that are joined by threes.
 use Rattle.std.proofs.Common.{All}
-use Rattle.std.proofs.Common.{◌≡◌, ◌⊎◌, ◌↔◌, inl, inr, ⊎_elim, ℕ, ◌+◌, ◌*◌, ◌/◌, ◌%◌, ◌<◌, ◌≤◌, max, sym, ap, subst, ◌∙◌, arith, below_more}
+use Rattle.std.proofs.Common.{◌≡◌, ◌↔◌, ⊎_elim, ℕ, ◌+◌, ◌*◌, ◌/◌, ◌%◌, ◌<◌, ◌≤◌, max, sym, ap, subst, ◌∙◌, arith, below_more}
 use Rattle.std.proofs.Common.{List, ◌∷◌, [], ◌++◌, length, get_or, take}
 use Rattle.std.specs.Prelude.{bit_or, slice_index, slice_set}
 use Rattle.std.specs.Int.{bit_at}
@@ -18,7 +18,7 @@ use Rattle.staat_cells.specs.HalfSpaces.{sign_at}
 use Rattle.staat_cells.specs.CellGraphs.{HasArcsOf, IsArcAt, IsListedArc, ListsArcsOf}
 use Rattle.staat_cells.specs.Batches.{HasCone, HasPlanesUpTo, IsBatchArc, IsJoinedArc}
 use Rattle.staat_cells.specs.Batches.{IsLeft, IsLeftByAll, joined_outside, no_test, outside_by, outside_together, place_of_three}
-use Rattle.staat_cells.proofs.Elements.{all_more, all_pushed, any_more, any_pushed}
+use Rattle.staat_cells.proofs.Elements.{all_more, all_pushed}
 use Rattle.staat_vec.proofs.Naturals.{lt_or_le}
 
 -- ---- three tests
@@ -200,31 +200,6 @@ joined_arc batch joined arcs tests signs a b = (
     is_left = (tests signs h.cone).1 h.is_left;
   },
 )
-
-pub no_batches : (batches : List Batch) (signs : List Sign) (a b : ℕ) → IsArcAt [] signs a b ↔ IsListedArc (take 0 batches) signs a b
-no_batches batches signs a b =
-    (λ h. absurd (let lt = h.2 in omega (arith, lt)), λ h. absurd (let lt = h.2 in omega (arith, lt)))
-
-pub more_batches : (batches : List Batch) (k : ℕ) (x : Batch) (old new : List JoinedBatch) (y : JoinedBatch) → k < length batches
-    → x ≡ get_or batches k x → new ≡ old ++ y ∷ []
-    → ((signs : List Sign) (a b : ℕ) → IsJoinedArc y signs a b ↔ IsBatchArc x signs a b)
-    → ((signs : List Sign) (a b : ℕ) → IsArcAt old signs a b ↔ IsListedArc (take k batches) signs a b)
-    → (signs : List Sign) (a b : ℕ) → IsArcAt new signs a b ↔ IsListedArc (take (k + 1) batches) signs a b
-more_batches batches k x old new y lt at is one before signs a b =
-    let pushed = subst (λ l. IsArcAt l signs a b ↔ (IsArcAt old signs a b ⊎ IsJoinedArc y signs a b)) (sym is)
-    (any_pushed (λ batch. IsJoinedArc batch signs a b) old y) in
-    let more = any_more (λ batch. IsBatchArc batch signs a b) batches k x lt at in (
-      λ h. more.1 (⊎_elim {C = IsListedArc (take k batches) signs a b ⊎ IsBatchArc x signs a b}
-          (λ o. inl ((before signs a b).0 o)) (λ p. inr ((one signs a b).0 p)) (pushed.0 h)),
-      λ h. pushed.1 (⊎_elim {C = IsArcAt old signs a b ⊎ IsJoinedArc y signs a b}
-          (λ o. inl ((before signs a b).1 o)) (λ p. inr ((one signs a b).1 p)) (more.0 h)),
-    )
-
-pub all_batches : (batches : List Batch) (k : ℕ) (found : List JoinedBatch) → length batches ≤ k
-    → ((signs : List Sign) (a b : ℕ) → IsArcAt found signs a b ↔ IsListedArc (take k batches) signs a b)
-    → (signs : List Sign) (a b : ℕ) → IsArcAt found signs a b ↔ IsListedArc batches signs a b
-all_batches batches k found le =
-    subst (λ l. (signs : List Sign) (a b : ℕ) → IsArcAt found signs a b ↔ IsListedArc l signs a b) (take_all k batches le)
 
 pub told : (t : Table) (batches : List Batch) (joined : List JoinedBatch) → IsTable t → ListsArcsOf t batches
     → ((signs : List Sign) (a b : ℕ) → IsArcAt joined signs a b ↔ IsListedArc batches signs a b) → HasArcsOf t joined

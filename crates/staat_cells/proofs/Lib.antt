@@ -1,5 +1,4 @@
 pub mod Halves
-pub mod Patching
 pub mod ZeroSignLemmas
 pub mod ZeroPlaces
 pub mod Filling
@@ -13,12 +12,12 @@ pub mod Numbered
 pub mod TableRules
 pub mod PushingIncidences
 pub mod Listed
+pub mod Borders
 pub mod EdgeCells
 pub mod OpenCells
 pub mod Grouping
 pub mod SignOrder
 pub mod Composing
-pub mod AddedCells
 pub mod Words
 pub mod IncidenceOrder
 pub mod Mirrors
@@ -28,6 +27,7 @@ pub mod EdgeIncidences
 pub mod Zeros
 pub mod Beside
 pub mod Elements
+pub mod Growing
 pub mod SignLists
 pub mod Cones
 pub mod ConeTests
@@ -40,5 +40,4 @@ pub mod MachineWords
 pub mod Narrowing
 pub mod LowEdges
 pub mod LeastCell
-pub mod Flipping
 pub mod ZeroPlanes

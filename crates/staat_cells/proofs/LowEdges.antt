@@ -28,7 +28,7 @@ use Rattle.staat_cells.specs.FirstCell.{AreArcEnds, AreNotAbove, IsLowEdge, IsLo
 use Rattle.staat_cells.proofs.Beside.{border_from}
 use Rattle.staat_cells.proofs.EdgeCells.{sum_of_ends}
 use Rattle.staat_cells.proofs.Narrowing.{ends_apart}
-use Rattle.staat_cells.proofs.TableRules.{holds_axes, planes_apart, planes_some}
+use Rattle.staat_cells.proofs.TableRules.{planes_apart}
 use Rattle.staat_cells.proofs.Zeros.{one_zero}
 use Rattle.staat_vec.proofs.Options.{some_injective}
 use Rattle.staat_vec.proofs.VectorLaws.{dot_plus, dot_origin, dot_cross_about}
@@ -237,7 +237,7 @@ module _ (planes : List V3) (are : AreTablePlanes planes) (g : V3) (g_in : Conta
 
   sum_is : IsEdgeSum planes (signs_of planes (plus (primitive e.first) (primitive e.second)))
       (plus (primitive e.first) (primitive e.second))
-  sum_is = sum_of_ends planes (holds_axes planes are) (planes_apart planes are) (planes_some planes are) (signs_of planes (plus (primitive e.first) (primitive e.second)))
+  sum_is = sum_of_ends planes are (signs_of planes (plus (primitive e.first) (primitive e.second)))
       (primitive e.first) (primitive e.second) sum_cell
       (low_kind planes are g (plus (primitive e.first) (primitive e.second)) g_in low_between)
       (record {

@@ -5,21 +5,16 @@ use Rattle.std.specs.Int.{w128}
 use Rattle.std.proofs.lemmas.Int.{ints}
 use Rattle.staat_vec.proofs.ReadBack.{read_back}
 
-module _ (z : ℤ) (n : ℕ) (size : unsigned_abs z ≤ n) (small : n < 2 ^ 127) where
-  pub above_zero : int_lt (pos 0) (to_z w128 (of_z w128 z)) ≡ true → pos 0 <ℤ z
+-- of a, which came as the number z
+module _ (z a : ℤ) (n : ℕ) (is : z ≡ a) (size : unsigned_abs z ≤ n) (small : n < 2 ^ 127) where
+  pub above_zero : int_lt (pos 0) (to_z w128 (of_z w128 z)) ≡ true → pos 0 <ℤ a
   above_zero test = let plain = rw (read_back w128 z n size small) at test in omega (arith, ints)
 
-  pub to_zero : int_lt (pos 0) (to_z w128 (of_z w128 z)) ≡ false → z ≤ℤ pos 0
+  pub to_zero : int_lt (pos 0) (to_z w128 (of_z w128 z)) ≡ false → a ≤ℤ pos 0
   to_zero test = let plain = rw (read_back w128 z n size small) at test in omega (arith, ints)
 
-  pub below_zero : int_le (pos 0) (to_z w128 (of_z w128 z)) ≡ false → z <ℤ pos 0
+  pub below_zero : int_le (pos 0) (to_z w128 (of_z w128 z)) ≡ false → a <ℤ pos 0
   below_zero test = let plain = rw (read_back w128 z n size small) at test in omega (arith, ints)
 
-  pub from_zero : int_le (pos 0) (to_z w128 (of_z w128 z)) ≡ true → pos 0 ≤ℤ z
+  pub from_zero : int_le (pos 0) (to_z w128 (of_z w128 z)) ≡ true → pos 0 ≤ℤ a
   from_zero test = let plain = rw (read_back w128 z n size small) at test in omega (arith, ints)
-
-  pub not_above : int_lt (pos 0) (to_z w128 (of_z w128 z)) ≡ false → pos 0 <ℤ z → ⊥
-  not_above test h = let most = to_zero test in omega (arith, ints)
-
-  pub not_below : int_lt (to_z w128 (of_z w128 z)) (pos 0) ≡ false → z <ℤ pos 0 → ⊥
-  not_below test h = let plain = rw (read_back w128 z n size small) at test in omega (arith, ints)

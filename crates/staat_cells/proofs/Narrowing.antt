@@ -1,5 +1,5 @@
 -- The ends of what is left on a plane, as one plane after another is passed.
-use Rattle.std.proofs.Common.{◌≡◌, ◌≢◌, ⊎_elim, zero, suc, refl, sym, ap}
+use Rattle.std.proofs.Common.{◌≡◌, ⊎_elim, zero, suc, sym, ap}
 use Rattle.std.proofs.Common.{subst, ◌∙◌, arith}
 use Rattle.std.proofs.Common.{ℤ, pos, negsuc, neg_ℤ, ◌+ℤ◌, ◌-ℤ◌, ◌*ℤ◌, ◌<ℤ◌, ◌≤ℤ◌}
 use Rattle.std.proofs.Common.{List, [], ◌∷◌, ◌++◌}
@@ -8,16 +8,16 @@ use Rattle.std.proofs.lemmas.Int.{ints, by_lt_z}
 use Rattle.std.proofs.lemmas.List.Elements.{All-append, All-cons, All-nil, All-weaker}
 use Rattle.staat_vec.specs.declared.vector.V3.{V3}
 use Rattle.staat_vec.specs.declared.vector.TheConstants.{VERTEX}
-use Rattle.staat_vec.specs.Vectors.{IsWithin, cross, dot, minus, origin, vector}
-use Rattle.staat_vec.proofs.Ring.{num, ◌⊕◌, ◌⊖◌, ◌⊗◌, opp, ring, zero-mul_ℤ}
-use Rattle.staat_vec.proofs.VecRing.{crossE, dotE, minusE, timesE, values, vectorE, v0, v1, v2, v3, v4, ring3}
-use Rattle.staat_vec.proofs.VecRing.{same_vector, scale}
+use Rattle.staat_vec.specs.Vectors.{IsWithin, cross, dot, minus}
+use Rattle.staat_vec.proofs.Ring.{◌⊕◌, ◌⊖◌, ◌⊗◌, opp, ring, zero-mul_ℤ}
+use Rattle.staat_vec.proofs.VecRing.{crossE, dotE, minusE, timesE, values, v0, v1, v2, v3, v4, ring3}
+use Rattle.staat_vec.proofs.VecRing.{scale}
 use Rattle.staat_vec.proofs.VecRing.{cross_self, dot_cross_left, dot_cross_right}
-use Rattle.staat_vec.proofs.Order.{negative_mul, negative_is}
+use Rattle.staat_vec.proofs.Order.{negative_mul}
 use Rattle.staat_model.specs.Planes.{axes}
 use Rattle.staat_cells.specs.declared.first_cell.Ends.{Ends}
 use Rattle.staat_cells.specs.FirstCell.{AreArcEnds, AreNotAbove, HasNoLow}
-use Rattle.staat_vec.proofs.Integers.{opposite_negative, two_negatives, zero_nonpositive, negative_nonpositive, zero_not_negative}
+use Rattle.staat_vec.proofs.Integers.{two_negatives, zero_nonpositive, negative_nonpositive, zero_not_negative}
 use Rattle.staat_vec.proofs.VectorLaws.{dot_cross_about, dot_origin}
 
 -- ---- signs of products
@@ -54,7 +54,7 @@ still_low x det p q s t d hp hq hs ht e = by_lt_z {P = x ≤ℤ pos 0} (pos 0) x
 three_low : (a b c : ℤ) → a ≤ℤ pos 0 → b ≤ℤ pos 0 → c ≡ pos 0 → ((a +ℤ b) +ℤ c) ≤ℤ pos 0
 three_low a b c h k e = omega (arith, ints)
 
-over : (x y : ℤ) → pos 0 <ℤ x → y ≤ℤ pos 0 → x ≡ y → ⊥
+pub over : (x y : ℤ) → pos 0 <ℤ x → y ≤ℤ pos 0 → x ≡ y → ⊥
 over x y h k e = omega (arith, ints)
 
 zero_times : (a b : ℤ) → a ≡ pos 0 → a *ℤ b ≡ pos 0
@@ -62,23 +62,6 @@ zero_times a b e = ap (λ z. z *ℤ b) e ∙ zero-mul_ℤ b
 
 low_not_above : (a b : ℤ) → a ≡ b → b <ℤ pos 0 → a ≤ℤ pos 0
 low_not_above a b e h = omega (arith, ints)
-
--- ---- a number as it was computed
-
-pub at_least : (a r : ℤ) → r ≡ a → pos 0 <ℤ r → pos 0 ≤ℤ a
-at_least a r e h = omega (arith, ints)
-
-pub not_above : (a r : ℤ) → r ≡ a → pos 0 <ℤ r → a ≤ℤ pos 0 → ⊥
-not_above a r e h k = omega (arith, ints)
-
-pub same_nonneg : (a r : ℤ) → r ≡ a → pos 0 ≤ℤ r → pos 0 ≤ℤ a
-same_nonneg a r e h = omega (arith, ints)
-
-pub same_low : (a r : ℤ) → r ≡ a → r <ℤ pos 0 → a <ℤ pos 0
-same_low a r e h = omega (arith, ints)
-
-pub same_not_above : (a r : ℤ) → r ≡ a → r ≤ℤ pos 0 → a ≤ℤ pos 0
-same_not_above a r e h = omega (arith, ints)
 
 -- ---- equations
 
@@ -246,98 +229,20 @@ module _ (planes passed : List V3) (g h : V3) (e : Ends) (are : AreArcEnds plane
 
 -- ---- the ends by two coordinate planes
 
-module _ (g : V3) (e : Ends) where
-  abbrev pub IsBetween : V3 → V3 → Type 0
-  IsBetween a b = (e.first ≡ cross g a) × (e.second ≡ cross b g) × IsWithin VERTEX e.first
-      × IsWithin VERTEX e.second
+pub ends_by : (g a b : V3) (e : Ends) → Contains axes a → Contains axes b → e.first ≡ cross g a → e.second ≡ cross b g
+    → IsWithin VERTEX e.first → IsWithin VERTEX e.second → dot b (cross g a) <ℤ pos 0 → AreArcEnds axes g [] e
+ends_by g a b e a_in b_in first second first_size second_size turn = record {
+  a = a;
+  b = b;
+  a_in = a_in;
+  b_in = b_in;
+  first_is = first;
+  second_is = second;
+  turn = turn;
+  first_size = first_size;
+  second_size = second_size;
+  passed_are = All-nil (AreNotAbove e);
+}
 
-  ends_at : (a b : V3) → Contains axes a → Contains axes b → IsBetween a b → dot b (cross g a) <ℤ pos 0
-      → AreArcEnds axes g [] e
-  ends_at a b a_in b_in (first, second, first_size, second_size) turn = record {
-    a = a;
-    b = b;
-    a_in = a_in;
-    b_in = b_in;
-    first_is = first;
-    second_is = second;
-    turn = turn;
-    first_size = first_size;
-    second_size = second_size;
-    passed_are = All-nil (AreNotAbove e);
-  }
-
-  abbrev pub ex : V3
-  ex = vector (pos 1) (pos 0) (pos 0)
-
-  abbrev pub ey : V3
-  ey = vector (pos 0) (pos 1) (pos 0)
-
-  abbrev pub ez : V3
-  ez = vector (pos 0) (pos 0) (pos 1)
-
-  x_in : Contains axes ex
-  x_in = (0, omega arith, refl)
-
-  y_in : Contains axes ey
-  y_in = (1, omega arith, refl)
-
-  z_in : Contains axes ez
-  z_in = (2, omega arith, refl)
-
-  pub z_up : pos 0 <ℤ g.z → IsBetween ey ex → AreArcEnds axes g [] e
-  z_up h b = ends_at ey ex y_in x_in b (opposite_negative (dot ex (cross g ey)) g.z is h)
-    where
-      is : dot ex (cross g ey) ≡ neg_ℤ g.z
-      is = ring (values (g ∷ []) []) (dotE (vectorE (num (pos 1)) (num (pos 0)) (num (pos 0)))
-          (crossE v0 (vectorE (num (pos 0)) (num (pos 1)) (num (pos 0))))) (opp v0.z) tt
-
-  pub z_down : g.z <ℤ pos 0 → IsBetween ex ey → AreArcEnds axes g [] e
-  z_down h b = ends_at ex ey x_in y_in b (negative_is (dot ey (cross g ex)) g.z is h)
-    where
-      is : dot ey (cross g ex) ≡ g.z
-      is = ring (values (g ∷ []) []) (dotE (vectorE (num (pos 0)) (num (pos 1)) (num (pos 0)))
-          (crossE v0 (vectorE (num (pos 1)) (num (pos 0)) (num (pos 0))))) v0.z tt
-
-  pub y_up : pos 0 <ℤ g.y → IsBetween ex ez → AreArcEnds axes g [] e
-  y_up h b = ends_at ex ez x_in z_in b (opposite_negative (dot ez (cross g ex)) g.y is h)
-    where
-      is : dot ez (cross g ex) ≡ neg_ℤ g.y
-      is = ring (values (g ∷ []) []) (dotE (vectorE (num (pos 0)) (num (pos 0)) (num (pos 1)))
-          (crossE v0 (vectorE (num (pos 1)) (num (pos 0)) (num (pos 0))))) (opp v0.y) tt
-
-  pub y_down : g.y <ℤ pos 0 → IsBetween ez ex → AreArcEnds axes g [] e
-  y_down h b = ends_at ez ex z_in x_in b (negative_is (dot ex (cross g ez)) g.y is h)
-    where
-      is : dot ex (cross g ez) ≡ g.y
-      is = ring (values (g ∷ []) []) (dotE (vectorE (num (pos 1)) (num (pos 0)) (num (pos 0)))
-          (crossE v0 (vectorE (num (pos 0)) (num (pos 0)) (num (pos 1))))) v0.y tt
-
-  pub x_up : pos 0 <ℤ g.x → IsBetween ez ey → AreArcEnds axes g [] e
-  x_up h b = ends_at ez ey z_in y_in b (opposite_negative (dot ey (cross g ez)) g.x is h)
-    where
-      is : dot ey (cross g ez) ≡ neg_ℤ g.x
-      is = ring (values (g ∷ []) []) (dotE (vectorE (num (pos 0)) (num (pos 1)) (num (pos 0)))
-          (crossE v0 (vectorE (num (pos 0)) (num (pos 0)) (num (pos 1))))) (opp v0.x) tt
-
-  pub x_down : g.x <ℤ pos 0 → IsBetween ey ez → AreArcEnds axes g [] e
-  x_down h b = ends_at ey ez y_in z_in b (negative_is (dot ez (cross g ey)) g.x is h)
-    where
-      is : dot ez (cross g ey) ≡ g.x
-      is = ring (values (g ∷ []) []) (dotE (vectorE (num (pos 0)) (num (pos 0)) (num (pos 1)))
-          (crossE v0 (vectorE (num (pos 0)) (num (pos 1)) (num (pos 0))))) v0.x tt
-
--- a vector with no other component below or above 0 has its first below
-pub last_down : (g : V3) → g ≢ origin → (pos 0 <ℤ g.z → ⊥) → (g.z <ℤ pos 0 → ⊥)
-    → (pos 0 <ℤ g.y → ⊥)
-    → (g.y <ℤ pos 0 → ⊥) → (pos 0 <ℤ g.x → ⊥) → g.x <ℤ pos 0
-last_down g some z_up z_down y_up y_down x_up = by_lt_z {P = g.x <ℤ pos 0} g.x (pos 0) (λ h. h)
-    (λ le. absurd (some (same_vector g origin
-    (between g.x x_up (at_least g.x le)) (between g.y y_up y_down) (between g.z z_up z_down))))
-  where
-    between : (a : ℤ) → (pos 0 <ℤ a → ⊥) → (a <ℤ pos 0 → ⊥) → a ≡ pos 0
-    between (pos zero) u d = refl
-    between (pos (suc n)) u d = absurd (u (omega (arith, ints)))
-    between (negsuc n) u d = absurd (d (omega (arith, ints)))
-
-    at_least : (a : ℤ) → pos 0 ≤ℤ a → a <ℤ pos 0 → ⊥
-    at_least a h k = omega (arith, ints)
+pub turned_back : (g a b : V3) → dot a (cross g b) ≡ neg_ℤ (dot b (cross g a))
+turned_back g a b = ring (values (g ∷ a ∷ b ∷ []) []) (dotE v1 (crossE v0 v2)) (opp (dotE v2 (crossE v0 v1))) tt

@@ -1,7 +1,6 @@
 -- Loops that list incidences cell by cell.
 use Rattle.std.proofs.Common.{◌≡◌, ◌⊎◌, ◌↔◌, inl, inr, ⊎_elim, ℕ, ◌+◌, ◌<◌, ◌≤◌, sym, ap, subst, ◌∙◌, arith, List, [], ◌∷◌, ◌++◌, length, get_or, map, All, Contains}
 use Rattle.std.proofs.lemmas.List.{get_or-map, length-map}
-use Rattle.std.proofs.lemmas.List.Elements.{Contains-append_left, Contains-push, Contains-push_cases}
 use Rattle.staat_vec.specs.declared.vector.V3.{V3}
 use Rattle.staat_vec.specs.declared.vector.Sign.{Sign}
 use Rattle.staat_vec.specs.declared.vector.Sign.TheVariants.{Neg, Pos}
@@ -16,7 +15,7 @@ use Rattle.staat_cells.specs.Compositions.{entry_of, no_cell, no_incidence}
 use Rattle.staat_cells.specs.Packing.{incidence_of}
 use Rattle.staat_cells.specs.Beside.{filled}
 use Rattle.staat_cells.specs.Stages.{cell_at, GrewByAll, HaveSigns, IsEdgeIncidence, IsFilledIncidence, IsOwnIncidence, IsIncidence, IsVertexPoint}
-use Rattle.staat_cells.proofs.PushingIncidences.{grew_pair}
+use Rattle.staat_cells.proofs.PushingIncidences.{grew_one, grew_pair}
 use Rattle.staat_vec.proofs.Naturals.{lt_one_more_cases}
 use Rattle.staat_vec.proofs.ListLaws.{any_default}
 
@@ -48,6 +47,59 @@ listed_is cells k lt = let e = length-map cells entry_of in omega (arith, e)
 pub listed_was : (cells : List Cell) (k : ℕ) → k < length (map entry_of cells) → k < length cells
 listed_was cells k lt = let e = length-map cells entry_of in omega (arith, e)
 
+-- ---- the incidences of one cell are those of all cells that have its number
+
+module _ (cells : List CellEntry) (k : ℕ) (lt : k < length cells) where
+  listed_at : (x : Incidence) → x.of ≡ k → x.of < length cells
+  listed_at x of = subst (λ n. n < length cells) (sym of) lt
+
+  abbrev own_of : ℕ → Incidence
+  own_of n = incidence_of (cell_at cells n).signs n
+
+  pub own_numbered : (x : Incidence) → (x ≡ incidence_of (cell_at cells k).signs k) ↔ ((x.of ≡ k) × IsOwnIncidence cells x)
+  own_numbered x = (
+    λ e. let of = ap (λ s. s.of) e in (of, record { listed = listed_at x of; is = e ∙ ap own_of (sym of) }),
+    λ (of, own). own.is ∙ ap own_of of,
+  )
+
+  abbrev filled_of : Sign → ℕ → Incidence
+  filled_of t n = incidence_of (filled t (cell_at cells n).signs) n
+
+  abbrev Two : ℕ → Incidence → Type 0
+  Two n x = (x ≡ incidence_of (filled Neg (cell_at cells n).signs) n) ⊎ (x ≡ incidence_of (filled Pos (cell_at cells n).signs) n)
+
+  pub filled_numbered : (x : Incidence) → Two k x ↔ ((x.of ≡ k) × IsFilledIncidence cells x)
+  filled_numbered x = (
+    λ h. let of = ⊎_elim (λ e. ap (λ s. s.of) e) (λ e. ap (λ s. s.of) e) h in
+        (of, record { listed = listed_at x of; is = moved k x.of (sym of) h }),
+    λ (of, f). moved x.of k of f.is,
+  )
+    where
+      moved : (m n : ℕ) → m ≡ n → Two m x → Two n x
+      moved m n e = ⊎_elim {C = Two n x} (λ f. inl (f ∙ ap (filled_of Neg) e)) (λ f. inr (f ∙ ap (filled_of Pos) e))
+
+  pub edge_numbered : (planes : List V3) (v : V3) → (cell_at cells k).signs ≡ signs_of planes v → (x : Incidence)
+      → IsEdgeIncidence planes v k x ↔ ((x.of ≡ k) × IsIncidence planes Edge cells x)
+  edge_numbered planes v at x = (from, to)
+    where
+      from : IsEdgeIncidence planes v k x → (x.of ≡ k) × IsIncidence planes Edge cells x
+      from e =
+          let of : x.of ≡ k = ap (λ s. s.of) e.is in
+          let border = subst (λ n. IsBorder (cell_at cells n).signs e.signs) (sym of) (subst (λ s. IsBorder s e.signs) (sym at) e.border) in (
+            of,
+            record {
+              signs = e.signs;
+              under = record { cell = e.cell; by_count = e.edge; listed = listed_at x of; border = border };
+              is = e.is ∙ ap (incidence_of e.signs) (sym of);
+            },
+          )
+
+      to : (x.of ≡ k) × IsIncidence planes Edge cells x → IsEdgeIncidence planes v k x
+      to (of, s) =
+          let u = s.under in
+          let border = subst (λ t. IsBorder t s.signs) at (subst (λ n. IsBorder (cell_at cells n).signs s.signs) of u.border) in
+          record { signs = s.signs; cell = u.cell; edge = u.by_count; border = border; is = s.is ∙ ap (incidence_of s.signs) of }
+
 -- ---- incidences that stand where the cells do
 
 no_listed : Cell
@@ -71,62 +123,30 @@ module _ (cells : List Cell) (own : List Incidence) (have : HaveSigns (map entry
     few = few k no_listed lt;
   }
 
--- ---- incidences with the cells' own signs
+-- ---- one cell more
 
-pub own_more : (cells : List Cell) (k : ℕ) (a : Cell) (old new : List Incidence) → k < length cells → a ≡ get_or cells k a → new ≡ old ++ incidence_of a.signs k ∷ [] → HoldsFirst (IsOwnIncidence (map entry_of cells)) k old → HoldsFirst (IsOwnIncidence (map entry_of cells)) (k + 1) new
-own_more cells k a old new lt at is before = holds_more (IsOwnIncidence (map entry_of cells)) (λ x. x ≡ incidence_of a.signs k) k old new before grew (λ x. (from x, to x))
-  where
-    grew : GrewByAll (λ x. x ≡ incidence_of a.signs k) old new
-    grew x = (
-      λ c. ⊎_elim {C = Contains old x ⊎ (x ≡ incidence_of a.signs k)} (λ h. inl h) (λ e. inr (sym e)) (Contains-push_cases old (incidence_of a.signs k) x (subst (λ l. Contains l x) is c)),
-      ⊎_elim {C = Contains new x} (λ c. subst (λ l. Contains l x) (sym is) (Contains-append_left old (incidence_of a.signs k ∷ []) x c)) (λ e. subst (λ l. Contains l x) (sym is) (subst (Contains (old ++ incidence_of a.signs k ∷ [])) (sym e) (Contains-push old (incidence_of a.signs k)))),
-    )
+pub own_more : (cells : List Cell) (k : ℕ) (a : Cell) (old new : List Incidence) → k < length cells → a ≡ get_or cells k a
+    → new ≡ old ++ incidence_of a.signs k ∷ [] → HoldsFirst (IsOwnIncidence (map entry_of cells)) k old
+    → HoldsFirst (IsOwnIncidence (map entry_of cells)) (k + 1) new
+own_more cells k a old new lt at is before =
+    let all = map entry_of cells in
+    let here : new ≡ old ++ incidence_of (cell_at all k).signs k ∷ [] =
+    is ∙ ap (λ (e : CellEntry). old ++ incidence_of e.signs k ∷ []) (sym (entry_is cells k a lt at)) in
+    holds_more (IsOwnIncidence all) (λ x. x ≡ incidence_of (cell_at all k).signs k) k old new before
+    (grew_one old new (incidence_of (cell_at all k).signs k) here) (own_numbered all k (listed_is cells k lt))
 
-    signs_are : (cell_at (map entry_of cells) k).signs ≡ a.signs
-    signs_are = ap (λ c. c.signs) (entry_is cells k a lt at)
-
-    from : (x : Incidence) → x ≡ incidence_of a.signs k → (x.of ≡ k) × IsOwnIncidence (map entry_of cells) x
-    from x e =
-        let of : x.of ≡ k = ap (λ s. s.of) e in
-        (of, record { listed = subst (λ n. n < length (map entry_of cells)) (sym of) (listed_is cells k lt); is = e ∙ ap (λ s. incidence_of s k) (sym signs_are) ∙ ap (λ n. incidence_of (cell_at (map entry_of cells) n).signs n) (sym of) })
-
-    to : (x : Incidence) → (x.of ≡ k) × IsOwnIncidence (map entry_of cells) x → x ≡ incidence_of a.signs k
-    to x (of, own) = own.is ∙ ap (λ n. incidence_of (cell_at (map entry_of cells) n).signs n) of ∙ ap (λ s. incidence_of s k) signs_are
-
--- ---- both incidences of edges
-
-pub filled_more : (cells : List Cell) (k : ℕ) (a : Cell) (old new : List Incidence) → k < length cells → a ≡ get_or cells k a → new ≡ (old ++ incidence_of (filled Neg a.signs) k ∷ []) ++ incidence_of (filled Pos a.signs) k ∷ [] → HoldsFirst (IsFilledIncidence (map entry_of cells)) k old
+filled_more : (cells : List Cell) (k : ℕ) (a : Cell) (old new : List Incidence) → k < length cells → a ≡ get_or cells k a
+    → new ≡ (old ++ incidence_of (filled Neg a.signs) k ∷ []) ++ incidence_of (filled Pos a.signs) k ∷ []
+    → HoldsFirst (IsFilledIncidence (map entry_of cells)) k old
     → HoldsFirst (IsFilledIncidence (map entry_of cells)) (k + 1) new
 filled_more cells k a old new lt at is before =
-    holds_more (IsFilledIncidence (map entry_of cells)) Two k old new before (grew_pair Two old new (incidence_of (filled Neg a.signs) k) (incidence_of (filled Pos a.signs) k) is (λ x. (λ h. h, λ h. h))) (λ x. (from x, to x))
-  where
-    Two : Incidence → Type 0
-    Two x = (x ≡ incidence_of (filled Neg a.signs) k) ⊎ (x ≡ incidence_of (filled Pos a.signs) k)
-
-    signs_are : (cell_at (map entry_of cells) k).signs ≡ a.signs
-    signs_are = ap (λ c. c.signs) (entry_is cells k a lt at)
-
-    one : (t : Sign) (x : Incidence) → x.of ≡ k → x ≡ incidence_of (filled t a.signs) k → x ≡ incidence_of (filled t (cell_at (map entry_of cells) x.of).signs) x.of
-    one t x of e = e ∙ ap (λ s. incidence_of (filled t s) k) (sym signs_are) ∙ ap (λ n. incidence_of (filled t (cell_at (map entry_of cells) n).signs) n) (sym of)
-
-    back : (t : Sign) (x : Incidence) → x.of ≡ k → x ≡ incidence_of (filled t (cell_at (map entry_of cells) x.of).signs) x.of → x ≡ incidence_of (filled t a.signs) k
-    back t x of e = e ∙ ap (λ n. incidence_of (filled t (cell_at (map entry_of cells) n).signs) n) of ∙ ap (λ s. incidence_of (filled t s) k) signs_are
-
-    number : (x : Incidence) → Two x → x.of ≡ k
-    number x h = ⊎_elim (λ e. ap (λ s. s.of) e) (λ e. ap (λ s. s.of) e) h
-
-    from : (x : Incidence) → Two x → (x.of ≡ k) × IsFilledIncidence (map entry_of cells) x
-    from x h =
-        let of = number x h in (
-          of,
-          record {
-            listed = subst (λ n. n < length (map entry_of cells)) (sym of) (listed_is cells k lt);
-            is = ⊎_elim {C = (x ≡ incidence_of (filled Neg (cell_at (map entry_of cells) x.of).signs) x.of) ⊎ (x ≡ incidence_of (filled Pos (cell_at (map entry_of cells) x.of).signs) x.of)} (λ e. inl (one Neg x of e)) (λ e. inr (one Pos x of e)) h;
-          },
-        )
-
-    to : (x : Incidence) → (x.of ≡ k) × IsFilledIncidence (map entry_of cells) x → Two x
-    to x (of, f) = ⊎_elim {C = Two x} (λ e. inl (back Neg x of e)) (λ e. inr (back Pos x of e)) f.is
+    let all = map entry_of cells in
+    let one : Sign → CellEntry → Incidence = λ t e. incidence_of (filled t e.signs) k in
+    let here : new ≡ (old ++ one Neg (cell_at all k) ∷ []) ++ one Pos (cell_at all k) ∷ [] =
+    is ∙ ap (λ e. (old ++ one Neg e ∷ []) ++ one Pos e ∷ []) (sym (entry_is cells k a lt at)) in
+    holds_more (IsFilledIncidence all) (λ x. (x ≡ one Neg (cell_at all k)) ⊎ (x ≡ one Pos (cell_at all k))) k old new before
+    (grew_pair (λ x. (x ≡ one Neg (cell_at all k)) ⊎ (x ≡ one Pos (cell_at all k))) old new (one Neg (cell_at all k)) (one Pos (cell_at all k)) here
+    (λ x. (λ h. h, λ h. h))) (filled_numbered all k (listed_is cells k lt))
 
 -- the two incidences of the edge at place k were added, from one with its signs
 pub own_filled : (cells : List Cell) (own old new : List Incidence) (k : ℕ) → HaveSigns (map entry_of cells) own
@@ -140,35 +160,11 @@ own_filled cells own old new k have few lt made before =
     let at : a ≡ get_or cells k a = any_default cells k no_listed a lt in
     filled_more cells k a old new lt at (made a.signs (own_at cells own have k a lt at) (few k no_listed lt)) before
 
--- ---- the incidences of vertices
-
-pub edge_more : (planes : List V3) (cells : List Cell) (k : ℕ) (a : Cell) (old new : List Incidence) → k < length cells → a ≡ get_or cells k a → All (IsVertexPoint planes) cells → GrewByAll (IsEdgeIncidence planes a.d k) old new → HoldsFirst (IsIncidence planes Edge (map entry_of cells)) k old
+pub edge_more : (planes : List V3) (cells : List Cell) (k : ℕ) (a : Cell) (old new : List Incidence) → k < length cells
+    → a ≡ get_or cells k a → All (IsVertexPoint planes) cells → GrewByAll (IsEdgeIncidence planes a.d k) old new
+    → HoldsFirst (IsIncidence planes Edge (map entry_of cells)) k old
     → HoldsFirst (IsIncidence planes Edge (map entry_of cells)) (k + 1) new
-edge_more planes cells k a old new lt at points grew before = holds_more (IsIncidence planes Edge (map entry_of cells)) (IsEdgeIncidence planes a.d k) k old new before grew (λ x. (from x, to x))
-  where
-    point : IsVertexPoint planes a
-    point = subst (IsVertexPoint planes) (sym at) (points k a lt)
-
-    signs_are : (cell_at (map entry_of cells) k).signs ≡ signs_of planes a.d
-    signs_are = ap (λ c. c.signs) (entry_is cells k a lt at) ∙ point.signs
-
-    from : (x : Incidence) → IsEdgeIncidence planes a.d k x → (x.of ≡ k) × IsIncidence planes Edge (map entry_of cells) x
-    from x e =
-        let of : x.of ≡ k = ap (λ s. s.of) e.is in (
-          of,
-          record {
-            signs = e.signs;
-            under = record {
-              cell = e.cell;
-              by_count = e.edge;
-              listed = subst (λ n. n < length (map entry_of cells)) (sym of) (listed_is cells k lt);
-              border = subst (λ n. IsBorder (cell_at (map entry_of cells) n).signs e.signs) (sym of) (subst (λ s. IsBorder s e.signs) (sym signs_are) e.border);
-            };
-            is = e.is ∙ ap (incidence_of e.signs) (sym of);
-          },
-        )
-
-    to : (x : Incidence) → (x.of ≡ k) × IsIncidence planes Edge (map entry_of cells) x → IsEdgeIncidence planes a.d k x
-    to x (of, s) =
-        let u = s.under in
-        record { signs = s.signs; cell = u.cell; edge = u.by_count; border = subst (λ t. IsBorder t s.signs) signs_are (subst (λ n. IsBorder (cell_at (map entry_of cells) n).signs s.signs) of u.border); is = s.is ∙ ap (incidence_of s.signs) of }
+edge_more planes cells k a old new lt at points grew before =
+    holds_more (IsIncidence planes Edge (map entry_of cells)) (IsEdgeIncidence planes a.d k) k old new before grew
+    (edge_numbered (map entry_of cells) k (listed_is cells k lt) planes a.d
+    (ap (λ c. c.signs) (entry_is cells k a lt at) ∙ (subst (IsVertexPoint planes) (sym at) (points k a lt)).signs))

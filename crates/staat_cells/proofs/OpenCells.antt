@@ -10,42 +10,42 @@ use Rattle.staat_model.proofs.CellLemmas.{edges_add_up_lemma, two_edges_lemma}
 use Rattle.staat_model.proofs.Corners.{HoldsAxes}
 use Rattle.staat_model.proofs.EndLemmas.{edge_sum_in}
 use Rattle.staat_model.proofs.PlaneLemmas.{NoneParallel}
+use Rattle.staat_pairs.specs.Tables.{AreTablePlanes}
 use Rattle.staat_cells.specs.Compositions.{composed, composed_cell}
 use Rattle.staat_cells.specs.Stages.{cell_at, IsUnder}
+use Rattle.staat_cells.proofs.Borders.{HasTwo, IsOnBorder, border_under, some_under, two_under}
+use Rattle.staat_cells.proofs.Grouping.{AreMadeUp}
+use Rattle.staat_cells.proofs.TableRules.{holds_axes, planes_apart, planes_some}
 use Rattle.staat_cells.proofs.Listed.{entry_at, composed_signs, not_same, place_of, rising, StandsAt}
-use Rattle.staat_vec.proofs.Naturals.{same_or}
 
-module _ (planes : List V3) (axes : HoldsAxes planes) (apart : NoneParallel planes) (some : (g : V3) → Contains planes g → g ≢ origin) (edges : List CellEntry) (are : AreCellsOf planes Edge edges) where
-  at_edge : (e : List Sign) → IsCell planes e → kind_of e ≡ Edge → (k : ℕ) × StandsAt planes Edge edges are e k
-  at_edge e cell edge = place_of planes Edge edges are e cell edge
+module _ (planes : List V3) (rules : AreTablePlanes planes) (edges : List CellEntry) (are : AreCellsOf planes Edge edges) where
+  axes : HoldsAxes planes
+  axes = holds_axes planes rules
 
-  border_under : (s e : List Sign) (k : ℕ) → IsCell planes s → kind_of s ≡ Open → IsBorderEdge planes s e → StandsAt planes Edge edges are e k → IsUnder planes Open edges s k
-  border_under s e k cell open_is b at = record { cell = cell; by_count = open_is; listed = at.lt; border = subst (λ t. IsBorder t s) (sym at.is) b.border }
+  apart : NoneParallel planes
+  apart = planes_apart planes rules
+
+  some : (g : V3) → Contains planes g → g ≢ origin
+  some = planes_some planes rules
 
   under_border : (s : List Sign) (k : ℕ) → IsUnder planes Open edges s k → IsBorderEdge planes s (cell_at edges k).signs
   under_border s k u = let e = entry_at planes Edge edges are k u.listed in record { cell = e.cell; edge = e.by_count; border = u.border }
 
-  pub open_some : (s : List Sign) → IsCell planes s → kind_of s ≡ Open → (k : ℕ) × IsUnder planes Open edges s k
-  open_some s cell open_is =
+  edge_on : (s e : List Sign) → IsBorderEdge planes s e → IsOnBorder planes Edge s e
+  edge_on s e b = record { cell = b.cell; by_count = b.edge; border = b.border }
+
+  two_edges : (s : List Sign) → IsCell planes s → kind_of s ≡ Open → HasTwo planes Edge s
+  two_edges s cell open_is =
       let t = two_edges_lemma planes s axes apart cell open_is in
-      let b = t.e_is in
-      let (k, at) = at_edge t.e b.cell b.edge in
-      (k, border_under s t.e k cell open_is b at)
+      record { e = t.e; f = t.f; e_is = edge_on s t.e t.e_is; f_is = edge_on s t.f t.f_is; different = t.different }
 
-  pub open_two : (s : List Sign) (k : ℕ) → IsUnder planes Open edges s k → (j : ℕ) × IsUnder planes Open edges s j × (j ≢ k)
-  open_two s k under =
-      let t = two_edges_lemma planes s axes apart under.cell under.by_count in
-      let b = t.e_is in
-      let c = t.f_is in
-      let (i, at_i) = at_edge t.e b.cell b.edge in
-      let (j, at_j) = at_edge t.f c.cell c.edge in
-      go t.e t.f i j t.different b c at_i at_j (same_or i k)
-    where
-      go : (e f : List Sign) (i j : ℕ) → e ≢ f → IsBorderEdge planes s e → IsBorderEdge planes s f → StandsAt planes Edge edges are e i → StandsAt planes Edge edges are f j → (i ≡ k) ⊎ (i ≢ k) → (j : ℕ) × IsUnder planes Open edges s j × (j ≢ k)
-      go e f i j differ b c at_i at_j (inr n) = (i, border_under s e i under.cell under.by_count b at_i, n)
-      go e f i j differ b c at_i at_j (inl p) = (j, border_under s f j under.cell under.by_count c at_j, λ q. differ (sym at_i.is ∙ ap (λ m. (cell_at edges m).signs) (p ∙ sym q) ∙ at_j.is))
+  at_border : (s y : List Sign) → IsCell planes s → kind_of s ≡ Open → IsBorderEdge planes s y
+      → (m : ℕ) × StandsAt planes Edge edges are y m × IsUnder planes Open edges s m
+  at_border s y cell open_is b =
+      let (m, at) = place_of planes Edge edges are y b.cell b.edge in
+      (m, at, border_under planes Edge Open edges are s y m cell open_is b.border at)
 
-  pub open_entry : (s : List Sign) (j k : ℕ) → IsUnder planes Open edges s j → IsUnder planes Open edges s k → j < k → ((m : ℕ) → IsUnder planes Open edges s m → (m ≡ j) ⊎ ((m ≡ k) ⊎ (k < m)))
+  open_entry : (s : List Sign) (j k : ℕ) → IsUnder planes Open edges s j → IsUnder planes Open edges s k → j < k → ((m : ℕ) → IsUnder planes Open edges s m → (m ≡ j) ⊎ ((m ≡ k) ⊎ (k < m)))
       → IsEntry planes Open (composed_cell Open (cell_at edges j) (cell_at edges k)) × (composed (cell_at edges j).signs (cell_at edges k).signs ≡ s)
   open_entry s j k uj uk lt least =
       let ej = entry_at planes Edge edges are j uj.listed in
@@ -81,7 +81,7 @@ module _ (planes : List V3) (axes : HoldsAxes planes) (apart : NoneParallel plan
       )
     where
       first : (y : List Sign) → IsBorderEdge planes s y → (y ≡ (cell_at edges j).signs) ⊎ (signs_cmp (cell_at edges j).signs y ≡ Less)
-      first y b = let (m, at) = at_edge y b.cell b.edge in go m at (least m (border_under s y m uj.cell uj.by_count b at))
+      first y b = let (m, at, under) = at_border s y uj.cell uj.by_count b in go m at (least m under)
         where
           go : (m : ℕ) → StandsAt planes Edge edges are y m → (m ≡ j) ⊎ ((m ≡ k) ⊎ (k < m)) → (y ≡ (cell_at edges j).signs) ⊎ (signs_cmp (cell_at edges j).signs y ≡ Less)
           go m at (inl p) = inl (sym at.is ∙ ap (λ n. (cell_at edges n).signs) p)
@@ -89,9 +89,16 @@ module _ (planes : List V3) (axes : HoldsAxes planes) (apart : NoneParallel plan
           go m at (inr (inr g)) = inr (ap (signs_cmp (cell_at edges j).signs) (sym at.is) ∙ rising planes Edge edges are j m (omega arith) at.lt)
 
       second : (y : List Sign) → IsBorderEdge planes s y → y ≢ (cell_at edges j).signs → (y ≡ (cell_at edges k).signs) ⊎ (signs_cmp (cell_at edges k).signs y ≡ Less)
-      second y b other = let (m, at) = at_edge y b.cell b.edge in go m at (least m (border_under s y m uj.cell uj.by_count b at))
+      second y b other = let (m, at, under) = at_border s y uj.cell uj.by_count b in go m at (least m under)
         where
           go : (m : ℕ) → StandsAt planes Edge edges are y m → (m ≡ j) ⊎ ((m ≡ k) ⊎ (k < m)) → (y ≡ (cell_at edges k).signs) ⊎ (signs_cmp (cell_at edges k).signs y ≡ Less)
           go m at (inl p) = absurd (other (sym at.is ∙ ap (λ n. (cell_at edges n).signs) p))
           go m at (inr (inl p)) = inl (sym at.is ∙ ap (λ n. (cell_at edges n).signs) p)
           go m at (inr (inr g)) = inr (ap (signs_cmp (cell_at edges k).signs) (sym at.is) ∙ rising planes Edge edges are k m g at.lt)
+
+  pub opens_made_up : AreMadeUp planes Open edges
+  opens_made_up = record {
+    some = λ s cell open_is. some_under planes Edge Open edges are s cell open_is (two_edges s cell open_is);
+    two = λ s k u. two_under planes Edge Open edges are s k u (two_edges s u.cell u.by_count);
+    entry = open_entry;
+  }

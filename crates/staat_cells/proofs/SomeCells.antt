@@ -1,17 +1,16 @@
 -- There are lists of all cells.
 use Rattle.std.proofs.Common.{◌≡◌, ◌≢◌, ◌⊎◌, inl, inr, ℕ, ◌<◌, ◌≤◌, ℤ, pos, refl, sym}
-use Rattle.std.proofs.Common.{ap, subst, ◌∙◌, arith}
+use Rattle.std.proofs.Common.{subst, arith}
 use Rattle.std.proofs.Common.{List, [], ◌∷◌, ◌++◌, length, map, Contains}
 use Rattle.std.proofs.lemmas.Int.{ints}
 use Rattle.staat_vec.specs.declared.vector.V3.{V3}
-use Rattle.staat_vec.specs.declared.vector.Sign.{Sign}
 use Rattle.staat_vec.specs.declared.vector.Sign.TheVariants.{Neg, Pos}
 use Rattle.staat_vec.specs.Lists.{Lists}
 use Rattle.staat_vec.specs.Vectors.{cross, dot, negative, origin, vector, vector_cmp}
 use Rattle.staat_vec.proofs.Unique.{Contains-cases, Contains-front, Contains-later, Contains-nothing}
 use Rattle.staat_vec.proofs.VectorOrder.{vector_exact, vector_total}
 use Rattle.staat_model.specs.declared.tree.Kind.TheVariants.{Edge, Open, Point}
-use Rattle.staat_model.specs.Cells.{AreCells, AreCellsOf, CellEntry, IsBorder}
+use Rattle.staat_model.specs.Cells.{AreCells, AreCellsOf, CellEntry, signs_of}
 use Rattle.staat_model.specs.Planes.{vertices}
 use Rattle.staat_model.proofs.Corners.{HoldsAxes}
 use Rattle.staat_model.proofs.Decisions.{Decided, le_or, lt_or}
@@ -19,16 +18,16 @@ use Rattle.staat_model.proofs.Listings.{Listing, listing_and, listing_as, listin
 use Rattle.staat_model.proofs.Listings.{listing_members, listing_none, listing_over, listing_sorted}
 use Rattle.staat_model.proofs.PlaneLemmas.{NoneParallel}
 use Rattle.staat_pairs.specs.Tables.{AreTablePlanes}
-use Rattle.staat_cells.specs.declared.incidence.Incidence.{Incidence}
 use Rattle.staat_cells.specs.Beside.{beside, filled}
 use Rattle.staat_cells.specs.Compositions.{composed_up_to}
 use Rattle.staat_cells.specs.Packing.{incidence_cmp, incidence_of}
 use Rattle.staat_cells.specs.Stages.{IsAxisOff, IsBesideIncidence, IsBesideOn, IsEdgeIncidence, IsFilledIncidence}
 use Rattle.staat_cells.specs.Stages.{IsIncidence, IsOwnIncidence, cell_at, point_entry}
-use Rattle.staat_cells.proofs.EdgeCells.{edge_entry, edge_some, edge_two, point_in}
+use Rattle.staat_cells.proofs.EdgeCells.{edges_made_up, point_in}
 use Rattle.staat_cells.proofs.Grouping.{composed_are_cells}
 use Rattle.staat_cells.proofs.IncidenceOrder.{incidence_exact, incidence_total}
-use Rattle.staat_cells.proofs.OpenCells.{open_entry, open_some, open_two}
+use Rattle.staat_cells.proofs.Numbered.{edge_numbered, filled_numbered, own_numbered}
+use Rattle.staat_cells.proofs.OpenCells.{opens_made_up}
 use Rattle.staat_cells.proofs.PointCells.{points_are}
 use Rattle.staat_cells.proofs.TableRules.{edge_incidences_are, holds_axes, planes_apart, planes_some, vertex_off}
 use Rattle.staat_cells.proofs.WholeLists.{open_incidences_are}
@@ -105,16 +104,9 @@ module _ (planes : List V3) (are : AreTablePlanes planes) (few : length planes �
   corners = listing_sorted vector_cmp vector_total vector_exact (listing_members (vertices planes))
 
   own_listing : (cells : List CellEntry) → Listing (IsOwnIncidence cells)
-  own_listing cells = listing_as from (λ x o. (x.of, o.listed, o.is))
-      (listing_image at (listing_below (length cells)))
-    where
-      at : ℕ → Incidence
-      at k = incidence_of (cell_at cells k).signs k
-
-      from : (x : Incidence) → (k : ℕ) × (k < length cells) × (x ≡ at k) → IsOwnIncidence cells x
-      from x (k, lt, e) =
-          let of : x.of ≡ k = ap (λ s. s.of) e in
-          record { listed = subst (λ n. n < length cells) (sym of) lt; is = e ∙ ap at (sym of) }
+  own_listing cells = listing_as (λ x (k, lt, e). ((own_numbered cells k lt x).0 e).1)
+      (λ x o. (x.of, o.listed, (own_numbered cells x.of o.listed x).1 (refl, o)))
+      (listing_image (λ k. incidence_of (cell_at cells k).signs k) (listing_below (length cells)))
 
   some_points : (cells : List CellEntry) × AreCellsOf planes Point cells
   some_points =
@@ -142,10 +134,13 @@ module _ (planes : List V3) (are : AreTablePlanes planes) (few : length planes �
           (λ c. listing_pair (beside planes v (cross c m)) (beside planes v (negative (cross c m)))))
 
   module _ (points : List CellEntry) (points_of : AreCellsOf planes Point points) where
+    signs_at : (k : ℕ) → k < length points → (cell_at points k).signs ≡ signs_of planes (cell_at points k).d
+    signs_at k lt = sym (point_in planes are points points_of k lt).1
+
     edges_at : (k : ℕ) → k < length points → Listing (IsEdgeIncidence planes (cell_at points k).d k)
     edges_at k lt =
         let v = (cell_at points k).d in
-        let has = (point_in planes rules apart some points points_of k lt).0 in
+        let has = (point_in planes are points points_of k lt).0 in
         let (m, off) = axis_off v (vertex_off planes v are has) in
         listing_as (λ x. (edge_incidences_are planes v m k x are has off).0)
         (λ x. (edge_incidences_are planes v m k x are has off).1)
@@ -158,77 +153,30 @@ module _ (planes : List V3) (are : AreTablePlanes planes) (few : length planes �
     ]
 
     edge_listing : Listing (IsIncidence planes Edge points)
-    edge_listing = listing_as from to
+    edge_listing = listing_as
+        (λ x (k, lt, (lt', e)). ((edge_numbered points k lt planes (cell_at points k).d (signs_at k lt) x).0 e).1)
+        (λ x s. let lt = s.under.listed in
+        (x.of, lt, (lt, (edge_numbered points x.of lt planes (cell_at points x.of).d (signs_at x.of lt) x).1 (refl, s))))
         (listing_over (λ k x. (k < length points) × IsEdgeIncidence planes (cell_at points k).d k x)
         (listing_below (length points)) at_place)
-      where
-        from : (x : Incidence) → (k : ℕ) × (k < length points)
-            × ((k < length points) × IsEdgeIncidence planes (cell_at points k).d k x)
-            → IsIncidence planes Edge points x
-        from x (k, lt, (lt', e)) =
-            let of : x.of ≡ k = ap (λ s. s.of) e.is in
-            let border : IsBorder (cell_at points k).signs e.signs =
-            subst (λ s. IsBorder s e.signs) (point_in planes rules apart some points points_of k lt).1 e.border in
-            record {
-              signs = e.signs;
-              under = record {
-                cell = e.cell;
-                by_count = e.edge;
-                listed = subst (λ n. n < length points) (sym of) lt;
-                border = subst (λ n. IsBorder (cell_at points n).signs e.signs) (sym of) border;
-              };
-              is = e.is ∙ ap (incidence_of e.signs) (sym of);
-            }
-
-        to : (x : Incidence) → IsIncidence planes Edge points x
-            → (k : ℕ) × (k < length points)
-            × ((k < length points) × IsEdgeIncidence planes (cell_at points k).d k x)
-        to x s =
-            let u = s.under in
-            let on = (point_in planes rules apart some points points_of x.of u.listed).1 in (
-              x.of,
-              u.listed,
-              (
-                u.listed,
-                record {
-                  signs = s.signs;
-                  cell = u.cell;
-                  edge = u.by_count;
-                  border = subst (λ t. IsBorder t s.signs) (sym on) u.border;
-                  is = s.is;
-                },
-              ),
-            )
 
     some_edges : (cells : List CellEntry) × AreCellsOf planes Edge cells
     some_edges =
         let (incidences, sorted) = listing_sorted incidence_cmp incidence_total incidence_exact edge_listing in (
           composed_up_to Edge points incidences (length incidences),
           composed_are_cells planes Edge points incidences few sorted
-              (edge_two planes rules apart some points points_of)
-              (edge_entry planes rules apart some points points_of)
-              (edge_some planes rules apart some points points_of),
+              (edges_made_up planes are points points_of),
         )
 
   -- ---- open cells
 
   module _ (edges : List CellEntry) (edges_of : AreCellsOf planes Edge edges) where
     filled_listing : Listing (IsFilledIncidence edges)
-    filled_listing = listing_as from (λ x f. (x.of, f.listed, f.is))
-        (listing_over (λ k x. (x ≡ at Neg k) ⊎ (x ≡ at Pos k)) (listing_below (length edges))
-        (λ k. listing_pair (at Neg k) (at Pos k)))
-      where
-        at : Sign → ℕ → Incidence
-        at t k = incidence_of (filled t (cell_at edges k).signs) k
-
-        from : (x : Incidence) → (k : ℕ) × (k < length edges) × ((x ≡ at Neg k) ⊎ (x ≡ at Pos k))
-            → IsFilledIncidence edges x
-        from x (k, lt, inl e) =
-            let of : x.of ≡ k = ap (λ s. s.of) e in
-            record { listed = subst (λ n. n < length edges) (sym of) lt; is = inl (e ∙ ap (at Neg) (sym of)) }
-        from x (k, lt, inr e) =
-            let of : x.of ≡ k = ap (λ s. s.of) e in
-            record { listed = subst (λ n. n < length edges) (sym of) lt; is = inr (e ∙ ap (at Pos) (sym of)) }
+    filled_listing = listing_as (λ x (k, lt, h). ((filled_numbered edges k lt x).0 h).1)
+        (λ x f. (x.of, f.listed, (filled_numbered edges x.of f.listed x).1 (refl, f)))
+        (listing_over (λ k x. (x ≡ incidence_of (filled Neg (cell_at edges k).signs) k)
+        ⊎ (x ≡ incidence_of (filled Pos (cell_at edges k).signs) k)) (listing_below (length edges))
+        (λ k. listing_pair (incidence_of (filled Neg (cell_at edges k).signs) k) (incidence_of (filled Pos (cell_at edges k).signs) k)))
 
     some_opens : (cells : List CellEntry) × AreCellsOf planes Open cells
     some_opens =
@@ -236,8 +184,7 @@ module _ (planes : List V3) (are : AreTablePlanes planes) (few : length planes �
         let (incidences, sorted) = listing_sorted incidence_cmp incidence_total incidence_exact
         (listing_as (λ x. (same x).0) (λ x. (same x).1) filled_listing) in (
           composed_up_to Open edges incidences (length incidences),
-          composed_are_cells planes Open edges incidences few sorted (open_two planes rules apart some edges edges_of)
-              (open_entry planes rules apart some edges edges_of) (open_some planes rules apart some edges edges_of),
+          composed_are_cells planes Open edges incidences few sorted (opens_made_up planes are edges edges_of),
         )
 
   pub some_cells : (cells : List CellEntry) × AreCells planes cells

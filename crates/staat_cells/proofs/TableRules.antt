@@ -22,7 +22,7 @@ use Rattle.staat_cells.specs.declared.incidence.Incidence.{Incidence}
 use Rattle.staat_cells.specs.Beside.{beside}
 use Rattle.staat_cells.specs.Stages.{GrewByAll, IsAxisOff, IsBesideIncidence, IsEdgeIncidence}
 use Rattle.staat_cells.proofs.EdgeIncidences.{beside_edge, edge_is_beside}
-use Rattle.staat_cells.proofs.PushingIncidences.{grew_same}
+use Rattle.staat_cells.proofs.Growing.{grown_same}
 use Rattle.staat_cells.proofs.VertexSigns.{vertex_crossed}
 use Rattle.staat_model.proofs.ListedVertices.{vertex_some}
 
@@ -101,7 +101,6 @@ edge_incidences_are planes v m k x are has off = (from, to)
 pub edge_incidences_grew : (planes : List V3) (v m : V3) (k of : ℕ) (old new : List Incidence) → AreTablePlanes planes
     → Contains (vertices planes) v → IsAxisOff v m → of ≡ k → GrewByAll (IsBesideIncidence planes planes v m of) old new
     → GrewByAll (IsEdgeIncidence planes v k) old new
-edge_incidences_grew planes v m k of old new are has off number grew =
-    grew_same (IsBesideIncidence planes planes v m k) (IsEdgeIncidence planes v k) old new
-    (λ x. edge_incidences_are planes v m k x are has off)
-    (subst (λ n. GrewByAll (IsBesideIncidence planes planes v m n) old new) number grew)
+edge_incidences_grew planes v m k of old new are has off number grew x =
+    grown_same (subst (λ n. GrewByAll (IsBesideIncidence planes planes v m n) old new) number grew x)
+    (edge_incidences_are planes v m k x are has off)

@@ -6,7 +6,7 @@ use Rattle.std.proofs.lemmas.Cmp.{by_ranked, ranked}
 use Rattle.std.specs.declared.cmp.Ordering.{Ordering}
 use Rattle.std.specs.declared.cmp.Ordering.TheVariants.{Less, Equal, Greater}
 use Rattle.std.proofs.Math.Nat.{pow-suc, pow-le-pow_right}
-use Rattle.std.proofs.lemmas.List.{length-take, length-drop, take_all}
+use Rattle.std.proofs.lemmas.List.{drop-drop, drop_all, length-take, length-drop}
 use Rattle.staat_vec.specs.declared.vector.Sign.{Sign}
 use Rattle.staat_vec.specs.declared.vector.Sign.TheVariants.{Neg, Zero, Pos}
 use Rattle.staat_model.specs.Cells.{sign_place, signs_cmp}
@@ -81,28 +81,28 @@ same_drop n s t e = length-drop n s ∙ ap (λ m. m - n) e ∙ sym (length-drop 
 same_take : (n : ℕ) (s t : List Sign) → length s ≡ length t → length (take n s) ≡ length (take n t)
 same_take n s t e = length-take n s ∙ ap (λ m. min n m) e ∙ sym (length-take n t)
 
-one_word : (s t : List Sign) → length s ≡ length t → nat_cmp (packed (take 64 s)) (packed (take 64 t)) ≡ signs_cmp (take 64 s) (take 64 t)
-one_word s t e = packed_order 0 (take 64 s) (take 64 t) (same_take 64 s t e)
+-- the words of the signs from n on, and then what follows them
+from_word : (n : ℕ) (s t : List Sign) (then_of : Ordering) → length s ≡ length t
+    → ordering_then (nat_cmp (packed (take 64 (drop n s))) (packed (take 64 (drop n t))))
+    (ordering_then (signs_cmp (drop (n + 64) s) (drop (n + 64) t)) then_of)
+    ≡ ordering_then (signs_cmp (drop n s) (drop n t)) then_of
+from_word n s t then_of e =
+    let p = take 64 (drop n s) in
+    let q = take 64 (drop n t) in
+    let even = same_drop n s t e in
+    (λ i. ordering_then (packed_order 0 p q (same_take 64 (drop n s) (drop n t) even) i)
+    (ordering_then (signs_cmp (sym (drop-drop 64 n s) i) (sym (drop-drop 64 n t) i)) then_of))
+    ∙ sym (then_then (signs_cmp p q) (signs_cmp (drop 64 (drop n s)) (drop 64 (drop n t))) then_of)
+    ∙ ap (λ r. ordering_then r then_of) (sym (split_order 64 (drop n s) (drop n t) even))
 
 -- the order of signs of at most 256 planes, and then of numbers
 pub incidence_order : (s t : List Sign) (j k : ℕ) → length s ≡ length t → length s ≤ 256 → incidence_cmp (incidence_of s j) (incidence_of t k) ≡ ordering_then (signs_cmp s t) (nat_cmp j k)
 incidence_order s t j k e le =
-    let s1 = drop 64 s in
-    let t1 = drop 64 t in
-    let e1 = same_drop 64 s t e in
-    let s2 = drop 64 s1 in
-    let t2 = drop 64 t1 in
-    let e2 = same_drop 64 s1 t1 e1 in
-    let s3 = drop 64 s2 in
-    let t3 = drop 64 t2 in
-    let e3 = same_drop 64 s2 t2 e2 in
-    let short : length s3 ≤ 64 = omega (arith, length-drop 64 s, length-drop 64 (drop 64 s), length-drop 64 (drop 64 (drop 64 s))) in
-    let last : signs_cmp (take 64 s3) (take 64 t3) ≡ signs_cmp s3 t3 = λ i. signs_cmp (take_all 64 s3 short i) (take_all 64 t3 (omega (arith, e3, short)) i) in
     let of : Ordering = nat_cmp j k in
-    (λ i. ordering_then (one_word s t e i) (ordering_then (one_word s1 t1 e1 i) (ordering_then (one_word s2 t2 e2 i) (ordering_then ((one_word s3 t3 e3 ∙ last) i) of))))
-    ∙ ap (λ r. ordering_then (signs_cmp (take 64 s) (take 64 t)) (ordering_then (signs_cmp (take 64 s1) (take 64 t1)) r)) (join (take 64 s2) (take 64 t2) s3 t3 s2 t2 of (split_order 64 s2 t2 e2))
-    ∙ ap (λ r. ordering_then (signs_cmp (take 64 s) (take 64 t)) r) (join (take 64 s1) (take 64 t1) s2 t2 s1 t1 of (split_order 64 s1 t1 e1))
-    ∙ join (take 64 s) (take 64 t) s1 t1 s t of (split_order 64 s t e)
-  where
-    join : (p q s1 t1 s t : List Sign) (of : Ordering) → signs_cmp s t ≡ ordering_then (signs_cmp p q) (signs_cmp s1 t1) → ordering_then (signs_cmp p q) (ordering_then (signs_cmp s1 t1) of) ≡ ordering_then (signs_cmp s t) of
-    join p q s1 t1 s t of e = sym (then_then (signs_cmp p q) (signs_cmp s1 t1) of) ∙ ap (λ r. ordering_then r of) (sym e)
+    let word : ℕ → Ordering = λ n. nat_cmp (packed (take 64 (drop n s))) (packed (take 64 (drop n t))) in
+    let none : (l : List Sign) → length l ≤ 256 → drop 256 l ≡ [] = λ l le. drop_all 256 l le in
+    ap (λ r. ordering_then (word 0) (ordering_then (word 64) (ordering_then (word 128) r)))
+    ((λ i. ordering_then (word 192) (ordering_then (signs_cmp (sym (none s le) i) (sym (none t (omega (arith, e, le))) i)) of)) ∙ from_word 192 s t of e)
+    ∙ ap (λ r. ordering_then (word 0) (ordering_then (word 64) r)) (from_word 128 s t of e)
+    ∙ ap (λ r. ordering_then (word 0) r) (from_word 64 s t of e)
+    ∙ from_word 0 s t of e

@@ -1,21 +1,18 @@
 -- Signs that give way at the places of their zeros, one after another.
-use Rattle.std.proofs.Common.{◌≡◌, ℕ, zero, suc, ◌+◌, ◌-◌, ◌<◌, ◌≤◌}
-use Rattle.std.proofs.Common.{Bool, true, false, refl, sym, ap, subst, ◌∙◌, arith}
+use Rattle.std.proofs.Common.{◌≡◌, ◌⊎◌, inl, inr, ℕ, suc, ◌+◌, ◌<◌, ◌≤◌}
+use Rattle.std.proofs.Common.{true, false, refl, sym, ap, subst, ◌∙◌, arith}
 use Rattle.std.proofs.Common.{add-one, append_assoc, drop-cons, List, [], ◌∷◌, ◌++◌, drop, get_or, length}
-use Rattle.std.proofs.lemmas.List.{drop_all}
+use Rattle.std.proofs.lemmas.List.{drop_all, drop_more, get_or-map, length-map, length-set}
 use Rattle.std.specs.Prelude.{if◌then◌else◌, slice_set}
 use Rattle.staat_vec.specs.declared.vector.V3.{V3}
 use Rattle.staat_vec.specs.Vectors.{dot, origin, sign}
 use Rattle.staat_vec.specs.declared.vector.Sign.{Sign}
-use Rattle.staat_vec.specs.declared.vector.Sign.TheVariants.{Pos, Zero}
+use Rattle.staat_vec.specs.declared.vector.Sign.TheVariants.{Neg, Pos, Zero}
 use Rattle.staat_model.specs.Cells.{is_zero, signs_of}
 use Rattle.staat_cells.specs.declared.incidence.Incidence.{Incidence}
-use Rattle.staat_cells.specs.Beside.{then_sign}
 use Rattle.staat_cells.specs.ZeroSigns.{HasIncidenceZeroAt, IsZeroAt, zero_places}
 use Rattle.staat_cells.specs.Compositions.{composed}
 use Rattle.staat_cells.specs.Packing.{incidence_of}
-use Rattle.staat_cells.proofs.Patching.{changed_incidence, other_is, patched, patched_end, patched_kept, towards_at}
-use Rattle.staat_cells.proofs.Patching.{towards_long, zero_incidence, zero_is}
 use Rattle.staat_vec.proofs.ListLaws.{append_nothing}
 
 -- ---- the zeros, one sign after another
@@ -56,182 +53,120 @@ all_found s k found le has =
 
 -- ---- the signs change at these places alone
 
--- b and s differ at zeros of s alone
-abbrev pub DifferAtZeros : List Sign → List Sign → Type 0
-DifferAtZeros b s = (j : ℕ) → j < length s → is_zero (get_or s j Pos) ≡ false
-    → get_or b j Pos ≡ get_or s j Pos
+-- Signs l are those of b, but for zeros at the places that are left, the first sign at place k. There b has the signs
+-- of t.
+abbrev pub IsLeftTo : ℕ → (l b t : List Sign) → List ℕ → Type 0
+IsLeftTo k [] [] t left = left ≡ []
+IsLeftTo k [] (y ∷ b) t left = ⊥
+IsLeftTo k (x ∷ l) [] t left = ⊥
+IsLeftTo k (x ∷ l) (y ∷ b) [] left = ⊥
+IsLeftTo k (x ∷ l) (y ∷ b) (u ∷ t) left = ((x ≡ y) × IsLeftTo (suc k) l b t left)
+    ⊎ ((x ≡ Zero) × (y ≡ u) × ((rest : List ℕ) × (left ≡ k ∷ rest) × IsLeftTo (suc k) l b t rest))
 
--- the signs before some place have given way, and the zeros from there on are left
-pub record IsPatchedBefore (b s : List Sign) (x : Incidence) (of : ℕ) (left : List ℕ) : Type 0 where
-  pub place : ℕ
-  pub most : place ≤ length s
-  pub is : x ≡ incidence_of (patched place b s) of
-  pub zeros : left ≡ zero_places place (drop place s)
+zeros_left : (k : ℕ) (s t : List Sign) → length s ≡ length t → IsLeftTo k s (composed s t) t (zero_places k s)
+zeros_left k [] t e = refl
+zeros_left k (x ∷ s) [] e = absurd (omega arith)
+zeros_left k (Neg ∷ s) (u ∷ t) e = inl (refl, zeros_left (suc k) s t (omega arith))
+zeros_left k (Zero ∷ s) (u ∷ t) e = inr (refl, refl, (zero_places (suc k) s, refl, zeros_left (suc k) s t (omega arith)))
+zeros_left k (Pos ∷ s) (u ∷ t) e = inl (refl, zeros_left (suc k) s t (omega arith))
 
--- the same, with a zero at the place
-pub record IsPatchedAt (b s : List Sign) (x : Incidence) (of : ℕ) (z : ℕ) (rest : List ℕ) : Type 0 where
-  pub within : z < length s
-  pub zero_at : get_or s z Pos ≡ Zero
-  pub is : x ≡ incidence_of (patched z b s) of
-  pub zeros : rest ≡ zero_places (z + 1) (drop (z + 1) s)
+none_left : (k : ℕ) (l b t : List Sign) → IsLeftTo k l b t [] → l ≡ b
+none_left k [] [] t h = refl
+none_left k [] (y ∷ b) t h = absurd h
+none_left k (x ∷ l) [] t h = absurd h
+none_left k (x ∷ l) (y ∷ b) [] h = absurd h
+none_left k (x ∷ l) (y ∷ b) (u ∷ t) (inl (e, h)) = λ i. e i ∷ none_left (suc k) l b t h i
+none_left k (x ∷ l) (y ∷ b) (u ∷ t) (inr (z, f, (rest, e, h))) = cc
 
-head_of : (d : ℕ) → List ℕ → ℕ
-head_of d [] = d
-head_of d (x ∷ xs) = x
+-- the first place that is left, and what is left once the sign there has given way
+record IsNext (k : ℕ) (l b t : List Sign) (z : ℕ) (rest : List ℕ) : Type 0 where
+  place : ℕ
+  at : z ≡ k + place
+  within : place < length l
+  zero_at : IsZeroAt l place
+  changed : (v : Sign) → v ≡ get_or t place Neg → IsLeftTo k (slice_set l place v) b t rest
 
-tail_of : List ℕ → List ℕ
-tail_of [] = []
-tail_of (x ∷ xs) = xs
-
-same_head : (x y : ℕ) (xs ys : List ℕ) → x ∷ xs ≡ y ∷ ys → x ≡ y
-unfolding head_of
-same_head x y xs ys e = ap (head_of 0) e
-
-same_tail : (x y : ℕ) (xs ys : List ℕ) → x ∷ xs ≡ y ∷ ys → xs ≡ ys
-unfolding tail_of
-same_tail x y xs ys e = ap tail_of e
-
-module _ (b s : List Sign) (same : length b ≡ length s) (differ : DifferAtZeros b s) (x : Incidence) (of : ℕ) where
-  reach : (n k : ℕ) → k + n ≡ length s → x ≡ incidence_of (patched k b s) of → (z : ℕ) (rest : List ℕ)
-      → z ∷ rest ≡ zero_places k (drop k s) → IsPatchedAt b s x of z rest
-  reach zero k e is z rest left =
-      absurd (none (left ∙ ap (zero_places k) (drop_all k s (omega (arith, e)))))
-    where
-      none : z ∷ rest ≡ [] → ⊥
-      none p = cc
-  reach (suc n) k e is z rest left =
-      by_sign (is_zero (get_or s k Pos)) refl (λ f later. reach n (k + 1) (omega (arith, e)) f z rest later)
-    where
-      lt : k < length s
-      lt = omega (arith, e)
-
-      by_sign : (t : Bool) → is_zero (get_or s k Pos) ≡ t
-          → (x ≡ incidence_of (patched (k + 1) b s) of → z ∷ rest ≡ zero_places (k + 1) (drop (k + 1) s)
-          → IsPatchedAt b s x of z rest)
-          → IsPatchedAt b s x of z rest
-      by_sign true t later =
-          let split : z ∷ rest ≡ k ∷ zero_places (k + 1) (drop (k + 1) s) =
-          left ∙ next_places s k Pos lt
-          ∙ ap (λ c. if c then k ∷ zero_places (k + 1) (drop (k + 1) s) else zero_places (k + 1) (drop (k + 1) s))
-          t in
-          let here = same_head z k rest (zero_places (k + 1) (drop (k + 1) s)) split in
-          record {
-            within = subst (λ m. m < length s) (sym here) lt;
-            zero_at = ap (λ m. get_or s m Pos) here ∙ zero_is (get_or s k Pos) t;
-            is = is ∙ ap (λ m. incidence_of (patched m b s) of) (sym here);
-            zeros = same_tail z k rest (zero_places (k + 1) (drop (k + 1) s)) split
-                ∙ ap (λ m. zero_places (m + 1) (drop (m + 1) s)) (sym here);
-          }
-      by_sign false t later =
-          later (is ∙ ap (λ l. incidence_of l of) (patched_kept k b s same lt Pos (differ k lt t)))
-          (left ∙ next_places s k Pos lt
-          ∙ ap (λ c. if c then k ∷ zero_places (k + 1) (drop (k + 1) s) else zero_places (k + 1) (drop (k + 1) s))
-          t)
-
-  finish : (n k : ℕ) → k + n ≡ length s → x ≡ incidence_of (patched k b s) of
-      → [] ≡ zero_places k (drop k s)
-      → x ≡ incidence_of b of
-  finish zero k e is left = is ∙ ap (λ l. incidence_of l of) (patched_end k b s same (omega (arith, e)))
-  finish (suc n) k e is left =
-      by_sign (is_zero (get_or s k Pos)) refl (λ f later. finish n (k + 1) (omega (arith, e)) f later)
-    where
-      lt : k < length s
-      lt = omega (arith, e)
-
-      none : [] ≡ k ∷ zero_places (k + 1) (drop (k + 1) s) → ⊥
-      none p = cc
-
-      by_sign : (t : Bool) → is_zero (get_or s k Pos) ≡ t
-          → (x ≡ incidence_of (patched (k + 1) b s) of → [] ≡ zero_places (k + 1) (drop (k + 1) s)
-          → x ≡ incidence_of b of)
-          → x ≡ incidence_of b of
-      by_sign true t later =
-          absurd (none (left ∙ next_places s k Pos lt
-          ∙ ap (λ c. if c then k ∷ zero_places (k + 1) (drop (k + 1) s) else zero_places (k + 1) (drop (k + 1) s))
-          t))
-      by_sign false t later =
-          later (is ∙ ap (λ l. incidence_of l of) (patched_kept k b s same lt Pos (differ k lt t)))
-          (left ∙ next_places s k Pos lt
-          ∙ ap (λ c. if c then k ∷ zero_places (k + 1) (drop (k + 1) s) else zero_places (k + 1) (drop (k + 1) s))
-          t)
-
-  pub patched_none : (zeros : List ℕ) → zeros ≡ zero_places 0 s → x ≡ incidence_of s of
-      → IsPatchedBefore b s x of (drop 0 zeros)
-  patched_none zeros are is = record { place = 0; most = omega arith; is = is; zeros = are }
-
-  pub patched_next : (zeros : List ℕ) (i : ℕ) → i < length zeros → IsPatchedBefore b s x of (drop i zeros)
-      → IsPatchedAt b s x of (get_or zeros i 0) (drop (i + 1) zeros)
-  patched_next zeros i lt h =
-      let m = h.most in
-      reach (length s - h.place) h.place (omega (arith, m)) h.is (get_or zeros i 0) (drop (i + 1) zeros)
-      (ap (λ n. get_or zeros i 0 ∷ drop n zeros) (add-one i) ∙ sym (drop-cons zeros i 0 lt) ∙ h.zeros)
-
-  pub patched_all : (zeros : List ℕ) (i : ℕ) → length zeros ≤ i → IsPatchedBefore b s x of (drop i zeros)
-      → x ≡ incidence_of b of
-  patched_all zeros i le h =
-      let m = h.most in
-      finish (length s - h.place) h.place (omega (arith, m)) h.is
-      (sym (drop_all i zeros le) ∙ h.zeros)
+next_left : (k : ℕ) (l b t : List Sign) (z : ℕ) (rest : List ℕ) → IsLeftTo k l b t (z ∷ rest) → IsNext k l b t z rest
+next_left k [] [] t z rest h = cc
+next_left k [] (y ∷ b) t z rest h = absurd h
+next_left k (x ∷ l) [] t z rest h = absurd h
+next_left k (x ∷ l) (y ∷ b) [] z rest h = absurd h
+next_left k (x ∷ l) (y ∷ b) (u ∷ t) z rest (inl (e, h)) =
+    let n = next_left (suc k) l b t z rest h in
+    let at = n.at in
+    let within = n.within in
+    record { place = suc n.place; at = omega arith; within = omega arith; zero_at = n.zero_at; changed = λ v is. inl (e, n.changed v is) }
+next_left k (x ∷ l) (y ∷ b) (u ∷ t) z rest (inr (e, f, (others, is, h))) =
+    let here : z ≡ k = cc in
+    let same : others ≡ rest = cc in
+    record {
+      place = 0;
+      at = omega arith;
+      within = omega arith;
+      zero_at = e;
+      changed = λ v v_is. inl (v_is ∙ sym f, subst (IsLeftTo (suc k) l b t) same h);
+    }
 
 -- ---- towards a direction
 
-differ_towards : (planes : List V3) (s : List Sign) (w : V3) → length s ≡ length planes
-    → DifferAtZeros (composed s (signs_of planes w)) s
-differ_towards planes s w long j lt z =
-    towards_at planes s w long j Pos origin lt
-    ∙ other_is (get_or s j Pos) (sign (dot (get_or planes j origin) w)) z
-
-pub towards_none : (planes : List V3) (s : List Sign) (w : V3) → length s ≡ length planes
-    → (x : Incidence) (of : ℕ)
-    (zeros : List ℕ) → zeros ≡ zero_places 0 s → x ≡ incidence_of s of
-    → IsPatchedBefore (composed s (signs_of planes w)) s x of (drop 0 zeros)
-towards_none planes s w long x of =
-    patched_none (composed s (signs_of planes w)) s (towards_long planes s w long) (differ_towards planes s w long) x
-    of
-
-pub towards_all : (planes : List V3) (s : List Sign) (w : V3) → length s ≡ length planes
-    → (x : Incidence) (of : ℕ)
-    (zeros : List ℕ) (i : ℕ) → length zeros ≤ i → IsPatchedBefore (composed s (signs_of planes w)) s x of
-    (drop i zeros)
-    → x ≡ incidence_of (composed s (signs_of planes w)) of
-towards_all planes s w long x of =
-    patched_all (composed s (signs_of planes w)) s (towards_long planes s w long) (differ_towards planes s w long) x of
+-- so many signs have given way to those of t, and so become b, but for zeros at the places that are left
+pub record IsPatched (count : ℕ) (b t : List Sign) (x : Incidence) (of : ℕ) (places : List ℕ) : Type 0 where
+  pub signs : List Sign
+  pub is : x ≡ incidence_of signs of
+  pub long : length signs ≡ count
+  pub left : IsLeftTo 0 signs b t places
 
 module _ (planes : List V3) (s : List Sign) (w : V3) (long : length s ≡ length planes) (x : Incidence) (of : ℕ)
-    (zeros : List ℕ) (i : ℕ) (lt : i < length zeros)
-    (before : IsPatchedBefore (composed s (signs_of planes w)) s x of (drop i zeros)) where
-  next : IsPatchedAt (composed s (signs_of planes w)) s x of (get_or zeros i 0) (drop (i + 1) zeros)
-  next =
-      patched_next (composed s (signs_of planes w)) s (towards_long planes s w long) (differ_towards planes s w long) x
-      of
-      zeros i lt before
+    (zeros : List ℕ) where
+  abbrev IsPatchedTo : Incidence → List ℕ → Type 0
+  IsPatchedTo x left = IsPatched (length s) (composed s (signs_of planes w)) (signs_of planes w) x of left
 
-  pub zero_within : get_or zeros i 0 < length s
-  zero_within = let h = next in h.within
+  pub towards_none : zeros ≡ zero_places 0 s → x ≡ incidence_of s of → IsPatchedTo x (drop 0 zeros)
+  towards_none are is = record {
+    signs = s;
+    is = is;
+    long = refl;
+    left = subst (IsLeftTo 0 s (composed s (signs_of planes w)) (signs_of planes w)) (sym are)
+        (zeros_left 0 s (signs_of planes w) (long ∙ sym (length-map planes (λ n. sign (dot n w)))));
+  }
 
-  pub zero_there : HasIncidenceZeroAt x (length s) (get_or zeros i 0)
-  zero_there =
-      let h = next in
-      zero_incidence x (get_or zeros i 0) of (composed s (signs_of planes w)) s (towards_long planes s w long) h.within
-      h.is
-      (length s) Pos refl h.zero_at
+  pub towards_all : (i : ℕ) → length zeros ≤ i → IsPatchedTo x (drop i zeros)
+      → x ≡ incidence_of (composed s (signs_of planes w)) of
+  towards_all i le h = h.is ∙ ap (λ l. incidence_of l of) (none_left 0 h.signs (composed s (signs_of planes w)) (signs_of planes w)
+      (subst (IsLeftTo 0 h.signs (composed s (signs_of planes w)) (signs_of planes w)) (drop_all i zeros le) h.left))
 
-  pub zero_changed : (new : Incidence) (t : Sign) (e : V3) → t ≡ sign (dot (get_or planes (get_or zeros i 0) e) w)
-      → ((l : List Sign) → x ≡ incidence_of l x.of → length l ≡ length s → IsZeroAt l (get_or zeros i 0)
-      → new ≡ incidence_of (slice_set l (get_or zeros i 0) t) x.of)
-      → IsPatchedBefore (composed s (signs_of planes w)) s new of (drop (i + 1) zeros)
-  zero_changed new t e is change =
-      let h = next in
-      let within = h.within in
-      let z = get_or zeros i 0 in
-      let there : get_or (composed s (signs_of planes w)) (get_or zeros i 0) Pos ≡ t =
-      towards_at planes s w long z Pos e within
-      ∙ ap (λ y. then_sign y (sign (dot (get_or planes (get_or zeros i 0) e) w))) h.zero_at ∙ sym is in
-      record {
-        place = z + 1;
-        most = omega (arith, within);
-        is = changed_incidence x z of (composed s (signs_of planes w)) s (towards_long planes s w long) within h.is
-            (length s) Pos t
-            new refl h.zero_at there change;
-        zeros = h.zeros;
-      }
+  module _ (i : ℕ) (lt : i < length zeros) (before : IsPatchedTo x (drop i zeros)) where
+    next : IsNext 0 before.signs (composed s (signs_of planes w)) (signs_of planes w) (get_or zeros i 0) (drop (i + 1) zeros)
+    next = next_left 0 before.signs (composed s (signs_of planes w)) (signs_of planes w) (get_or zeros i 0) (drop (i + 1) zeros)
+        (subst (IsLeftTo 0 before.signs (composed s (signs_of planes w)) (signs_of planes w)) (drop_more zeros i 0 lt) before.left)
+
+    there : get_or zeros i 0 ≡ next.place
+    there = let at = next.at in omega arith
+
+    pub zero_within : get_or zeros i 0 < length s
+    zero_within = let within = next.within in omega (arith, within, there, before.long)
+
+    own : x ≡ incidence_of before.signs x.of
+    own = before.is ∙ ap (incidence_of before.signs) (sym (ap (λ y. y.of) before.is))
+
+    zero_at : IsZeroAt before.signs (get_or zeros i 0)
+    zero_at = subst (IsZeroAt before.signs) (sym there) next.zero_at
+
+    pub zero_there : HasIncidenceZeroAt x (length s) (get_or zeros i 0)
+    zero_there = record { signs = before.signs; is = own; long = before.long; zero_at = zero_at }
+
+    pub zero_changed : (new : Incidence) (v : Sign) (e : V3) → v ≡ sign (dot (get_or planes (get_or zeros i 0) e) w)
+        → ((l : List Sign) → x ≡ incidence_of l x.of → length l ≡ length s → IsZeroAt l (get_or zeros i 0)
+        → new ≡ incidence_of (slice_set l (get_or zeros i 0) v) x.of)
+        → IsPatchedTo new (drop (i + 1) zeros)
+    zero_changed new v e is change =
+        let z = get_or zeros i 0 in record {
+          signs = slice_set before.signs z v;
+          is = change before.signs own before.long zero_at
+              ∙ ap (incidence_of (slice_set before.signs z v)) (ap (λ y. y.of) before.is);
+          long = length-set before.signs z v ∙ before.long;
+          left = subst (λ m. IsLeftTo 0 (slice_set before.signs m v) (composed s (signs_of planes w)) (signs_of planes w) (drop (i + 1) zeros))
+              (sym there) (next.changed v (is
+              ∙ sym (get_or-map (λ n. sign (dot n w)) planes z e Neg (let within = zero_within in omega (arith, within, long)))
+              ∙ ap (λ m. get_or (signs_of planes w) m Neg) there));
+        }

@@ -1,5 +1,5 @@
 -- Packed signs in which a zero gives way to another sign.
-use Rattle.std.proofs.Common.{◌≡◌, ℕ, zero, suc, ◌+◌, ◌-◌, ◌*◌, ◌^◌, ◌%◌, ◌<◌, ◌≤◌, refl, sym, ap, ◌∙◌, arith, List, [], ◌∷◌, length, get_or, take, drop, min}
+use Rattle.std.proofs.Common.{◌≡◌, ℕ, zero, suc, ◌+◌, ◌-◌, ◌*◌, ◌^◌, ◌%◌, ◌<◌, ◌≤◌, ◌⊎◌, inl, inr, refl, sym, ap, ◌∙◌, arith, List, [], ◌∷◌, length, get_or, take, drop, min}
 use Rattle.std.specs.Prelude.{slice_set}
 use Rattle.std.proofs.Math.Nat.{mul_assoc, mul_comm, mul-le-mul_right, pow-suc, pow-le-pow_right}
 use Rattle.std.proofs.Math.Seq.{take-set-lt}
@@ -8,9 +8,8 @@ use Rattle.std.proofs.lemmas.Nat.{one_shl}
 use Rattle.staat_vec.specs.declared.vector.Sign.{Sign}
 use Rattle.staat_vec.specs.declared.vector.Sign.TheVariants.{Neg, Pos}
 use Rattle.staat_model.specs.Cells.{sign_place}
-use Rattle.staat_cells.specs.declared.incidence.Incidence.{Incidence}
 use Rattle.staat_cells.specs.ZeroSigns.{HasZeroAt, IsZeroAt}
-use Rattle.staat_cells.specs.Packing.{packed, packed_after, incidence_of}
+use Rattle.staat_cells.specs.Packing.{packed, packed_after}
 use Rattle.staat_cells.proofs.Words.{place_small}
 
 -- ---- powers
@@ -100,100 +99,33 @@ module _ (word count k : ℕ) (lt : k < count) (le : count ≤ 64) where
 
 -- ---- four words
 
-pub word_zero : (s : List Sign) (word count k : ℕ) → word ≡ packed (take 64 s) → length s ≡ count → IsZeroAt s k → k < 64 → HasZeroAt word (min 64 count) k
-word_zero s word count k e l z lt = record { signs = take 64 s; is = sym e; long = length-take 64 s ∙ ap (min 64) l; zero_at = get_or-take 64 s k Pos lt ∙ z }
+-- the word of the signs from n on, where the sign at k gives way at its place m
+module _ (n m rest left : ℕ) (s : List Sign) (count k : ℕ) (long : length s ≡ count) (rest_is : rest ≡ count - n)
+    (left_is : left ≡ min 64 rest) (zero_at : IsZeroAt s k) (at : n + m ≡ k) (lt : m < 64) where
+  word_long : length (take 64 (drop n s)) ≡ left
+  word_long =
+      length-take 64 (drop n s) ∙ ap (min 64) (length-drop n s ∙ ap (λ j. j - n) long ∙ sym rest_is) ∙ sym left_is
 
-pub word_long : (s : List Sign) (count n : ℕ) → length s ≡ count → n ≡ min 64 count → length (take 64 s) ≡ n
-word_long s count n l e = length-take 64 s ∙ ap (min 64) l ∙ sym e
+  word_at : IsZeroAt (take 64 (drop n s)) m
+  word_at = get_or-take 64 (drop n s) m Pos lt ∙ get_or-drop n s m Pos ∙ ap (λ j. get_or s j Pos) at ∙ zero_at
 
-pub word_at : (s : List Sign) (k : ℕ) → k < 64 → IsZeroAt s k → IsZeroAt (take 64 s) k
-word_at s k lt z = get_or-take 64 s k Pos lt ∙ z
+  pub word_zero : (word : ℕ) → word ≡ packed (take 64 (drop n s)) → HasZeroAt word left m
+  word_zero word e = record { signs = take 64 (drop n s); is = sym e; long = word_long; zero_at = word_at }
 
-pub later_zero : (s : List Sign) (k m : ℕ) → IsZeroAt s k → m + 64 ≡ k → IsZeroAt (drop 64 s) m
-later_zero s k m z e = get_or-drop 64 s m Pos ∙ ap (λ n. get_or s n Pos) (let h : 64 + m ≡ k = omega (arith, e) in h) ∙ z
+  pub word_given : (word new : ℕ) (t : Sign) → word ≡ packed (take 64 (drop n s))
+      → ((l : List Sign) → packed l ≡ word → length l ≡ left → IsZeroAt l m → new ≡ packed (slice_set l m t))
+      → new ≡ packed (take 64 (drop n (slice_set s k t)))
+  word_given word new t e given =
+      given (take 64 (drop n s)) (sym e) word_long word_at
+      ∙ ap packed (sym (take-set-lt 64 (drop n s) m t lt)
+      ∙ ap (take 64) (sym (drop-set-add n s m t) ∙ ap (λ j. drop n (slice_set s j t)) at))
 
-pub later_long : (s : List Sign) (count left : ℕ) → length s ≡ count → left ≡ count - 64 → length (drop 64 s) ≡ left
-later_long s count left l e = length-drop 64 s ∙ ap (λ n. n - 64) l ∙ sym e
-
-first_word : (s : List Sign) (k : ℕ) (t : Sign) → k < 64 → packed (slice_set (take 64 s) k t) ≡ packed (take 64 (slice_set s k t))
-first_word s k t lt = ap packed (sym (take-set-lt 64 s k t lt))
-
-first_rest : (s : List Sign) (k : ℕ) (t : Sign) → k < 64 → drop 64 s ≡ drop 64 (slice_set s k t)
-first_rest s k t lt = sym (drop-set-lt 64 s k t lt)
-
-later_word : (s : List Sign) (k : ℕ) (t : Sign) → 64 ≤ k → packed (take 64 s) ≡ packed (take 64 (slice_set s k t))
-later_word s k t le = ap packed (sym (take-set-le 64 s k t le))
-
-later_rest : (s : List Sign) (k m : ℕ) (t : Sign) → m + 64 ≡ k → slice_set (drop 64 s) m t ≡ drop 64 (slice_set s k t)
-later_rest s k m t e = sym (drop-set-add 64 s m t) ∙ ap (λ n. drop 64 (slice_set s n t)) (let h : 64 + m ≡ k = omega (arith, e) in h)
-
-module _ (x : Incidence) (s : List Sign) (k : ℕ) (t : Sign) (is : x ≡ incidence_of s x.of) where
-  pub changed_a : (word : ℕ) → k < 64 → word ≡ packed (slice_set (take 64 s) k t) → record { a = word; b = x.b; c = x.c; d = x.d; of = x.of } ≡ incidence_of (slice_set s k t) x.of
-  changed_a word lt e =
-      let r = first_rest s k t lt in
-      let b : x.b ≡ packed (take 64 (drop 64 s)) = ap (λ y. y.b) is in
-      let c : x.c ≡ packed (take 64 (drop 64 (drop 64 s))) = ap (λ y. y.c) is in
-      let d : x.d ≡ packed (take 64 (drop 64 (drop 64 (drop 64 s)))) = ap (λ y. y.d) is in
-      λ i. record {
-        a = (e ∙ first_word s k t lt) i;
-        b = (b ∙ ap (λ l. packed (take 64 l)) r) i;
-        c = (c ∙ ap (λ l. packed (take 64 (drop 64 l))) r) i;
-        d = (d ∙ ap (λ l. packed (take 64 (drop 64 (drop 64 l)))) r) i;
-        of = x.of;
-      }
-
-  pub changed_b : (word m : ℕ) → m + 64 ≡ k → m < 64 → word ≡ packed (slice_set (take 64 (drop 64 s)) m t) → record { a = x.a; b = word; c = x.c; d = x.d; of = x.of } ≡ incidence_of (slice_set s k t) x.of
-  changed_b word m e lt w =
-      let q = later_rest s k m t e in
-      let s1 = drop 64 s in
-      let r = first_rest s1 m t lt in
-      let a : x.a ≡ packed (take 64 s) = ap (λ y. y.a) is in
-      let c : x.c ≡ packed (take 64 (drop 64 (drop 64 s))) = ap (λ y. y.c) is in
-      let d : x.d ≡ packed (take 64 (drop 64 (drop 64 (drop 64 s)))) = ap (λ y. y.d) is in
-      λ i. record {
-        a = (a ∙ later_word s k t (omega (arith, e))) i;
-        b = (w ∙ first_word s1 m t lt ∙ ap (λ l. packed (take 64 l)) q) i;
-        c = (c ∙ ap (λ l. packed (take 64 l)) r ∙ ap (λ l. packed (take 64 (drop 64 l))) q) i;
-        d = (d ∙ ap (λ l. packed (take 64 (drop 64 l))) r ∙ ap (λ l. packed (take 64 (drop 64 (drop 64 l)))) q) i;
-        of = x.of;
-      }
-
-  pub changed_c : (word m : ℕ) → m + 128 ≡ k → m < 64 → word ≡ packed (slice_set (take 64 (drop 64 (drop 64 s))) m t) → record { a = x.a; b = x.b; c = word; d = x.d; of = x.of } ≡ incidence_of (slice_set s k t) x.of
-  changed_c word m e lt w =
-      let n = m + 64 in
-      let q = later_rest s k n t (omega (arith, e)) in
-      let s1 = drop 64 s in
-      let q1 = later_rest s1 n m t refl in
-      let s2 = drop 64 s1 in
-      let r = first_rest s2 m t lt in
-      let a : x.a ≡ packed (take 64 s) = ap (λ y. y.a) is in
-      let b : x.b ≡ packed (take 64 (drop 64 s)) = ap (λ y. y.b) is in
-      let d : x.d ≡ packed (take 64 (drop 64 (drop 64 (drop 64 s)))) = ap (λ y. y.d) is in
-      λ i. record {
-        a = (a ∙ later_word s k t (omega (arith, e))) i;
-        b = (b ∙ later_word s1 n t (omega arith) ∙ ap (λ l. packed (take 64 l)) q) i;
-        c = (w ∙ first_word s2 m t lt ∙ ap (λ l. packed (take 64 l)) q1 ∙ ap (λ l. packed (take 64 (drop 64 l))) q) i;
-        d = (d ∙ ap (λ l. packed (take 64 l)) r ∙ ap (λ l. packed (take 64 (drop 64 l))) q1 ∙ ap (λ l. packed (take 64 (drop 64 (drop 64 l)))) q) i;
-        of = x.of;
-      }
-
-  pub changed_d : (word m : ℕ) → m + 192 ≡ k → m < 64 → word ≡ packed (slice_set (take 64 (drop 64 (drop 64 (drop 64 s)))) m t) → record { a = x.a; b = x.b; c = x.c; d = word; of = x.of } ≡ incidence_of (slice_set s k t) x.of
-  changed_d word m e lt w =
-      let n = m + 64 in
-      let p = n + 64 in
-      let q = later_rest s k p t (omega (arith, e)) in
-      let s1 = drop 64 s in
-      let q1 = later_rest s1 p n t refl in
-      let s2 = drop 64 s1 in
-      let q2 = later_rest s2 n m t refl in
-      let s3 = drop 64 s2 in
-      let a : x.a ≡ packed (take 64 s) = ap (λ y. y.a) is in
-      let b : x.b ≡ packed (take 64 (drop 64 s)) = ap (λ y. y.b) is in
-      let c : x.c ≡ packed (take 64 (drop 64 (drop 64 s))) = ap (λ y. y.c) is in
-      λ i. record {
-        a = (a ∙ later_word s k t (omega (arith, e))) i;
-        b = (b ∙ later_word s1 p t (omega arith) ∙ ap (λ l. packed (take 64 l)) q) i;
-        c = (c ∙ later_word s2 n t (omega arith) ∙ ap (λ l. packed (take 64 l)) q1 ∙ ap (λ l. packed (take 64 (drop 64 l))) q) i;
-        d = (w ∙ first_word s3 m t lt ∙ ap (λ l. packed (take 64 l)) q2 ∙ ap (λ l. packed (take 64 (drop 64 l))) q1 ∙ ap (λ l. packed (take 64 (drop 64 (drop 64 l)))) q) i;
-        of = x.of;
-      }
+-- that of the signs from n on, where the sign at k is not one of these
+pub word_kept : (n k : ℕ) (s : List Sign) (t : Sign) (word : ℕ) → (k < n) ⊎ (n + 64 ≤ k)
+    → word ≡ packed (take 64 (drop n s)) → word ≡ packed (take 64 (drop n (slice_set s k t)))
+word_kept n k s t word (inl lt) e = e ∙ ap (λ l. packed (take 64 l)) (sym (drop-set-lt n s k t lt))
+word_kept n k s t word (inr le) e =
+    let m = k - n in
+    let at : n + m ≡ k = omega (arith, le) in
+    e ∙ ap packed (sym (take-set-le 64 (drop n s) m t (omega (arith, le)))
+    ∙ ap (take 64) (sym (drop-set-add n s m t) ∙ ap (λ j. drop n (slice_set s j t)) at))

@@ -57,24 +57,23 @@ pub record HasConeRoom (old new : List Batch) : Type 0 where
   pub arcs : (signs : List Sign) (x y : ℕ) → IsListedArc new signs x y ↔ IsListedArc old signs x y
   pub batches : All IsBatch new
 
--- the batches have grown by a cone of the parts a and b
-pub record AddsCone (cone : List HalfSpace) (a b : ℕ) (old new : List Batch) : Type 0 where
-  pub arcs : (signs : List Sign) (x y : ℕ)
-      → IsListedArc new signs x y ↔ (IsListedArc old signs x y ⊎ ((x ≡ a) × (y ≡ b) × AreInside signs cone))
-  pub batches : All IsBatch new
-
--- by cones of the parts a and b
-pub record AddsConesOf (cones : List (List HalfSpace)) (a b : ℕ) (old new : List Batch) : Type 0 where
-  pub arcs : (signs : List Sign) (x y : ℕ)
-      → IsListedArc new signs x y ↔
-      (IsListedArc old signs x y ⊎ ((x ≡ a) × (y ≡ b) × Any (AreInside signs) cones))
-  pub batches : All IsBatch new
-
 -- the batches have grown by what has the arcs of P
 pub record AddsArcs (P : List Sign → ℕ → ℕ → Type 0) (old new : List Batch) : Type 0 where
   pub arcs : (signs : List Sign) (a b : ℕ)
       → IsListedArc new signs a b ↔ (IsListedArc old signs a b ⊎ P signs a b)
   pub batches : All IsBatch new
+
+-- the arc from a to b, where directions with these signs are in the cone
+abbrev pub IsArcInside : (a b : ℕ) → List Sign → ℕ → ℕ → List HalfSpace → Type 0
+IsArcInside a b signs x y cone = (x ≡ a) × (y ≡ b) × AreInside signs cone
+
+-- the batches have grown by a cone of the parts a and b
+abbrev pub AddsCone : List HalfSpace → ℕ → ℕ → List Batch → List Batch → Type 0
+AddsCone cone a b old new = AddsArcs (λ signs x y. IsArcInside a b signs x y cone) old new
+
+-- by cones of the parts a and b
+abbrev pub AddsConesOf : List (List HalfSpace) → ℕ → ℕ → List Batch → List Batch → Type 0
+AddsConesOf cones a b old new = AddsArcs (λ signs x y. Any (IsArcInside a b signs x y) cones) old new
 
 -- these signs lead ahead of piece i of a and piece j of b
 abbrev pub IsPairAhead : Table → ℕ → ℕ → ℕ → ℕ → List Sign → Type 0

@@ -1,7 +1,6 @@
 -- Cells as they are listed, and cells composed of the first two cells on their borders.
 use Rattle.std.specs.Prelude.{◌≡◌, ℕ, zero, suc, ◌+◌, ◌<◌, Bool, true, ◌&&◌, not, nat_eq}
-use Rattle.std.specs.Prelude.{if◌then◌else◌, List, [], ◌∷◌, ◌++◌, All}
-use Rattle.std.specs.Prelude.{drop, length, map, slice_index_or}
+use Rattle.std.specs.Prelude.{if◌then◌else◌, List, [], ◌∷◌, ◌++◌, All, length, slice_index_or}
 use Rattle.staat_vec.specs.declared.vector.Sign.{Sign}
 use Rattle.staat_vec.specs.Vectors.{origin, plus}
 use Rattle.staat_model.specs.declared.tree.Kind.{Kind}
@@ -60,13 +59,6 @@ begun_up_to incidences zero = []
 begun_up_to incidences (suc i) =
     begun_up_to incidences i
     ++ (if begins_cell incidences i then slice_index_or incidences i no_incidence ∷ [] else [])
-
--- the cells of the incidences, whose lower cells stand in the list from a place on, were added to it
-pub record AddsComposed (kind : Kind) (from : ℕ) (incidences : List Incidence) (old new : List Cell) : Type 0 where
-  pub added : List Cell
-  pub composed : map entry_of added
-      ≡ composed_up_to kind (map entry_of (drop from old)) incidences (length incidences)
-  pub is : new ≡ old ++ added
 
 -- each incidence is of a listed cell, and where a cell begins another incidence of it follows
 pub record HavePairs (incidences : List Incidence) (count : ℕ) : Type 0 where

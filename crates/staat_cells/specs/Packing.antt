@@ -20,8 +20,8 @@ abbrev pub incidence_of : List Sign → ℕ → Incidence
 incidence_of s k = record {
   a = packed (take 64 s);
   b = packed (take 64 (drop 64 s));
-  c = packed (take 64 (drop 64 (drop 64 s)));
-  d = packed (take 64 (drop 64 (drop 64 (drop 64 s))));
+  c = packed (take 64 (drop 128 s));
+  d = packed (take 64 (drop 192 s));
   of = k;
 }
 

@@ -1,8 +1,7 @@
 -- The points and edges of planes, and their open cells one after another.
-use Rattle.std.specs.Prelude.{◌≡◌, ◌≤◌, ℕ, List, [], ◌∷◌, ◌++◌, All, MatchOption, Option}
-use Rattle.std.specs.Prelude.{if◌then◌else◌, drop, length, map, take, true, false}
+use Rattle.std.specs.Prelude.{◌≡◌, ℕ, List, [], ◌∷◌, All, MatchOption, Option}
+use Rattle.std.specs.Prelude.{if◌then◌else◌, length, map, true, false}
 use Rattle.staat_vec.specs.declared.vector.V3.{V3}
-use Rattle.staat_vec.specs.Lists.{Lists}
 use Rattle.staat_vec.specs.declared.vector.TheConstants.{EDGE}
 use Rattle.staat_vec.specs.Vectors.{IsWithin}
 use Rattle.staat_model.specs.declared.tree.Kind.{Kind}
@@ -10,26 +9,9 @@ use Rattle.staat_model.specs.declared.tree.Kind.TheVariants.{Edge, Open, Point}
 use Rattle.staat_model.specs.Cells.{AreCellsOf, CellEntry}
 use Rattle.staat_cells.specs.declared.cell.Cell.{Cell}
 use Rattle.staat_cells.specs.declared.incidence.Incidence.{Incidence}
-use Rattle.staat_cells.specs.declared.lower_cells.LowerCells.{LowerCells}
 use Rattle.staat_cells.specs.declared.skeleton.Skeleton.{Skeleton}
 use Rattle.staat_cells.specs.Compositions.{HaveEqualLengths, HavePairs, begins_cell, composed_at, composed_up_to}
 use Rattle.staat_cells.specs.Compositions.{entry_of}
-use Rattle.staat_cells.specs.Packing.{incidence_cmp}
-use Rattle.staat_cells.specs.Stages.{IsFilledIncidence}
-
--- all cells of the kind, ascending by signs, were added to a list
-pub record AddsCellsOf (planes : List V3) (kind : Kind) (old new : List Cell) : Type 0 where
-  pub added : List Cell
-  pub are : AreCellsOf planes kind (map entry_of added)
-  pub is : new ≡ old ++ added
-
--- the points and then the edges of planes, and the incidences of the edges with the open cells, in order
-pub record AreLowerCells (planes : List V3) (lower : LowerCells) : Type 0 where
-  pub place : lower.points ≤ length lower.cells.items
-  pub points : AreCellsOf planes Point (map entry_of (take lower.points lower.cells.items))
-  pub edges : AreCellsOf planes Edge (map entry_of (drop lower.points lower.cells.items))
-  pub incidences : Lists incidence_cmp (IsFilledIncidence (map entry_of (drop lower.points lower.cells.items)))
-      lower.incidences.items
 
 -- a cell begins at the place, and this is it
 pub record IsComposedAt (kind : Kind) (lower : List CellEntry) (incidences : List Incidence) (i : ℕ) (c : Cell)

@@ -1,5 +1,5 @@
 -- The incidences of the cells of one kind with those of the next, on whose borders they are.
-use Rattle.std.specs.Prelude.{◌≡◌, ◌≢◌, ◌⊎◌, ◌↔◌, ℕ, ◌<◌, pos}
+use Rattle.std.specs.Prelude.{◌≡◌, ◌≢◌, ◌⊎◌, ◌↔◌, ℕ, ◌-◌, ◌<◌, pos, Bool, if◌then◌else◌}
 use Rattle.std.specs.Prelude.{List, length, map, slice_index_or, Contains}
 use Rattle.staat_vec.specs.declared.vector.V3.{V3}
 use Rattle.staat_vec.specs.declared.vector.Sign.{Sign}
@@ -88,6 +88,10 @@ pub record IsEdgeIncidence (planes : List V3) (v : V3) (k : ℕ) (x : Incidence)
 pub record IsAxisOff (v m : V3) : Type 0 where
   pub axis : Contains axes m
   pub off : dot m v ≢ pos 0
+
+-- the place of the i-th of so many, counted from the end or from the beginning
+abbrev pub place_from : ℕ → ℕ → Bool → ℕ
+place_from count i back = if back then count - 1 - i else i
 
 -- the list has grown by what has P
 abbrev pub GrewByAll : (Incidence → Type 0) → List Incidence → List Incidence → Type 0

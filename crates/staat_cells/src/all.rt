@@ -6,8 +6,8 @@ ghost use Rattle.staat_model.specs.Cells.{AreCells, HasOneCell, signs_of};
 ghost use Rattle.staat_cells.specs.Compositions.{entry_of};
 
 use crate::cell::Cells;
-use crate::compose::push_composed;
-use crate::lower_cells::LowerCells;
+use crate::compose::composed_cells;
+use crate::skeleton::Skeleton;
 use staat_limits::MOST_CELL_PLANES;
 use staat_model::Kind;
 use staat_planes::PlaneTable;
@@ -28,14 +28,11 @@ pub fn all_cells(alloc: Global, table: &PlaneTable) -> Result<Cells, OutOfMemory
     ensures one { IfOk result (λ cells. (d : Vector) → d ≢ origin
         → HasOneCell table.now.planes (map entry_of cells) d) }
 {
-    let lower = LowerCells::of_planes(alloc, table.planes())?;
-    let mut cells = lower.cells;
-    push_composed(
-        alloc,
-        Kind::Open,
-        &mut cells,
-        lower.points,
-        &lower.incidences,
-    )?;
+    let skeleton = Skeleton::of_planes(alloc, table.planes())?;
+    let mut opens = composed_cells(alloc, Kind::Open, &skeleton.edges, &skeleton.incidences)?;
+    let mut edges = skeleton.edges;
+    let mut cells = skeleton.points;
+    cells.append(&mut edges)?;
+    cells.append(&mut opens)?;
     Ok(Cells::from_vec(cells))
 }

@@ -57,6 +57,14 @@ pub struct Batch {
 
 // ---- tests of cones
 
+// the word of the side t with the cone j, which is on the side s
+fn with_outside(word: u128, t: Sign, s: Sign, j: usize) -> u128
+    requires { j < 128 }
+    ensures { (k : ℕ) → IsLeft result k ↔ (IsLeft word k × (k ≡ j → t ≡ s)) }
+{
+    if t == s { word } else { word | 1 << j }
+}
+
 // the test with the cone j, which is on the side s of its plane
 fn with_cone(test: PlaneTest, s: Sign, j: usize) -> PlaneTest
     requires { j < 128 }
@@ -64,18 +72,13 @@ fn with_cone(test: PlaneTest, s: Sign, j: usize) -> PlaneTest
     ensures left { (t : SignValue) (k : ℕ) → IsLeft (outside_at result t) k
         ↔ (IsLeft (outside_at test t) k × (k ≡ j → t ≡ s)) }
 {
-    let bit: u128 = 1 << j;
-    let below = test.outside[0];
-    let on = test.outside[1];
-    let above = test.outside[2];
-    let outside = match s {
-        Sign::Neg => [below, on | bit, above | bit],
-        Sign::Zero => [below | bit, on, above | bit],
-        Sign::Pos => [below | bit, on | bit, above],
-    };
     PlaneTest {
         plane: test.plane,
-        outside,
+        outside: [
+            with_outside(test.outside[0], Sign::Neg, s, j),
+            with_outside(test.outside[1], Sign::Zero, s, j),
+            with_outside(test.outside[2], Sign::Pos, s, j),
+        ],
     }
 }
 

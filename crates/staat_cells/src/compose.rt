@@ -1,9 +1,8 @@
 // Cells from the first two cells on their borders.
-ghost use Rattle.std.specs.Prelude.{◌≡◌, ◌<◌, ◌≤◌, ◌+◌, All, IfOk, OnOk, drop, length, map};
-ghost use Rattle.std.specs.List.{between};
+ghost use Rattle.std.specs.Prelude.{◌≡◌, ◌<◌, All, IfOk, length, map};
 ghost use Rattle.staat_vec.specs.Vectors.{IsWithin};
-ghost use Rattle.staat_cells.specs.Compositions.{AddsComposed, HaveEqualLengths, HavePairs, begins_cell, begun_up_to};
-ghost use Rattle.staat_cells.specs.Compositions.{composed, composed_cell, entry_of, same_words};
+ghost use Rattle.staat_cells.specs.Compositions.{HaveEqualLengths, HavePairs, begins_cell, begun_up_to, composed};
+ghost use Rattle.staat_cells.specs.Compositions.{composed_cell, composed_up_to, entry_of, same_words};
 ghost use Rattle.staat_cells.specs.Skeletons.{IsFoundAt};
 ghost use Rattle.staat_cells.specs.Beside.{then_sign};
 
@@ -101,46 +100,24 @@ pub(crate) fn begun(alloc: Global, incidences: &[Incidence]) -> Result<Vec<Incid
     Ok(found)
 }
 
-// the cell that begins at the place `i`, if one does, where the lower cells stand between two places of a list
-fn composed_within(
+/// The cells of the incidences.
+pub(crate) fn composed_cells(
     alloc: Global,
     kind: Kind,
-    cells: &[Cell],
-    from: usize,
-    end: usize,
+    lower: &[Cell],
     incidences: &[Incidence],
-    i: usize,
-) -> Result<Option<Cell>, OutOfMemory>
-    requires from { from ≤ end }
-    requires end { end ≤ length cells.now }
-    requires place { i < length incidences.now }
-    requires pairs { HavePairs incidences.now (length (between from end cells.now)) }
-    requires size { All (λ c. IsWithin EDGE c.d) (between from end cells.now) }
-    requires signs { HaveEqualLengths (between from end cells.now) }
-    ensures { IfOk result (IsFoundAt kind (map entry_of (between from end cells.now)) incidences.now i) }
+) -> Result<Vec<Cell>, OutOfMemory>
+    requires pairs { HavePairs incidences.now (length lower.now) }
+    requires size { All (λ c. IsWithin EDGE c.d) lower.now }
+    requires signs { HaveEqualLengths lower.now }
+    ensures { IfOk result (λ cells. map entry_of cells.items
+        ≡ composed_up_to kind (map entry_of lower.now) incidences.now (length incidences.now)) }
 {
-    composed_at(alloc, kind, &cells[from..end], incidences, i)
-}
-
-/// Adds the cells of the incidences to a list, in which the lower cells stand from the place `from` on.
-pub(crate) fn push_composed(
-    alloc: Global,
-    kind: Kind,
-    cells: &mut Vec<Cell>,
-    from: usize,
-    incidences: &[Incidence],
-) -> Result<(), OutOfMemory>
-    requires place { from ≤ length cells.old.items }
-    requires pairs { HavePairs incidences.now (length (drop from cells.old.items)) }
-    requires size { All (λ c. IsWithin EDGE c.d) (drop from cells.old.items) }
-    requires signs { HaveEqualLengths (drop from cells.old.items) }
-    ensures { OnOk result (AddsComposed kind from incidences.now cells.old.items cells.new.items) }
-{
-    let end = cells.len();
+    let mut cells = Vec::with_capacity(alloc, incidences.len() / 2)?;
     for i in 0..incidences.len() {
-        if let Some(cell) = composed_within(alloc, kind, cells, from, end, incidences, i)? {
+        if let Some(cell) = composed_at(alloc, kind, lower, incidences, i)? {
             cells.push(cell)?;
         }
     }
-    Ok(())
+    Ok(cells)
 }

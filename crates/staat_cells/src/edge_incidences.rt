@@ -1,5 +1,5 @@
 // The incidences of vertices: the edges that end there.
-ghost use Rattle.std.specs.Prelude.{◌≡◌, ◌≢◌, ◌<◌, ◌≤◌, ◌↔◌, ◌-◌, ◌++◌, [], ◌∷◌, false, true};
+ghost use Rattle.std.specs.Prelude.{◌≡◌, ◌≢◌, ◌<◌, ◌≤◌, ◌↔◌, ◌++◌, [], ◌∷◌};
 ghost use Rattle.std.specs.Prelude.{All, Contains, IfOk, OnOk, length, map, slice_index_or};
 ghost use Rattle.staat_vec.specs.Vectors.{IsWithin, origin};
 ghost use Rattle.staat_model.specs.Cells.{signs_of};
@@ -12,7 +12,7 @@ ghost use Rattle.staat_cells.specs.Compositions.{entry_of};
 ghost use Rattle.staat_cells.specs.Packing.{incidence_of};
 ghost use Rattle.staat_cells.specs.Beside.{beside};
 ghost use Rattle.staat_cells.specs.Stages.{GrewByAll, HaveSigns, IsAxisOff, IsBesideIncidence, IsEdgeIncidence};
-ghost use Rattle.staat_cells.specs.Stages.{IsIncidence, IsVertexPoint};
+ghost use Rattle.staat_cells.specs.Stages.{IsIncidence, IsVertexPoint, place_from};
 
 use crate::cell::Cell;
 use crate::incidence::Incidence;
@@ -83,8 +83,7 @@ fn push_at(
 // the place of the i-th of so many, counted from the end or from the beginning
 fn place_from(count: usize, i: usize, back: bool) -> usize
     requires { i < count }
-    ensures back { back ≡ true → result ≡ count - 1 - i }
-    ensures front { back ≡ false → result ≡ i }
+    ensures is { result ≡ place_from count i back }
     ensures small { result < count }
 {
     if back { count - 1 - i } else { i }

@@ -1,6 +1,6 @@
 // The first open cell of planes, made by itself: it is on the negative side of each plane.
 ghost use Rattle.std.specs.Prelude.{◌≡◌, ◌≢◌, ◌<◌, ◌≤◌, ◌++◌, [], ◌∷◌};
-ghost use Rattle.std.specs.Prelude.{Contains, List, MatchOption, length};
+ghost use Rattle.std.specs.Prelude.{Contains, List, MatchOption, length, pos, unsigned_abs};
 ghost use Rattle.staat_vec.specs.declared.vector.V3.{V3 as Vector};
 ghost use Rattle.staat_vec.specs.Vectors.{IsWithin, dot, cross, origin};
 ghost use Rattle.staat_model.specs.declared.tree.Kind.TheVariants.{Open};
@@ -42,6 +42,25 @@ fn ends_between(g: V3, a: V3, b: V3) -> Ends
     }
 }
 
+// the ends on the plane g by the coordinate planes a and b, of which `turn` is on which side of b the first end lies
+fn ends_turned(g: V3, a: V3, b: V3, turn: i128) -> Ends
+    requires g { IsWithin NORMAL g }
+    requires a { IsWithin NORMAL a }
+    requires b { IsWithin NORMAL b }
+    requires a_in { Contains axes a }
+    requires b_in { Contains axes b }
+    requires turn { turn ≡ dot b (cross g a) }
+    requires small { unsigned_abs turn ≤ NORMAL }
+    requires some { turn ≢ pos 0 }
+    ensures { AreArcEnds axes g [] result }
+{
+    if turn < 0 {
+        ends_between(g, a, b)
+    } else {
+        ends_between(g, b, a)
+    }
+}
+
 // ends on the plane g by two coordinate planes
 fn axis_ends(g: V3) -> Ends
     requires size { IsWithin NORMAL g }
@@ -51,18 +70,12 @@ fn axis_ends(g: V3) -> Ends
     let x = V3 { x: 1, y: 0, z: 0 };
     let y = V3 { x: 0, y: 1, z: 0 };
     let z = V3 { x: 0, y: 0, z: 1 };
-    if g.z > 0 {
-        ends_between(g, y, x)
-    } else if g.z < 0 {
-        ends_between(g, x, y)
-    } else if g.y > 0 {
-        ends_between(g, x, z)
-    } else if g.y < 0 {
-        ends_between(g, z, x)
-    } else if g.x > 0 {
-        ends_between(g, z, y)
+    if g.z != 0 {
+        ends_turned(g, x, y, g.z)
+    } else if g.y != 0 {
+        ends_turned(g, z, x, g.y)
     } else {
-        ends_between(g, y, z)
+        ends_turned(g, y, z, g.x)
     }
 }
 

@@ -78,14 +78,15 @@ fn head(signs: &[Sign]) -> &[Sign]
     }
 }
 
-// the others
-fn tail(signs: &[Sign]) -> &[Sign]
-    ensures { result.now ≡ drop 64 signs.now }
+// those from a place on
+fn part(signs: &[Sign], from: usize) -> &[Sign]
+    ensures is { result.now ≡ take 64 (drop from signs.now) }
+    ensures short { length result.now ≤ 64 }
 {
-    if signs.len() <= WORD {
+    if signs.len() <= from {
         &[]
     } else {
-        &signs[WORD..]
+        head(&signs[from..])
     }
 }
 
@@ -93,14 +94,11 @@ fn tail(signs: &[Sign]) -> &[Sign]
 pub(crate) fn incidence_of(signs: &[Sign], of: usize) -> Incidence
     ensures { result ≡ incidence_of signs.now of }
 {
-    let second = tail(signs);
-    let third = tail(second);
-    let last = tail(third);
     Incidence {
         a: word(head(signs)),
-        b: word(head(second)),
-        c: word(head(third)),
-        d: word(head(last)),
+        b: word(part(signs, WORD)),
+        c: word(part(signs, 2 * WORD)),
+        d: word(part(signs, 3 * WORD)),
         of,
     }
 }

@@ -1,4 +1,4 @@
-// The points and edges of planes, in one list.
+// The points of planes, and the incidences of points and of edges.
 ghost use Rattle.std.specs.Prelude.{◌≤◌, All, IfOk, length, map};
 ghost use Rattle.staat_vec.specs.Lists.{Lists};
 ghost use Rattle.staat_model.specs.declared.tree.Kind.TheVariants.{Edge, Point};
@@ -6,33 +6,24 @@ ghost use Rattle.staat_model.specs.Cells.{AreCellsOf};
 ghost use Rattle.staat_pairs.specs.Tables.{AreTablePlanes};
 ghost use Rattle.staat_cells.specs.Compositions.{entry_of};
 ghost use Rattle.staat_cells.specs.Packing.{incidence_cmp};
-ghost use Rattle.staat_cells.specs.Skeletons.{AreLowerCells};
 ghost use Rattle.staat_cells.specs.Stages.{HaveSigns, IsFilledIncidence, IsIncidence};
 
 use crate::cell::Cell;
-use crate::compose::{begun, push_composed};
 use crate::edge_incidences::edge_incidences;
 use crate::incidence::Incidence;
 use crate::open_incidences::open_incidences;
 use crate::order::in_order;
 use crate::points::{cells_of, own_incidences, points_at};
 use staat_limits::MOST_CELL_PLANES;
-use staat_model::Kind;
 use staat_pairs::directions;
 use staat_vec::{Normal, OutOfMemory};
 use std::alloc::Global;
 
-/// The points and then the edges of planes, in one list, and the incidences of the edges with the open cells, in the
-/// order of these. `points` is the number of the points.
-#[derive(Drop)]
-pub(crate) struct LowerCells {
-    pub(crate) cells: Vec<Cell>,
-    pub(crate) points: usize,
-    pub(crate) incidences: Vec<Incidence>,
-}
-
-// the points, ascending by signs, and incidences with their signs
-fn points_of(alloc: Global, planes: &[Normal]) -> Result<(Vec<Cell>, Vec<Incidence>), OutOfMemory>
+/// The points, ascending by signs, and incidences with their signs.
+pub(crate) fn points_of(
+    alloc: Global,
+    planes: &[Normal],
+) -> Result<(Vec<Cell>, Vec<Incidence>), OutOfMemory>
     requires planes { AreTablePlanes planes.now }
     requires few { length planes.now ≤ MOST_CELL_PLANES }
     ensures points { IfOk result (λ found. AreCellsOf planes.now Point (map entry_of found.0.items)) }
@@ -45,8 +36,8 @@ fn points_of(alloc: Global, planes: &[Normal]) -> Result<(Vec<Cell>, Vec<Inciden
     Ok((points, incidences))
 }
 
-// the incidences of the points with edges, in the order of these, from those with the signs of the points
-fn incidences_of_points(
+/// The incidences of the points with edges, in the order of these, from those with the signs of the points.
+pub(crate) fn incidences_of_points(
     alloc: Global,
     planes: &[Normal],
     points: &[Cell],
@@ -62,8 +53,8 @@ fn incidences_of_points(
     in_order(edge_incidences(alloc, planes, points, &own)?)
 }
 
-// the incidences of edges with open cells, in the order of these, from those with the signs of the edges
-fn incidences_of_edges(
+/// The incidences of edges with open cells, in the order of these, from those with the signs of the edges.
+pub(crate) fn incidences_of_edges(
     room: Vec<Incidence>,
     edges: &[Cell],
     own: &[Incidence],
@@ -73,25 +64,4 @@ fn incidences_of_edges(
     ensures { IfOk result (λ found. Lists incidence_cmp (IsFilledIncidence (map entry_of edges.now)) found.items) }
 {
     in_order(open_incidences(room, edges, own)?)
-}
-
-impl LowerCells {
-    /// Those of planes.
-    pub(crate) fn of_planes(alloc: Global, planes: &[Normal]) -> Result<LowerCells, OutOfMemory>
-        requires planes { AreTablePlanes planes.now }
-        requires few { length planes.now ≤ MOST_CELL_PLANES }
-        ensures { IfOk result (AreLowerCells planes.now) }
-    {
-        let (mut cells, own) = points_of(alloc, planes)?;
-        let points = cells.len();
-        let ends = incidences_of_points(alloc, planes, &cells, own)?;
-        push_composed(alloc, Kind::Edge, &mut cells, 0, &ends)?;
-        let own = begun(alloc, &ends)?;
-        let incidences = incidences_of_edges(ends, &cells[points..], &own)?;
-        Ok(LowerCells {
-            cells,
-            points,
-            incidences,
-        })
-    }
 }

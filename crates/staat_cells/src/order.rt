@@ -1,10 +1,9 @@
 // Incidences in order. Mostly a cell and the cell of the opposite directions stand at one place of their list, the one
 // from the beginning and the other from the end: then half of the incidences are sorted, and the others follow as their
 // mirror images.
-ghost use Rattle.std.specs.Prelude.{◌≡◌, All, Contains, IfOk, IfSome, IsTrue, OnOk};
+ghost use Rattle.std.specs.Prelude.{◌≡◌, ◌++◌, Contains, IfOk, IfSome, IsTrue, OnOk, map, reverse};
 ghost use Rattle.staat_vec.specs.Lists.{Lists};
-ghost use Rattle.staat_cells.specs.Mirrors.{AddsMirrors, AreMirrors, HoldsLesser, IsLesser, IsMirrored, IsUpTo};
-ghost use Rattle.staat_cells.specs.Mirrors.{mirrored};
+ghost use Rattle.staat_cells.specs.Mirrors.{AreMirrors, IsMirrored, IsUpTo, is_low, lows, mirrored};
 ghost use Rattle.staat_cells.specs.Packing.{incidence_cmp};
 
 use crate::incidence::Incidence;
@@ -20,15 +19,14 @@ fn is_up_to(sum: Incidence, x: Incidence) -> bool
 
 // the mirror image
 fn mirrored(sum: Incidence, x: Incidence) -> Incidence
-    requires { IsUpTo sum x }
     ensures { result ≡ mirrored sum x }
 {
     Incidence {
-        a: sum.a - x.a,
-        b: sum.b - x.b,
-        c: sum.c - x.c,
-        d: sum.d - x.d,
-        of: sum.of - x.of,
+        a: sum.a.saturating_sub(x.a),
+        b: sum.b.saturating_sub(x.b),
+        c: sum.c.saturating_sub(x.c),
+        d: sum.d.saturating_sub(x.d),
+        of: sum.of.saturating_sub(x.of),
     }
 }
 
@@ -44,10 +42,7 @@ fn is_mirrored(sum: Incidence, incidences: &[Incidence]) -> bool
     ensures { IsTrue result → IsMirrored sum incidences.now }
 {
     let count = incidences.len();
-    if count % 2 != 0 {
-        return false;
-    }
-    for i in 0..count / 2 {
+    for i in 0..count {
         if !are_mirrors(sum, incidences[i], incidences[count - 1 - i]) {
             return false;
         }
@@ -79,30 +74,27 @@ fn mirror_sum(incidences: &[Incidence]) -> Option<Incidence>
     }
 }
 
-fn lesser(x: Incidence, y: Incidence) -> Incidence
-    ensures { IsLesser x y result }
+// whether it comes before its mirror image
+fn is_low(sum: Incidence, x: Incidence) -> bool
+    ensures { result ≡ is_low sum x }
 {
-    match x.cmp(&y) {
-        Ordering::Less => x,
-        _ => y,
+    match x.cmp(&mirrored(sum, x)) {
+        Ordering::Less => true,
+        _ => false,
     }
 }
 
 // leaves the lesser of each two mirror images
-fn keep_lesser(incidences: &mut Vec<Incidence>)
-    ensures { HoldsLesser incidences.old.items incidences.new.items }
+fn keep_low(sum: Incidence, incidences: &mut Vec<Incidence>)
+    ensures { incidences.new.items ≡ lows sum incidences.old.items }
 {
-    let count = incidences.len();
-    for i in 0..count / 2 {
-        incidences[i] = lesser(incidences[i], incidences[count - 1 - i]);
-    }
-    incidences.truncate(count / 2);
+    incidences.retain(|x| is_low(sum, *x));
 }
 
 // adds the mirror images, from the last on
 fn push_mirrors(sum: Incidence, incidences: &mut Vec<Incidence>) -> Result<(), OutOfMemory>
-    requires { All (IsUpTo sum) incidences.old.items }
-    ensures { OnOk result (AddsMirrors sum incidences.old.items incidences.new.items) }
+    ensures { OnOk result (incidences.new.items
+        ≡ incidences.old.items ++ map (mirrored sum) (reverse incidences.old.items)) }
 {
     let count = incidences.len();
     for i in 0..count {
@@ -129,7 +121,7 @@ fn mirrors_sorted(
     requires { IsMirrored sum incidences.items }
     ensures { IfOk result (λ found. Lists incidence_cmp (Contains incidences.items) found.items) }
 {
-    keep_lesser(&mut incidences);
+    keep_low(sum, &mut incidences);
     let mut found = sorted(incidences);
     push_mirrors(sum, &mut found)?;
     Ok(found)

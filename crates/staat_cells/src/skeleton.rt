@@ -1,17 +1,18 @@
 // The points and edges of the planes of a table, and its open cells one at a time.
 ghost use Rattle.std.specs.Prelude.{◌≡◌, ◌<◌, ◌≤◌, IfOk, length, map};
 ghost use Rattle.staat_model.specs.declared.tree.Kind.TheVariants.{Open};
+ghost use Rattle.staat_pairs.specs.Tables.{AreTablePlanes};
 ghost use Rattle.staat_cells.specs.Compositions.{entry_of};
 ghost use Rattle.staat_cells.specs.Skeletons.{HasEdges, IsFoundAt, IsSkeleton};
 
 use crate::cell::Cell;
-use crate::compose::composed_at;
+use crate::compose::{begun, composed_at, composed_cells};
 use crate::incidence::Incidence;
-use crate::lower_cells::LowerCells;
+use crate::lower_cells::{incidences_of_edges, incidences_of_points, points_of};
 use staat_limits::MOST_CELL_PLANES;
 use staat_model::Kind;
 use staat_planes::PlaneTable;
-use staat_vec::OutOfMemory;
+use staat_vec::{OutOfMemory, V3};
 use std::alloc::Global;
 
 /// The points and edges of the planes of a table, and the incidences of its edges with its open cells, in the order
@@ -24,19 +25,30 @@ pub struct Skeleton {
 }
 
 impl Skeleton {
+    /// That of planes.
+    pub(crate) fn of_planes(alloc: Global, planes: &[V3]) -> Result<Skeleton, OutOfMemory>
+        requires planes { AreTablePlanes planes.now }
+        requires few { length planes.now ≤ MOST_CELL_PLANES }
+        ensures { IfOk result (IsSkeleton planes.now) }
+    {
+        let (points, own) = points_of(alloc, planes)?;
+        let ends = incidences_of_points(alloc, planes, &points, own)?;
+        let edges = composed_cells(alloc, Kind::Edge, &points, &ends)?;
+        let own = begun(alloc, &ends)?;
+        let incidences = incidences_of_edges(ends, &edges, &own)?;
+        Ok(Skeleton {
+            points,
+            edges,
+            incidences,
+        })
+    }
+
     /// The skeleton of the planes of the table, which has at most [`MOST_CELL_PLANES`] planes.
     pub fn of(alloc: Global, table: &PlaneTable) -> Result<Skeleton, OutOfMemory>
         requires { length table.now.planes ≤ MOST_CELL_PLANES }
         ensures { IfOk result (IsSkeleton table.now.planes) }
     {
-        let lower = LowerCells::of_planes(alloc, table.planes())?;
-        let mut points = lower.cells;
-        let edges = points.split_off(lower.points)?;
-        Ok(Skeleton {
-            points,
-            edges,
-            incidences: lower.incidences,
-        })
+        Skeleton::of_planes(alloc, table.planes())
     }
 
     /// The points, ascending by signs.

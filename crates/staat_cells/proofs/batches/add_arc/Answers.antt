@@ -1,62 +1,22 @@
-use Rattle.std.proofs.Common.{◌≡◌, ◌∙◌, ◌++◌, ◌∷◌, [], ◌⊎◌, ◌↔◌, ⊎_elim, inl, inr, ℕ, ◌<◌, All, List, ap, arith, subst, sym, ◌-◌, get_or, length, length-set, set}
+use Rattle.std.proofs.Common.{◌≡◌, ◌∙◌, ◌⊎◌, ◌↔◌, ⊎_elim, inl, inr, ℕ, ◌<◌, List, ap, arith, refl, subst, sym, ◌-◌, get_or, length, All}
 use Rattle.std.specs.Int.{bit_at}
-use Rattle.std.proofs.lemmas.List.Elements.{All-push, Contains-append_left, Contains-push_cases, All-set}
+use Rattle.std.proofs.lemmas.List.Elements.{All-push, All-set}
 use Rattle.std.proofs.lemmas.Nat.Bits.{bit_at-zero}
-use Rattle.std.proofs.lemmas.List.Quantifiers.{Any-push}
 use Rattle.staat_cells.specs.declared.batches.ArcCones.{ArcCones}
-use Rattle.staat_cells.specs.Batches.{HasCone, HasParts, IsConeOf}
-use Rattle.std.proofs.lemmas.Bool.{cases_eq}
-use Rattle.std.proofs.lemmas.List.{get_or-set_other, get_or-set_same, get_or_default}
+use Rattle.staat_cells.specs.Batches.{HasParts, IsConeOf}
+use Rattle.staat_cells.proofs.Elements.{any_pushed, any_set}
+use Rattle.staat_cells.proofs.Growing.{grown_first, grown_same}
 use Rattle.staat_cells.proofs.batches.add_arc.Goals as goal
 
--- the arc at i gains a cone
-changed : (old : List ArcCones) (i : ℕ) (arc new : ArcCones) (a b j : ℕ) → i < length old → get_or old i arc ≡ arc → arc.a ≡ a → arc.b ≡ b → new.a ≡ arc.a → new.b ≡ arc.b
+-- arcs of the same parts, of which the new one has the cone j too
+cone_more : (arc new : ArcCones) (a b j : ℕ) → arc.a ≡ a → arc.b ≡ b → new.a ≡ arc.a → new.b ≡ arc.b
     → ((k : ℕ) → (bit_at new.cones k ≡ 1) ↔ ((bit_at arc.cones k ≡ 1) ⊎ (k ≡ j)))
-    → (x y k : ℕ) → HasCone (set old i new) x y k ↔ (HasCone old x y k ⊎ ((x ≡ a) × (y ≡ b) × (k ≡ j)))
-changed old i arc new a b j inside at_i arc_a arc_b new_a new_b bits x y k = (
-  λ h. let (m, z, lt, at, is) = h in
-      ⊎_elim {C = HasCone old x y k ⊎ ((x ≡ a) × (y ≡ b) × (k ≡ j))}
-      (λ e.
-      let same : new ≡ z = sym (get_or-set_same old i new z inside) ∙ subst (λ q. get_or (set old i new) q z ≡ z) e at in
-      let a_is : arc.a ≡ x = sym new_a ∙ ap (λ (w : ArcCones). w.a) same ∙ is.0 in
-      let b_is : arc.b ≡ y = sym new_b ∙ ap (λ (w : ArcCones). w.b) same ∙ is.1 in
-      ⊎_elim {C = HasCone old x y k ⊎ ((x ≡ a) × (y ≡ b) × (k ≡ j))}
-      (λ one. inl (i, arc, inside, at_i, (a_is, b_is, one)))
-      (λ here. inr (sym a_is ∙ arc_a, sym b_is ∙ arc_b, here))
-      ((bits k).0 (subst (λ (w : ArcCones). bit_at w.cones k ≡ 1) (sym same) is.2)))
-      (λ ne. inl (m, z, subst (λ n. m < n) (length-set old i new) lt, sym (get_or-set_other old i m new z ne) ∙ at, is))
-      (cases_eq m i),
-  λ h. ⊎_elim {C = HasCone (set old i new) x y k}
-      (λ before. let (m, z, lt, at, is) = before in
-      ⊎_elim {C = HasCone (set old i new) x y k}
-      (λ e.
-      let same : arc ≡ z = sym at_i ∙ get_or_default old i arc z inside ∙ subst (λ q. get_or old q z ≡ z) e at in
-      there (new_a ∙ ap (λ (w : ArcCones). w.a) same ∙ is.0) (new_b ∙ ap (λ (w : ArcCones). w.b) same ∙ is.1) ((bits k).1 (inl (subst (λ (w : ArcCones). bit_at w.cones k ≡ 1) (sym same) is.2))))
-      (λ ne. (m, z, subst (λ n. m < n) (sym (length-set old i new)) lt, get_or-set_other old i m new z ne ∙ at, is))
-      (cases_eq m i))
-      (λ here. there (new_a ∙ arc_a ∙ sym here.0) (new_b ∙ arc_b ∙ sym here.1) ((bits k).1 (inr here.2)))
-      h,
-)
-  where
-    there : new.a ≡ x → new.b ≡ y → bit_at new.cones k ≡ 1 → HasCone (set old i new) x y k
-    there p q one = (i, new, subst (λ n. i < n) (sym (length-set old i new)) inside, get_or-set_same old i new new inside, (p, q, one))
-
-pushed : (old : List ArcCones) (arc : ArcCones) (a b j : ℕ) → arc.a ≡ a → arc.b ≡ b → ((k : ℕ) → (bit_at arc.cones k ≡ 1) ↔ ((bit_at 0 k ≡ 1) ⊎ (k ≡ j)))
-    → (x y k : ℕ) → HasCone (old ++ arc ∷ []) x y k ↔ (HasCone old x y k ⊎ ((x ≡ a) × (y ≡ b) × (k ≡ j)))
-pushed old arc a b j a_is b_is bits x y k = (
-  λ h. let (i, z, lt, at, is) = h in
-      ⊎_elim {C = HasCone old x y k ⊎ ((x ≡ a) × (y ≡ b) × (k ≡ j))}
-      (λ before. let (m, mlt, mat) = before in inl (m, z, mlt, mat, is))
-      (λ e. inr (
-        sym is.0 ∙ ap (λ (w : ArcCones). w.a) (sym e) ∙ a_is,
-        sym is.1 ∙ ap (λ (w : ArcCones). w.b) (sym e) ∙ b_is,
-        ⊎_elim (λ one. let zero = bit_at-zero k in absurd (omega (arith, one, zero))) (λ same. same) ((bits k).0 (subst (λ (w : ArcCones). bit_at w.cones k ≡ 1) (sym e) is.2)),
-      ))
-      (Contains-push_cases old arc z (i, lt, at)),
-  λ h. ⊎_elim {C = HasCone (old ++ arc ∷ []) x y k}
-      (λ before. let (m, z, mlt, mat, is) = before in let (i, lt, at) = Contains-append_left old (arc ∷ []) z (m, mlt, mat) in (i, z, lt, at, is))
-      (λ here. Any-push (λ w. IsConeOf w x y k) old arc (a_is ∙ sym here.0, b_is ∙ sym here.1, (bits k).1 (inr here.2)))
-      h,
+    → (x y k : ℕ) → IsConeOf new x y k ↔ (IsConeOf arc x y k ⊎ ((x ≡ a) × (y ≡ b) × (k ≡ j)))
+cone_more arc new a b j arc_a arc_b new_a new_b bits x y k = (
+  λ is. ⊎_elim {C = IsConeOf arc x y k ⊎ ((x ≡ a) × (y ≡ b) × (k ≡ j))} (λ one. inl (sym new_a ∙ is.0, sym new_b ∙ is.1, one))
+      (λ here. inr (sym is.0 ∙ new_a ∙ arc_a, sym is.1 ∙ new_b ∙ arc_b, here)) ((bits k).0 is.2),
+  ⊎_elim {C = IsConeOf new x y k} (λ is. (new_a ∙ is.0, new_b ∙ is.1, (bits k).1 (inl is.2)))
+      (λ here. (new_a ∙ arc_a ∙ sym here.0, new_b ∙ arc_b ∙ sym here.1, (bits k).1 (inr here.2))),
 )
 
 pub returns : goal.returns
@@ -68,8 +28,10 @@ returns c =
         a_is = subst (λ n. n < 32) (sym c.with_bit-2.ensures.a) c.requires.a;
         b_is = subst (λ n. n < 32) (sym c.with_bit-2.ensures.b) c.requires.b;
       }));
-      cones = λ x y k. subst (λ l. HasCone l x y k ↔ (HasCone old x y k ⊎ ((x ≡ c.args.a) × (y ≡ c.args.b) × (k ≡ c.args.j)))) (sym c.in_ok-push.ensures.items)
-          (pushed old arc c.args.a c.args.b c.args.j c.with_bit-2.ensures.a c.with_bit-2.ensures.b c.with_bit-2.ensures.cones x y k);
+      cones = λ x y k. grown_same (any_pushed (λ w. IsConeOf w x y k) old c.push.new.self.items arc c.in_ok-push.ensures.items)
+          (grown_first (cone_more (record { a = c.args.a; b = c.args.b; cones = 0 }) arc c.args.a c.args.b c.args.j refl refl
+          c.with_bit-2.ensures.a c.with_bit-2.ensures.b c.with_bit-2.ensures.cones x y k)
+          (λ is. let one = is.2 in let zero = bit_at-zero k in omega (arith, one, zero)));
     }
 
 pub returns-then-is_last : goal.returns-then-is_last
@@ -89,5 +51,7 @@ returns-then-is_last c =
     let b_is = ap (λ (w : ArcCones). w.b) c.index.ensures ∙ (seen arc).1 in
     record {
       parts = All-set HasParts old i new (record { a_is = subst (λ n. n < 32) (sym (c.with_bit.ensures.a ∙ a_is)) c.requires.a; b_is = subst (λ n. n < 32) (sym (c.with_bit.ensures.b ∙ b_is)) c.requires.b }) c.requires.parts;
-      cones = λ x y k. changed old i arc new c.args.a c.args.b c.args.j inside (sym c.index.ensures) a_is b_is c.with_bit.ensures.a c.with_bit.ensures.b c.with_bit.ensures.cones x y k;
+      cones = λ x y k. any_set (λ w. IsConeOf w x y k) old i arc new ((x ≡ c.args.a) × (y ≡ c.args.b) × (k ≡ c.args.j)) inside
+          (subst (λ (w : ArcCones). IsConeOf new x y k ↔ (IsConeOf w x y k ⊎ ((x ≡ c.args.a) × (y ≡ c.args.b) × (k ≡ c.args.j)))) c.index.ensures
+          (cone_more arc new c.args.a c.args.b c.args.j a_is b_is c.with_bit.ensures.a c.with_bit.ensures.b c.with_bit.ensures.cones x y k));
     }

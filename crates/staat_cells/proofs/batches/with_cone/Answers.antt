@@ -1,11 +1,10 @@
-use Rattle.staat_cells.proofs.ConeTests.{grown_above, grown_below, grown_on}
+use Rattle.std.proofs.Common.{◌≡◌, ◌↔◌, ℕ}
+use Rattle.staat_cells.specs.Batches.{IsLeft, outside_at}
+use Rattle.staat_cells.proofs.ConeTests.{each_side}
 use Rattle.staat_cells.proofs.batches.with_cone.Goals as goal
 
-pub returns-in-Neg-clause-left : goal.returns-in-Neg-clause-left
-returns-in-Neg-clause-left c = grown_below c.args.test.outside c.args.j c.requires c.args.s c.in-Neg.is
-
-pub returns-in-Zero-clause-left : goal.returns-in-Zero-clause-left
-returns-in-Zero-clause-left c = grown_on c.args.test.outside c.args.j c.requires c.args.s c.in-Zero.is
-
-pub returns-in-Pos-clause-left : goal.returns-in-Pos-clause-left
-returns-in-Pos-clause-left c = grown_above c.args.test.outside c.args.j c.requires c.args.s c.in-Pos.is
+pub returns-clause-left : goal.returns-clause-left
+returns-clause-left c = each_side
+    (λ t word. (k : ℕ) → IsLeft word k ↔ (IsLeft (outside_at c.args.test t) k × (k ≡ c.args.j → t ≡ c.args.s)))
+    c.with_outside.result c.with_outside-2.result c.with_outside-3.result
+    c.with_outside.ensures c.with_outside-2.ensures c.with_outside-3.ensures

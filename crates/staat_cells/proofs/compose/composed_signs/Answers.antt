@@ -2,7 +2,7 @@ use Rattle.std.proofs.Common.{◌∙◌, ap, get_or}
 use Rattle.std.specs.Prelude.{slice_set}
 use Rattle.staat_vec.specs.declared.vector.Sign.TheVariants.{Neg}
 use Rattle.staat_cells.specs.Beside.{then_sign}
-use Rattle.staat_cells.proofs.Patching.{compose_end, compose_next}
+use Rattle.staat_cells.proofs.Composing.{compose_end, compose_next}
 use Rattle.staat_cells.proofs.compose.composed_signs.Goals as goal
 
 pub loop-i-preserved : goal.loop-i-preserved

@@ -1,23 +1,31 @@
-use Rattle.std.proofs.Common.{◌∙◌, ap}
+use Rattle.std.proofs.Common.{◌≡◌, ◌∙◌, [], ◌∷◌, ap, arith, get_or, length, subst}
 use Rattle.std.proofs.lemmas.List.Elements.{Contains-get_or}
+use Rattle.staat_vec.specs.Vectors.{origin}
 use Rattle.staat_cells.specs.ZeroSigns.{zero_places}
-use Rattle.staat_cells.proofs.ZeroPlanes.{all_passed, next_passed, none_passed}
+use Rattle.staat_cells.specs.Stages.{GrewByAll, IsBesideIncidence}
+use Rattle.staat_cells.proofs.Growing.{grown_more, grown_none, grown_same, none_below}
+use Rattle.staat_cells.proofs.ZeroPlanes.{IsPassed, all_passed}
 use Rattle.staat_cells.proofs.edge_incidences.push_all.Goals as goal
 
 pub loop-i-init : goal.loop-i-init
-loop-i-init c = none_passed c.args.planes.now c.args.point.now.d c.args.m c.args.base.of c.args.back c.args.zeros.now c.args.incidences.now.items
+loop-i-init c = λ x. grown_none (none_below (IsPassed c.args.planes.now c.args.point.now.d c.args.m c.args.base.of c.args.zeros.now c.args.back x))
 
 pub push_at-requires-clause-listed : goal.push_at-requires-clause-listed
 push_at-requires-clause-listed c = Contains-get_or c.args.zeros.now c.place_from.result 0 c.place_from.ensures.small
 
 pub loop-i-preserved : goal.loop-i-preserved
 loop-i-preserved c =
-    next_passed c.args.planes.now c.args.point.now.d c.args.m c.args.base.of c.args.back c.args.zeros.now c.loop-i.i
-    c.place_from.result c.args.incidences.now.items c.loop-i.incidences.items c.push_at.new.incidences.items
-    c.loop-i-test.true c.place_from.ensures.back c.place_from.ensures.front c.loop-i.invariant c.in_ok-push_at.ensures
+    let planes = c.args.planes.now in
+    let v = c.args.point.now.d in
+    let k = c.args.base.of in
+    let zeros = c.args.zeros.now in
+    let pushed = subst (λ n. GrewByAll (IsBesideIncidence (get_or planes (get_or zeros n 0) origin ∷ []) planes v c.args.m k)
+    c.loop-i.incidences.items c.push_at.new.incidences.items) c.place_from.ensures.is c.in_ok-push_at.ensures in
+    λ x. grown_more (IsPassed planes v c.args.m k zeros c.args.back x) c.loop-i.i (c.loop-i.invariant x) (pushed x)
 
 pub returns : goal.returns
 returns c =
-    all_passed c.args.planes.now c.args.point.now.d c.args.m c.args.base.of c.args.back c.args.zeros.now c.loop-i.i
-    c.args.incidences.now.items c.loop-i.incidences.items c.loop-i-test.false
-    (c.requires.zeros ∙ ap (zero_places 0) c.requires.signs) c.loop-i.invariant
+    let end : c.loop-i.i ≡ length c.args.zeros.now = omega (arith, c.loop-i-test.false, c.loop-i.auto.i-end) in
+    λ x. grown_same (c.loop-i.invariant x)
+    (all_passed c.args.planes.now c.args.point.now.d c.args.m c.args.base.of c.args.zeros.now c.args.back c.loop-i.i x end
+    (c.requires.zeros ∙ ap (zero_places 0) c.requires.signs))

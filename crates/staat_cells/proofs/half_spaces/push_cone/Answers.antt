@@ -1,8 +1,9 @@
 use Rattle.std.proofs.Common.{Any, List, subst}
 use Rattle.std.proofs.lemmas.Result.{on_ok_weaker}
 use Rattle.staat_cells.specs.declared.half_spaces.HalfSpace.{HalfSpace}
-use Rattle.staat_cells.specs.HalfSpaces.{AreAmong}
-use Rattle.staat_cells.proofs.Cones.{cone_left_out, cone_pushed}
+use Rattle.staat_cells.specs.HalfSpaces.{AreAmong, AreInside}
+use Rattle.staat_cells.proofs.Cones.{cone_left_out}
+use Rattle.staat_cells.proofs.Elements.{any_pushed}
 use Rattle.staat_cells.proofs.half_spaces.push_cone.Goals as goal
 
 pub returns-then-any_wider : goal.returns-then-any_wider
@@ -12,5 +13,5 @@ returns-then-any_wider c = λ signs. cone_left_out signs c.args.cones.now.items 
 
 pub returns : goal.returns
 returns c = on_ok_weaker c.push_copy.result
-    (λ is signs. cone_pushed signs c.args.cones.now.items c.push_copy.new.cones.items c.args.cone.now is)
+    (λ is signs. any_pushed (AreInside signs) c.args.cones.now.items c.push_copy.new.cones.items c.args.cone.now is)
     c.push_copy.ensures

@@ -1,17 +1,20 @@
-use Rattle.std.proofs.Common.{◌↔◌, ℕ, List, All, subst, sym, take}
+use Rattle.std.proofs.Common.{◌↔◌, ◌⊎◌, ℕ, List, [], All, arith, subst, sym, take}
 use Rattle.std.proofs.lemmas.List.Elements.{All-get_or, All-nil, All-push}
 use Rattle.staat_vec.specs.declared.vector.Sign.{Sign}
 use Rattle.staat_cells.specs.declared.joined_batches.JoinedBatch.{JoinedBatch}
-use Rattle.staat_cells.specs.Batches.{IsJoinedBatch, IsBatch}
+use Rattle.staat_cells.specs.Batches.{IsBatchArc, IsJoinedArc, IsJoinedBatch, IsBatch}
 use Rattle.staat_cells.specs.CellGraphs.{IsArcAt, IsListedArc}
-use Rattle.staat_cells.proofs.JoinedBatches.{all_batches, more_batches, no_batches}
+use Rattle.staat_cells.proofs.Elements.{any_pushed}
+use Rattle.staat_cells.proofs.Growing.{grown_first, grown_none, grown_same, grown_take}
+use Rattle.std.proofs.lemmas.List.{take_all}
 use Rattle.staat_cells.proofs.joined_batches.joined_batches.Goals as goal
 
 pub loop-batch-init : goal.loop-batch-init
 loop-batch-init c = record {
   rules = subst (All IsJoinedBatch) (sym c.in_ok-found.ensures.items) (All-nil IsJoinedBatch);
-  arcs = subst (λ (l : List JoinedBatch). (signs : List Sign) (a b : ℕ) → IsArcAt l signs a b ↔ IsListedArc (take 0 c.args.batches.now) signs a b)
-      (sym c.in_ok-found.ensures.items) (no_batches c.args.batches.now);
+  arcs = subst (λ (l : List JoinedBatch). (signs : List Sign) (a b : ℕ) → IsArcAt l signs a b
+      ↔ (IsArcAt [] signs a b ⊎ IsListedArc (take 0 c.args.batches.now) signs a b))
+      (sym c.in_ok-found.ensures.items) (λ signs a b. grown_none (λ none. let lt = none.2 in omega (arith, lt)));
 }
 
 pub joined_batch-requires : goal.joined_batch-requires
@@ -24,14 +27,16 @@ pub loop-batch-preserved : goal.loop-batch-preserved
 loop-batch-preserved c = record {
   rules = subst (All IsJoinedBatch) (sym c.in_ok-push.ensures.items)
       (All-push IsJoinedBatch c.loop-batch.found.items _ c.loop-batch.invariant.rules c.in_ok-joined_batch.ensures.rules);
-  arcs = more_batches c.args.batches.now c.loop-batch.batch-index c.batch-item.result c.loop-batch.found.items
-      c.push.new.self.items _ c.loop-batch-test.true c.batch-item.is c.in_ok-push.ensures.items c.in_ok-joined_batch.ensures.arcs
-      c.loop-batch.invariant.arcs;
+  arcs = λ signs a b. grown_take (λ batch. IsBatchArc batch signs a b) c.args.batches.now c.loop-batch.batch-index c.batch-item.result
+      c.loop-batch-test.true c.batch-item.is (c.loop-batch.invariant.arcs signs a b)
+      (grown_same (any_pushed (λ batch. IsJoinedArc batch signs a b) c.loop-batch.found.items c.push.new.self.items _ c.in_ok-push.ensures.items)
+      (c.in_ok-joined_batch.ensures.arcs signs a b));
 }
 
 pub returns : goal.returns
 returns c = record {
   rules = c.loop-batch.invariant.rules;
-  arcs = all_batches c.args.batches.now c.loop-batch.batch-index c.loop-batch.found.items c.loop-batch-test.false
-      c.loop-batch.invariant.arcs;
+  arcs = λ signs a b. subst (λ l. IsArcAt c.loop-batch.found.items signs a b ↔ IsListedArc l signs a b)
+      (take_all c.loop-batch.batch-index c.args.batches.now c.loop-batch-test.false)
+      (grown_first (c.loop-batch.invariant.arcs signs a b) (λ none. let lt = none.2 in omega (arith, lt)));
 }

@@ -1,12 +1,13 @@
-use Rattle.staat_cells.proofs.Mirrors.{mirrors_listed, up_to_all}
+use Rattle.std.proofs.Common.{List, Contains, subst, sym}
+use Rattle.staat_vec.specs.Lists.{Lists}
+use Rattle.staat_cells.specs.declared.incidence.Incidence.{Incidence}
+use Rattle.staat_cells.specs.Packing.{incidence_cmp}
+use Rattle.staat_cells.proofs.Mirrors.{mirrors_listed}
 use Rattle.staat_cells.proofs.order.mirrors_sorted.Goals as goal
-
-pub push_mirrors-requires : goal.push_mirrors-requires
-push_mirrors-requires c =
-    up_to_all c.args.sum c.args.incidences.items c.keep_lesser.new.incidences.items c.requires c.keep_lesser.ensures
-    c.sorted-found.result.items c.sorted-found.ensures
 
 pub returns : goal.returns
 returns c =
-    mirrors_listed c.args.sum c.args.incidences.items c.keep_lesser.new.incidences.items c.requires c.keep_lesser.ensures
-    c.sorted-found.result.items c.sorted-found.ensures c.push_mirrors.new.incidences.items c.in_ok-push_mirrors.ensures
+    let half = c.sorted-found.result.items in
+    subst (Lists incidence_cmp (Contains c.args.incidences.items)) (sym c.in_ok-push_mirrors.ensures)
+    (mirrors_listed c.args.sum c.args.incidences.items c.requires half
+    (subst (λ (l : List Incidence). Lists incidence_cmp (Contains l) half) c.keep_low.ensures c.sorted-found.ensures))

@@ -1,12 +1,13 @@
-use Rattle.std.proofs.Common.{◌∙◌, ◌≤◌, length, sym, subst, List, All}
+use Rattle.std.proofs.Common.{◌∙◌, ◌≤◌, arith, length, sym, subst, List, All}
 use Rattle.std.proofs.lemmas.List.Elements.{All-get_or}
 use Rattle.staat_cells.specs.declared.joined_batches.JoinedBatch.{JoinedBatch}
-use Rattle.staat_cells.specs.Batches.{IsJoinedBatch}
-use Rattle.staat_cells.proofs.GraphRows.{HasArcsUpTo, graph_is, graph_shows, no_rows, rows_after}
+use Rattle.staat_cells.specs.Batches.{IsJoinedArc, IsJoinedBatch}
+use Rattle.staat_cells.proofs.Growing.{grown_none, grown_take}
+use Rattle.staat_cells.proofs.GraphRows.{HasArcsUpTo, graph_is, graph_shows}
 use Rattle.staat_cells.proofs.graphs.CellGraphs.graph_of.Goals as goal
 
 pub loop-batch-init : goal.loop-batch-init
-loop-batch-init c = no_rows c.deref-batch-items.result.now c.args.signs.now
+loop-batch-init c = λ a b. grown_none (λ none. let lt = none.2 in omega (arith, lt))
 
 pub add_batch_arcs-requires : goal.add_batch_arcs-requires
 add_batch_arcs-requires c =
@@ -17,10 +18,9 @@ add_batch_arcs-requires c =
     own
 
 pub loop-batch-preserved : goal.loop-batch-preserved
-loop-batch-preserved c =
-    rows_after c.deref-batch-items.result.now c.args.signs.now c.loop-batch.batch-index c.batch-item.result
-    c.loop-batch.rows c.add_batch_arcs.new.rows c.loop-batch-test.true c.batch-item.is c.add_batch_arcs.ensures
-    c.loop-batch.invariant
+loop-batch-preserved c = λ a b. grown_take (λ batch. IsJoinedArc batch c.args.signs.now a b) c.deref-batch-items.result.now
+    c.loop-batch.batch-index c.batch-item.result c.loop-batch-test.true c.batch-item.is (c.loop-batch.invariant a b)
+    (c.add_batch_arcs.ensures a b)
 
 pub returns-clause-table : goal.returns-clause-table
 returns-clause-table c t tells =
