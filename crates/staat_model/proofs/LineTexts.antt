@@ -119,18 +119,8 @@ members_again w small = same_members (set_from (map pos (members_from 0 32 w))) 
 
 line_again : (l : Line) → IsInBounds l → line_from (word_of l) (numbers_in l) ≡ l
 unfolding line_from
-line_again (line.Head version) h = refl
-line_again (line.Parts n) h = refl
-line_again line.Plan h = refl
 line_again (line.Stuck w) h = ap line.Stuck (members_again w h.1)
-line_again (line.Leaf p) h = refl
-line_again (line.Split d) h = refl
-line_again (line.Sep sep) h = refl
-line_again (line.Witness k) h = refl
-line_again (line.Out arc) h = refl
-line_again (line.In arc) h = refl
-line_again (line.Dir dir) h = refl
-line_again line.End h = refl
+line_again l h = refl
 
 -- ---- words
 
@@ -139,32 +129,12 @@ all_plain [] e = All-nil (λ b. 32 < b)
 all_plain (b ∷ bs) e = let t = and_split (nat_lt 32 b) (list_all (λ c. nat_lt 32 c) bs) e in All-cons (λ c. 32 < c) b bs (ltb-true 32 b t.0) (all_plain bs t.1)
 
 pub word_plain : (l : Line) → ArePlain (word_of l)
-word_plain (line.Head version) = all_plain (codes "STAAT") refl
-word_plain (line.Parts n) = all_plain (codes "parts") refl
-word_plain line.Plan = all_plain (codes "plan") refl
-word_plain (line.Stuck w) = all_plain (codes "stuck") refl
-word_plain (line.Leaf p) = all_plain (codes "leaf") refl
-word_plain (line.Split d) = all_plain (codes "split") refl
-word_plain (line.Sep sep) = all_plain (codes "sep") refl
-word_plain (line.Witness k) = all_plain (codes "witness") refl
-word_plain (line.Out arc) = all_plain (codes "out") refl
-word_plain (line.In arc) = all_plain (codes "in") refl
-word_plain (line.Dir dir) = all_plain (codes "dir") refl
 word_plain line.End = all_plain (codes "end") refl
+word_plain l = all_plain (word_of l) refl
 
 word_length : (l : Line) → length (word_of l) ≤ 7
-word_length (line.Head version) = omega arith
-word_length (line.Parts n) = omega arith
-word_length line.Plan = omega arith
-word_length (line.Stuck w) = omega arith
-word_length (line.Leaf p) = omega arith
-word_length (line.Split d) = omega arith
-word_length (line.Sep sep) = omega arith
-word_length (line.Witness k) = omega arith
-word_length (line.Out arc) = omega arith
-word_length (line.In arc) = omega arith
-word_length (line.Dir dir) = omega arith
 word_length line.End = omega arith
+word_length l = omega arith
 
 -- ---- numbers
 
