@@ -5,9 +5,8 @@ use Rattle.std.specs.FinSet as set
 use Rattle.staat_vec.specs.declared.vector.V3.{V3}
 use Rattle.staat_vec.specs.Vectors.{vector, dot, cross, negative, origin}
 use Rattle.staat_vec.specs.Primitives.{IsPrimitive, primitive, canon}
-use Rattle.staat_vec.proofs.VecRing.{cross_self, cross_turned, dot_negative, dot_cross_left, dot_cross_right}
-use Rattle.staat_vec.proofs.Order.{cancel_zero}
-use Rattle.staat_vec.proofs.Primitives.{IsPrimitive-negative, IsPrimitive-some, primitive-is, primitive-negative}
+use Rattle.staat_vec.proofs.VecRing.{cross_self, cross_turned}
+use Rattle.staat_vec.proofs.Primitives.{IsPrimitive-some, primitive-is, primitive-negative}
 use Rattle.staat_model.specs.declared.assembly.Part.{Part}
 use Rattle.staat_model.specs.declared.set.PartSet.{PartSet}
 use Rattle.staat_model.specs.declared.certificate.Arc.{Arc}
@@ -18,14 +17,13 @@ use Rattle.staat_model.specs.Outcomes.{Serves}
 use Rattle.staat_model.specs.Planes.{axes}
 use Rattle.staat_model.specs.Plans.{IsStuck}
 use Rattle.staat_model.specs.Removal.{MeetsAlong}
-use Rattle.staat_model.proofs.CornerLemmas.{dot_multiple}
-use Rattle.staat_model.proofs.Corners.{HoldsAxes, IsCornerTowards, IsSame, IsTowards, corner_towards}
+use Rattle.staat_model.proofs.Corners.{HoldsAxes, IsCornerTowards, IsOnBoth, IsTowards, corner_towards, on_both}
 use Rattle.staat_model.proofs.FacetLemmas.{across_crosses}
 use Rattle.staat_model.proofs.GraphLemmas.{facet_towards, piece_in, positive_back}
 use Rattle.staat_model.proofs.BorderLemmas.{same_or_not}
 use Rattle.staat_model.proofs.PieceFacets.{meets_by_facets_lemma}
 use Rattle.staat_model.proofs.VertexLemmas.{in_vertices, same_some}
-use Rattle.staat_vec.proofs.Integers.{opposite_zero}
+use Rattle.staat_vec.proofs.Integers.{zero_from_bounds, zero_nonneg, zero_nonpositive}
 use Rattle.staat_vec.proofs.Unique.{Contains-front}
 use Rattle.staat_vec.proofs.ListLaws.{Contains-there}
 use Rattle.staat_vec.proofs.VectorLaws.{parallel_cross}
@@ -75,36 +73,6 @@ free_at_vertex_lemma parts core planes s r d each has some free =
 
 -- ---- a corner on the plane of g
 
-zero_here : (p q : ℤ) → q ≡ pos 0 → (pos 0 ≤ℤ q → pos 0 ≤ℤ p) → (q ≤ℤ pos 0 → p ≤ℤ pos 0) → p ≡ pos 0
-zero_here p q e up down =
-    let a : pos 0 ≤ℤ p = up (omega (arith, ints)) in
-    let b : p ≤ℤ pos 0 = down (omega (arith, ints)) in
-    omega (arith, ints)
-
--- the corner is a primitive vector that lies on both of its planes
-record IsOnBoth (v g h : V3) : Type 0 where
-  primitive : IsPrimitive v
-  on_g : dot g v ≡ pos 0
-  on_h : dot h v ≡ pos 0
-
-both_turned : (v g h : V3) → IsOnBoth v g h → IsOnBoth (negative v) g h
-both_turned v g h o = record {
-  primitive = IsPrimitive-negative v o.primitive;
-  on_g = opposite_zero (dot g (negative v)) (dot g v) (dot_negative g v) o.on_g;
-  on_h = opposite_zero (dot h (negative v)) (dot h v) (dot_negative h v) o.on_h;
-}
-
-crossing_on_both : (g h : V3) → cross g h ≢ origin → IsOnBoth (primitive (cross g h)) g h
-crossing_on_both g h some =
-    let p = primitive-is (cross g h) some in
-    let n = primitive (cross g h) in
-    let flat : (m : V3) → dot m (cross g h) ≡ pos 0 → dot m n ≡ pos 0 = λ m on. cancel_zero p.factor (dot m n) p.positive (sym (dot_multiple m (cross g h) n p.factor p.multiple) ∙ on) in
-    record { primitive = p.primitive; on_g = flat g (dot_cross_left g h); on_h = flat h (dot_cross_right g h) }
-
-on_both : (v g h : V3) → cross g h ≢ origin → IsSame v (primitive (cross g h)) → IsOnBoth v g h
-on_both v g h some (inl e) = subst (λ z. IsOnBoth z g h) (sym e) (crossing_on_both g h some)
-on_both v g h some (inr e) = subst (λ z. IsOnBoth z g h) (sym e) (both_turned (primitive (cross g h)) g h (crossing_on_both g h some))
-
 -- a primitive vector on the plane of g and on another one that is not parallel
 crossing_at : (g : V3) (planes : List V3) (v h : V3) → IsPrimitive v → dot g v ≡ pos 0 → dot h v ≡ pos 0 → Contains (g ∷ planes) h → cross g h ≢ origin → IsCrossingOn g planes v
 crossing_at g planes v h is on_g on_h (zero, lt, e) apart = absurd (apart (ap (cross g) (sym e) ∙ cross_self g))
@@ -140,7 +108,7 @@ pub free_at_crossing_lemma : (parts : List Part) (core : List Arc) (planes : Lis
 free_at_crossing_lemma parts core planes g s r d each has g_some some on free =
     let (v, c) = corner_towards (g ∷ planes) d (with_plane g planes (core_axes parts core planes has)) some in
     let t = c.towards g (Contains-front g planes) in
-    let on_v : dot g v ≡ pos 0 = zero_here (dot g v) (dot g d) on t.up t.down in record {
+    let on_v : dot g v ≡ pos 0 = zero_from_bounds (dot g v) (t.up (zero_nonneg (dot g d) on)) (t.down (zero_nonpositive (dot g d) on)) in record {
       v = v;
       crossing = crossing_on g d v planes g_some on_v c;
       free = λ arc listed a_in b_in m.

@@ -4,12 +4,12 @@ use Rattle.std.proofs.lemmas.Int.{ints, by_lt_z}
 use Rattle.std.proofs.lemmas.List.Elements.{All-nil, All-cons, All-contains}
 use Rattle.staat_vec.specs.declared.vector.V3.{V3}
 use Rattle.staat_vec.specs.Vectors.{vector, dot, cross, negative, origin}
-use Rattle.staat_vec.specs.Primitives.{primitive}
-use Rattle.staat_vec.proofs.VecRing.{crossE, negativeE, values, v0, v1, ring3, negative_dot}
-use Rattle.staat_vec.proofs.Primitives.{primitive-negative}
+use Rattle.staat_vec.specs.Primitives.{IsPrimitive, primitive}
+use Rattle.staat_vec.proofs.VecRing.{crossE, negativeE, values, v0, v1, ring3, negative_dot, dot_cross_left, dot_cross_right, dot_negative}
+use Rattle.staat_vec.proofs.Primitives.{IsPrimitive-negative, primitive-is, primitive-negative}
 use Rattle.staat_model.specs.Cones.{IsAbove, HasAxes, HasEither, IsCrossing}
-use Rattle.staat_model.proofs.CornerLemmas.{corner_lemma}
-use Rattle.staat_vec.proofs.Integers.{opposite_nonneg, opposite_nonpositive_back, negative_nonpositive, negative_nonneg_clash}
+use Rattle.staat_model.proofs.CornerLemmas.{across_primitive, corner_lemma}
+use Rattle.staat_vec.proofs.Integers.{opposite_nonneg, opposite_zero, opposite_nonpositive_back, negative_nonpositive, negative_nonneg_clash}
 use Rattle.staat_vec.proofs.Unique.{Contains-front}
 use Rattle.staat_vec.proofs.ListLaws.{Contains-there}
 
@@ -138,6 +138,27 @@ pub record IsCornerTowards (gs : List V3) (d v : V3) : Type 0 where
   pub independent : cross g h ≢ origin
   pub is : IsSame v (primitive (cross g h))
   pub towards : (m : V3) → Contains gs m → IsTowards d v m
+
+-- a primitive vector on two planes
+pub record IsOnBoth (v g h : V3) : Type 0 where
+  pub primitive : IsPrimitive v
+  pub on_g : dot g v ≡ pos 0
+  pub on_h : dot h v ≡ pos 0
+
+-- a crossing is one
+pub on_both : (v g h : V3) → cross g h ≢ origin → IsSame v (primitive (cross g h)) → IsOnBoth v g h
+on_both v g h some same = record { primitive = whole same; on_g = flat g (dot_cross_left g h) same; on_h = flat h (dot_cross_right g h) same }
+  where
+    f : V3
+    f = primitive (cross g h)
+
+    whole : IsSame v f → IsPrimitive v
+    whole (inl e) = let p = primitive-is (cross g h) some in subst (λ z. IsPrimitive z) (sym e) p.primitive
+    whole (inr e) = let p = primitive-is (cross g h) some in subst (λ z. IsPrimitive z) (sym e) (IsPrimitive-negative f p.primitive)
+
+    flat : (m : V3) → dot m (cross g h) ≡ pos 0 → IsSame v f → dot m v ≡ pos 0
+    flat m on (inl e) = ap (dot m) e ∙ across_primitive m (cross g h) some on
+    flat m on (inr e) = opposite_zero (dot m v) (dot m f) (ap (dot m) e ∙ dot_negative m f) (across_primitive m (cross g h) some on)
 
 -- the three axes stand in the list
 pub record HoldsAxes (gs : List V3) : Type 0 where

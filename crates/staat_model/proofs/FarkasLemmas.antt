@@ -8,14 +8,14 @@ use Rattle.staat_vec.specs.Vectors.{dot, cross, plus, times, negative, origin}
 use Rattle.staat_vec.specs.Primitives.{primitive}
 use Rattle.staat_vec.proofs.Ring.{at, ◌⊕◌, ◌⊖◌, ◌⊗◌, ring}
 use Rattle.staat_vec.proofs.VecRing.{dotE, plusE, timesE, negativeE, originE, values, v0, v1, v2, ring3, dot_comm, dot_cross_left, dot_cross_right}
-use Rattle.staat_vec.proofs.Order.{bounded, split_sum, tight_factor, not_positive_mul, cancel_not_positive, cancel_zero, nonneg_mul, nonneg_pos}
+use Rattle.staat_vec.proofs.Order.{bounded, split_sum, tight_factor, not_positive_mul, cancel_not_positive, nonneg_mul, nonneg_pos}
 use Rattle.staat_model.specs.Meeting.{mix}
 use Rattle.staat_model.specs.Cones.{IsAbove, IsSpanning, IsCombined, IsReached, IsStopped, ExactlyOne}
 use Rattle.staat_model.proofs.Mixes.{square_vector, dot_step, mix_above}
 use Rattle.staat_model.proofs.Alternative.{IsSeparated, alternative}
 use Rattle.staat_model.proofs.Edge.{edge_below}
 use Rattle.staat_vec.proofs.Primitives.{IsPrimitive-some, primitive-is}
-use Rattle.staat_model.proofs.CornerLemmas.{above_primitive, dot_multiple}
+use Rattle.staat_model.proofs.CornerLemmas.{above_primitive, across_primitive, dot_multiple}
 use Rattle.staat_vec.proofs.Integers.{negative_nonneg_clash}
 use Rattle.staat_vec.proofs.Unique.{Contains-front}
 use Rattle.staat_vec.proofs.ListLaws.{Contains-there}
@@ -125,8 +125,8 @@ module _ (vs : List V3) (d : V3) where
             u_in = in_g;
             v_in = in_h;
             independent = some;
-            u_on = cancel_zero p.factor (dot g n) p.positive (sym (dot_multiple g (cross g h) n p.factor p.multiple) ∙ dot_cross_left g h);
-            v_on = cancel_zero p.factor (dot h n) p.positive (sym (dot_multiple h (cross g h) n p.factor p.multiple) ∙ dot_cross_right g h);
+            u_on = across_primitive g (cross g h) some (dot_cross_left g h);
+            v_on = across_primitive h (cross g h) some (dot_cross_right g h);
           };
         };
         away = subst (λ z. z ≤ℤ pos 0) (dot_comm d n) (cancel_not_positive p.factor (dot d n) p.positive (subst (λ z. z ≤ℤ pos 0) (dot_multiple d (cross g h) n p.factor p.multiple) low));

@@ -7,7 +7,6 @@ use Rattle.staat_vec.specs.declared.vector.Sign.TheVariants.{Neg, Zero, Pos}
 use Rattle.staat_vec.specs.Vectors.{dot, cross, origin, sign}
 use Rattle.staat_vec.specs.Primitives.{primitive}
 use Rattle.staat_vec.proofs.VecRing.{cross_turned}
-use Rattle.staat_vec.proofs.Order.{cancel_zero}
 use Rattle.staat_vec.proofs.Primitives.{primitive-is, primitive-negative}
 use Rattle.staat_model.specs.declared.assembly.Part.{Part}
 use Rattle.staat_model.specs.declared.set.PartSet.{PartSet}
@@ -15,7 +14,7 @@ use Rattle.staat_model.specs.declared.tree.Kind.{Kind}
 use Rattle.staat_model.specs.declared.tree.Kind.TheVariants.{Point, Edge, Open}
 use Rattle.staat_model.specs.Planes.{ArePlanes, vertices}
 use Rattle.staat_model.specs.Cells.{signs_of, kind_of, kind_by_count, IsCell, IsEdgeSum, IsRepresentative}
-use Rattle.staat_model.proofs.CornerLemmas.{dot_multiple}
+use Rattle.staat_model.proofs.CornerLemmas.{across_primitive}
 use Rattle.staat_model.proofs.FacetLemmas.{across_crosses}
 use Rattle.staat_model.proofs.VertexLemmas.{holds_axes, in_vertices}
 use Rattle.staat_model.proofs.PlaneLemmas.{NoneParallel, planes_apart, plane_some}
@@ -79,9 +78,8 @@ point_is_vertex_lemma parts w planes d are some point =
     let o = two_planes planes d (planes_apart parts w planes are) (point_zeros (signs_of planes d) point) in
     let p = primitive-is d some in
     let n = primitive d in
-    let flat : (g : V3) → dot g d ≡ pos 0 → dot g n ≡ pos 0 = λ g on. cancel_zero p.factor (dot g n) p.positive (sym (dot_multiple g d n p.factor p.multiple) ∙ on) in
     in_vertices planes o.g o.h n o.g_in o.h_in o.independent
-    (⊎_elim (λ e. inl e) (λ e. inr (e ∙ ap primitive (cross_turned o.h o.g) ∙ primitive-negative (cross o.g o.h))) (across_crosses n o.g o.h p.primitive o.independent (flat o.g o.on_g) (flat o.h o.on_h)))
+    (⊎_elim (λ e. inl e) (λ e. inr (e ∙ ap primitive (cross_turned o.h o.g) ∙ primitive-negative (cross o.g o.h))) (across_crosses n o.g o.h p.primitive o.independent (across_primitive o.g d some o.on_g) (across_primitive o.h d some o.on_h)))
 
 -- ---- representatives
 

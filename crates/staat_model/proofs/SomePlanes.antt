@@ -4,7 +4,6 @@ use Rattle.std.specs.Prelude.{Contains, Option, None, Some, length, option_map, 
 use Rattle.staat_vec.specs.declared.vector.V3.{V3}
 use Rattle.staat_vec.specs.Primitives.{canon, primitive}
 use Rattle.staat_vec.specs.Vectors.{cross, dot, minus, origin, vector_cmp}
-use Rattle.staat_vec.proofs.Primitives.{primitive-is}
 use Rattle.staat_vec.proofs.VectorOrder.{vector_exact, vector_total}
 use Rattle.staat_model.specs.declared.assembly.Part.{Part}
 use Rattle.staat_model.specs.declared.certificate.Arc.{Arc}
@@ -17,7 +16,7 @@ use Rattle.staat_model.specs.Planes.{ArePlanes, IsFacetPlane, axes}
 use Rattle.staat_model.specs.Sets.{Has}
 use Rattle.staat_model.specs.Walls.{IsBeyond}
 use Rattle.staat_model.proofs.Decisions.{Decided, all_decided, both_or, contains_or, equal_or, le_or, nat_or, not_or}
-use Rattle.staat_model.proofs.EdgeLemmas.{on_left, on_right}
+use Rattle.staat_model.proofs.Corners.{on_both}
 use Rattle.staat_model.proofs.FreeSides.{member_or}
 use Rattle.staat_model.proofs.Listings.{Listing, listing_and, listing_as, listing_below, listing_image, listing_members, listing_none, listing_over, listing_sorted}
 use Rattle.staat_model.proofs.PieceFacets.{beyond_is_above, differences_are, facets_from_differences_lemma, from_cone_facet}
@@ -50,10 +49,11 @@ unfolding Crosses
 crosses_facet p q n ((g, g_in, (h, (h_in, apart), is)), beyond) =
     let vs = differences p q in
     let are = differences_are p q in
+    let on = on_both n g h apart (inl is) in
     from_cone_facet p q vs n are (record {
-      primitive = subst (λ z. Rattle.staat_vec.specs.Primitives.IsPrimitive z) (sym is) (primitive-is (cross g h) apart).primitive;
+      primitive = on.primitive;
       above = beyond_is_above p q vs n are beyond;
-      across = record { u = g; v = h; u_in = g_in; v_in = h_in; independent = apart; u_on = on_left g h n apart (inl is); v_on = on_right g h n apart (inl is) };
+      across = record { u = g; v = h; u_in = g_in; v_in = h_in; independent = apart; u_on = on.on_g; v_on = on.on_h };
     })
 
 pub facets_listing : (p q : List V3) → Listing (IsFacet p q)
