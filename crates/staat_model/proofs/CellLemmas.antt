@@ -1,5 +1,5 @@
 -- The edges on the border of an open cell: there are two, and directions on two of them add up to one in the cell.
-use Rattle.std.proofs.Common.{◌≡◌, ◌≢◌, ℕ, zero, suc, ◌+◌, refl, sym, ap, subst, ◌∙◌, arith, ℤ, pos, neg_ℤ, ◌+ℤ◌, ◌<ℤ◌, ◌⊎◌, inl, inr, ⊎_elim, cond, false, List, [], ◌∷◌, map, All, Contains}
+use Rattle.std.proofs.Common.{◌≡◌, ◌≢◌, ℕ, zero, suc, ◌+◌, ◌≤◌, refl, sym, ap, subst, ◌∙◌, arith, ℤ, pos, neg_ℤ, ◌+ℤ◌, ◌<ℤ◌, ◌⊎◌, inl, inr, ⊎_elim, cond, false, rules, List, [], ◌∷◌, map, All, Contains}
 use Rattle.std.specs.Prelude.{count_by}
 use Rattle.std.proofs.lemmas.Int.{ints}
 use Rattle.std.proofs.lemmas.List.Sums.{sum_by-cons}
@@ -65,71 +65,38 @@ Covers es fs ss = ⊥
 
 border_strict : (es ss : List Sign) → zeros es ≡ 0 → IsBorder es ss → es ≡ ss
 border_strict [] [] none b = refl
-border_strict [] (s ∷ ss) none b = absurd b
-border_strict (e ∷ es) [] none b = absurd b
 border_strict (Zero ∷ es) (s ∷ ss) none b = absurd (let c = zeros-cons Zero es in omega (arith, none, c))
-border_strict (Neg ∷ es) (s ∷ ss) none b = λ i. ⊎_elim (λ h. h) (λ h. cc) b.0 i ∷ border_strict es ss (let c = zeros-cons Neg es in omega (arith, none, c)) b.1 i
-border_strict (Pos ∷ es) (s ∷ ss) none b = λ i. ⊎_elim (λ h. h) (λ h. cc) b.0 i ∷ border_strict es ss (let c = zeros-cons Pos es in omega (arith, none, c)) b.1 i
+border_strict (e ∷ es) (s ∷ ss) none b = λ i. ⊎_elim (λ h. h) (λ h. cc) b.0 i ∷ border_strict es ss (let c = zeros-cons e es in omega (arith, none, c)) b.1 i
+border_strict es ss none b = absurd b
 
-covers_left : (es fs ss : List Sign) → es ≡ ss → IsBorder fs ss → Covers es fs ss
-covers_left [] [] [] e b = tt
-covers_left [] [] (s ∷ ss) e b = absurd b
-covers_left [] (f ∷ fs) [] e b = absurd b
-covers_left [] (f ∷ fs) (s ∷ ss) e b = cc
-covers_left (e ∷ es) fs [] p b = cc
-covers_left (e ∷ es) [] (s ∷ ss) p b = absurd b
-covers_left (e ∷ es) (f ∷ fs) (s ∷ ss) p b = let head : e ≡ s = cc in let rest : es ≡ ss = cc in (inl head, covers_left es fs ss rest b.1)
+covers_left : (ss fs : List Sign) → IsBorder fs ss → Covers ss fs ss
+covers_left [] [] b = tt
+covers_left (s ∷ ss) (f ∷ fs) b = (inl refl, covers_left ss fs b.1)
+covers_left ss fs b = absurd b
 
-covers_right : (es fs ss : List Sign) → fs ≡ ss → IsBorder es ss → Covers es fs ss
-covers_right [] [] [] e b = tt
-covers_right [] fs (s ∷ ss) e b = absurd b
-covers_right [] (f ∷ fs) [] e b = cc
-covers_right (e ∷ es) fs [] p b = absurd b
-covers_right (e ∷ es) [] (s ∷ ss) p b = cc
-covers_right (e ∷ es) (f ∷ fs) (s ∷ ss) p b = let head : f ≡ s = cc in let rest : fs ≡ ss = cc in (inr head, covers_right es fs ss rest b.1)
+covers_right : (es ss : List Sign) → IsBorder es ss → Covers es ss ss
+covers_right [] [] b = tt
+covers_right (e ∷ es) (s ∷ ss) b = (inr refl, covers_right es ss b.1)
+covers_right es ss b = absurd b
+
+-- behind the one plane through a cell the signs are those of the cell on whose border it is
+strict_behind : (e : Sign) (es ss : List Sign) → e ≡ Zero → zeros (e ∷ es) ≤ 1 → IsBorder es ss → es ≡ ss
+strict_behind e es ss z most b =
+    let c : zeros (e ∷ es) ≡ 1 + zeros es = zeros-cons e es ∙ ap (λ t. cond (is_zero t) 1 0 + zeros es) z in
+    border_strict es ss (omega (arith, most, c)) b
 
 -- two cells on the border, each with at most one plane through it, are one, or cover the cell
-covers_or_same : (es fs ss : List Sign) → zeros es ≡ 1 → zeros fs ≡ 1 → IsBorder es ss → IsBorder fs ss → Covers es fs ss ⊎ (es ≡ fs)
-covers_or_same [] fs ss ce cf be bf = absurd (omega (arith, ce))
-covers_or_same (e ∷ es) [] ss ce cf be bf = absurd (omega (arith, cf))
-covers_or_same (e ∷ es) (f ∷ fs) [] ce cf be bf = absurd be
-covers_or_same (e ∷ es) (f ∷ fs) (s ∷ ss) ce cf be bf = go e f be.0 bf.0 ce cf (covers_or_same es fs ss)
+covers_or_same : (es fs ss : List Sign) → zeros es ≤ 1 → zeros fs ≤ 1 → IsBorder es ss → IsBorder fs ss → Covers es fs ss ⊎ (es ≡ fs)
+covers_or_same [] [] [] ce cf be bf = inr refl
+covers_or_same (e ∷ es) (f ∷ fs) (s ∷ ss) ce cf be bf = go be.0 bf.0 (covers_or_same es fs ss (omega (arith, ce, zeros-cons e es)) (omega (arith, cf, zeros-cons f fs)) be.1 bf.1)
   where
-    strict_e : zeros (Zero ∷ es) ≡ 1 → es ≡ ss
-    strict_e h = border_strict es ss (let c = zeros-cons Zero es in omega (arith, h, c)) be.1
-
-    strict_f : zeros (Zero ∷ fs) ≡ 1 → fs ≡ ss
-    strict_f h = border_strict fs ss (let c = zeros-cons Zero fs in omega (arith, h, c)) bf.1
-
-    Goal : Sign → Sign → Type 0
-    Goal e f = Covers (e ∷ es) (f ∷ fs) (s ∷ ss) ⊎ (e ∷ es ≡ f ∷ fs)
-
-    -- neither plane is this one
-    neither : (e f : Sign) → e ≡ s → f ≡ s → zeros es ≡ 1 → zeros fs ≡ 1 → (zeros es ≡ 1 → zeros fs ≡ 1 → IsBorder es ss → IsBorder fs ss → Covers es fs ss ⊎ (es ≡ fs)) → Goal e f
-    neither e f p q ce cf rest = ⊎_elim (λ c. inl (inl p, c)) (λ h. inr (λ i. (p ∙ sym q) i ∷ h i)) (rest ce cf be.1 bf.1)
-
-    left_zero : (f : Sign) → (f ≡ s) ⊎ (f ≡ Zero) → zeros (Zero ∷ es) ≡ 1 → zeros (f ∷ fs) ≡ 1 → Goal Zero f
-    left_zero f (inl q) ce cf = inl (inr q, covers_left es fs ss (strict_e ce) bf.1)
-    left_zero f (inr q) ce cf = inr (λ i. sym q i ∷ (strict_e ce ∙ sym (strict_f (subst (λ g. zeros (g ∷ fs) ≡ 1) q cf))) i)
-
-    right_zero : (e : Sign) → e ≡ s → zeros (Zero ∷ fs) ≡ 1 → Goal e Zero
-    right_zero e p cf = inl (inl p, covers_right es fs ss (strict_f cf) be.1)
-
-    other : (e : Sign) → (e ≡ s) ⊎ (e ≡ Zero) → (e ≡ Zero → ⊥) → e ≡ s
-    other e (inl p) n = p
-    other e (inr z) n = absurd (n z)
-
-    rest_of : (t : Sign) (ts : List Sign) → is_zero t ≡ false → zeros (t ∷ ts) ≡ 1 → zeros ts ≡ 1
-    rest_of t ts z h = let c : zeros (t ∷ ts) ≡ 0 + zeros ts = zeros-cons t ts ∙ ap (λ b. cond b 1 0 + zeros ts) z in omega (arith, h, c)
-
-    go : (e f : Sign) → (e ≡ s) ⊎ (e ≡ Zero) → (f ≡ s) ⊎ (f ≡ Zero) → zeros (e ∷ es) ≡ 1 → zeros (f ∷ fs) ≡ 1 → (zeros es ≡ 1 → zeros fs ≡ 1 → IsBorder es ss → IsBorder fs ss → Covers es fs ss ⊎ (es ≡ fs)) → Goal e f
-    go Zero f p q ce cf rest = left_zero f q ce cf
-    go Neg Zero p q ce cf rest = right_zero Neg (other Neg p (λ h. cc)) cf
-    go Neg Neg p q ce cf rest = neither Neg Neg (other Neg p (λ h. cc)) (other Neg q (λ h. cc)) (rest_of Neg es refl ce) (rest_of Neg fs refl cf) rest
-    go Neg Pos p q ce cf rest = neither Neg Pos (other Neg p (λ h. cc)) (other Pos q (λ h. cc)) (rest_of Neg es refl ce) (rest_of Pos fs refl cf) rest
-    go Pos Zero p q ce cf rest = right_zero Pos (other Pos p (λ h. cc)) cf
-    go Pos Neg p q ce cf rest = neither Pos Neg (other Pos p (λ h. cc)) (other Neg q (λ h. cc)) (rest_of Pos es refl ce) (rest_of Neg fs refl cf) rest
-    go Pos Pos p q ce cf rest = neither Pos Pos (other Pos p (λ h. cc)) (other Pos q (λ h. cc)) (rest_of Pos es refl ce) (rest_of Pos fs refl cf) rest
+    go : (e ≡ s) ⊎ (e ≡ Zero) → (f ≡ s) ⊎ (f ≡ Zero) → Covers es fs ss ⊎ (es ≡ fs) → Covers (e ∷ es) (f ∷ fs) (s ∷ ss) ⊎ (e ∷ es ≡ f ∷ fs)
+    go (inl p) (inl q) (inl c) = inl (inl p, c)
+    go (inl p) (inl q) (inr h) = inr (λ i. (p ∙ sym q) i ∷ h i)
+    go (inl p) (inr q) ih = inl (inl p, subst (λ xs. Covers es xs ss) (sym (strict_behind f fs ss q cf bf.1)) (covers_right es ss be.1))
+    go (inr p) (inl q) ih = inl (inr q, subst (λ xs. Covers xs fs ss) (sym (strict_behind e es ss p ce be.1)) (covers_left ss fs bf.1))
+    go (inr p) (inr q) ih = inr (λ i. (p ∙ sym q) i ∷ (strict_behind e es ss p ce be.1 ∙ sym (strict_behind f fs ss q cf bf.1)) i)
+covers_or_same es fs ss ce cf be bf = search rules
 
 sum_positive : (a b : ℤ) → pos 0 <ℤ a → (pos 0 <ℤ b) ⊎ (b ≡ pos 0) → pos 0 <ℤ (a +ℤ b)
 sum_positive a b h (inl g) = omega (arith, ints)
@@ -157,7 +124,7 @@ sum_covers (g ∷ gs) u v (s ∷ ss) c bu bv = λ i. at_head c.0 i ∷ sum_cover
 
 -- directions on two different edges on the border of a cell add up to one in it
 pub edges_add_up_lemma : (planes : List V3) (s e f : List Sign) (u v : V3) → kind_of e ≡ Edge → kind_of f ≡ Edge → IsBorder e s → IsBorder f s → e ≢ f → signs_of planes u ≡ e → signs_of planes v ≡ f → signs_of planes (plus u v) ≡ s
-edges_add_up_lemma planes s e f u v ke kf be bf apart is_e is_f = go (covers_or_same e f s (edge_zeros e ke) (edge_zeros f kf) be bf)
+edges_add_up_lemma planes s e f u v ke kf be bf apart is_e is_f = go (covers_or_same e f s (let z = edge_zeros e ke in omega (arith, z)) (let z = edge_zeros f kf in omega (arith, z)) be bf)
   where
     go : Covers e f s ⊎ (e ≡ f) → signs_of planes (plus u v) ≡ s
     go (inr same) = absurd (apart same)
@@ -219,10 +186,7 @@ off_all [] d none g (k, lt, e) z = absurd (omega arith)
 off_all (h ∷ gs) d none g (zero, lt, e) z =
     let c : zeros (signs_of (h ∷ gs) d) ≡ 1 + zeros (signs_of gs d) = zeros-cons (sign (dot h d)) (signs_of gs d) ∙ ap (λ t. cond (is_zero t) 1 0 + zeros (signs_of gs d)) (ap (λ v. sign (dot v d)) e ∙ z) in
     omega (arith, none, c)
-off_all (h ∷ gs) d none g (suc k, lt, e) z = off_all gs d (fewer (cond (is_zero (sign (dot h d))) 1 0) (zeros (signs_of gs d)) (sym (zeros-cons (sign (dot h d)) (signs_of gs d)) ∙ none)) g (k, omega arith, e) z
-  where
-    fewer : (a b : ℕ) → a + b ≡ 0 → b ≡ 0
-    fewer a b e = omega arith
+off_all (h ∷ gs) d none g (suc k, lt, e) z = off_all gs d (let c = zeros-cons (sign (dot h d)) (signs_of gs d) in omega (arith, none, c)) g (k, omega arith, e) z
 
 module _ (d m y : V3) where
   -- y is strictly on d's side of each plane that is not parallel to m
