@@ -1,35 +1,34 @@
 -- The edges on the border of an open cell: there are two, and directions on two of them add up to one in the cell.
-use Rattle.std.proofs.Common.{◌≡◌, ◌≢◌, ℕ, zero, suc, ◌+◌, ◌≤◌, refl, sym, ap, subst, ◌∙◌, arith, ℤ, pos, neg_ℤ, ◌+ℤ◌, ◌<ℤ◌, ◌⊎◌, inl, inr, ⊎_elim, cond, false, rules, List, [], ◌∷◌, map, All, Contains}
+use Rattle.std.proofs.Common.{◌≡◌, ◌≢◌, ℕ, zero, suc, ◌+◌, ◌≤◌, refl, sym, ap, subst, ◌∙◌, arith, ℤ, pos, ◌+ℤ◌, ◌≤ℤ◌, ◌<ℤ◌, ◌⊎◌, inl, inr, ⊎_elim, cond, false, rules, List, [], ◌∷◌, All, Contains}
 use Rattle.std.specs.Prelude.{count_by}
-use Rattle.std.proofs.lemmas.Int.{ints}
+use Rattle.std.proofs.lemmas.Int.{ints, by_lt_z}
 use Rattle.std.proofs.lemmas.List.Sums.{sum_by-cons}
 use Rattle.std.proofs.lemmas.List.Elements.{All-contains}
 use Rattle.staat_vec.specs.declared.vector.V3.{V3}
 use Rattle.staat_vec.specs.declared.vector.Sign.{Sign}
 use Rattle.staat_vec.specs.declared.vector.Sign.TheVariants.{Neg, Zero, Pos}
-use Rattle.staat_vec.specs.Vectors.{vector, dot, cross, plus, negative, origin, sign}
+use Rattle.staat_vec.specs.Vectors.{dot, cross, plus, negative, origin, sign}
 use Rattle.staat_vec.proofs.VecRing.{negative_dot}
 use Rattle.staat_model.specs.declared.assembly.Part.{Part}
 use Rattle.staat_model.specs.declared.set.PartSet.{PartSet}
 use Rattle.staat_model.specs.Planes.{ArePlanes}
 use Rattle.staat_model.specs.declared.tree.Kind.TheVariants.{Edge, Open}
-use Rattle.staat_model.specs.Cones.{IsSpanning, IsOnBorder, HasEither}
+use Rattle.staat_model.specs.Cones.{IsOnBorder}
 use Rattle.staat_model.specs.Cells.{signs_of, is_zero, kind_of, kind_by_count, IsCell, IsBorder}
 use Rattle.staat_model.specs.Borders.{HasTwoEdges}
 use Rattle.staat_model.proofs.Members.{All-from_members}
-use Rattle.staat_model.proofs.Differences.{from_map}
-use Rattle.staat_model.proofs.Corners.{HoldsAxes, IsSame, cross_signs}
+use Rattle.staat_model.proofs.Corners.{Conditions, HoldsAxes, IsSame, conditions, cross_signs, have_axes, same_back}
 use Rattle.staat_model.proofs.BorderLemmas.{borders_lemma}
 use Rattle.staat_model.proofs.GraphLemmas.{border_same}
 use Rattle.staat_model.proofs.FacetLemmas.{swap_zero}
 use Rattle.staat_model.proofs.CornerLemmas.{axes_span}
 use Rattle.staat_model.proofs.VertexLemmas.{same_some, holds_axes}
 use Rattle.staat_model.proofs.PlaneLemmas.{NoneParallel, planes_apart}
-use Rattle.staat_vec.proofs.Integers.{zero_not_positive, opposite_negative_back, opposite_zero_back, sum_zero, add-comm_ℤ}
+use Rattle.staat_vec.proofs.Integers.{negative_nonpositive, positive_from_nonneg, zero_not_positive, opposite_negative_back, sum_zero, add-comm_ℤ}
 use Rattle.staat_vec.proofs.Signs.{positive_sign, negative_sign, sign_positive, sign_negative, zero_sign}
 use Rattle.staat_vec.proofs.VectorLaws.{dot_plus, dot_origin}
 use Rattle.staat_vec.proofs.Unique.{Contains-front}
-use Rattle.staat_vec.proofs.ListLaws.{Contains-there, Contains-map}
+use Rattle.staat_vec.proofs.ListLaws.{Contains-there}
 
 -- ---- how many planes pass through a cell
 
@@ -132,45 +131,13 @@ edges_add_up_lemma planes s e f u v ke kf be bf apart is_e is_f = go (covers_or_
 
 -- ---- an open cell has two edges on its border
 
--- the normal, or its negative, on whose positive side d is
-abbrev facing : V3 → V3 → V3
-facing d g = by_sign (sign (dot g d))
+-- what is on the positive side of a condition, as d is, has d's sign at its plane
+same_sign : (v g d y : V3) → IsSame v g → pos 0 <ℤ dot v d → pos 0 <ℤ dot v y → sign (dot g y) ≡ sign (dot g d)
+same_sign v g d y (inl e) h k = positive_sign (dot g y) (subst (λ z. pos 0 <ℤ dot z y) e k) ∙ sym (positive_sign (dot g d) (subst (λ z. pos 0 <ℤ dot z d) e h))
+same_sign v g d y (inr e) h k = negative_sign (dot g y) (below y k) ∙ sym (negative_sign (dot g d) (below d h))
   where
-    by_sign : Sign → V3
-    by_sign Neg = negative g
-    by_sign Zero = g
-    by_sign Pos = g
-
-module _ (d : V3) where
-  -- which of the two it is
-  record Faces (g : V3) : Type 0 where
-    front : pos 0 <ℤ dot (facing d g) d
-    same : IsSame (facing d g) g
-    -- what is on the positive side of it has d's sign at g
-    agrees : (y : V3) → pos 0 <ℤ dot (facing d g) y → sign (dot g y) ≡ sign (dot g d)
-
-  turned_front : (p q : ℤ) → p ≡ neg_ℤ q → q <ℤ pos 0 → pos 0 <ℤ p
-  turned_front p q e h = omega (arith, ints)
-
-  faces : (g : V3) → sign (dot g d) ≢ Zero → Faces g
-  faces g off = go (sign (dot g d)) refl
-    where
-      go : (s : Sign) → sign (dot g d) ≡ s → Faces g
-      go Zero e = absurd (off e)
-      go Pos e =
-          let is : facing d g ≡ g = ap (λ t. elim t as (λ t. V3) [ Neg ↦ negative g | Zero ↦ g | Pos ↦ g ]) e in
-          record {
-            front = subst (λ z. pos 0 <ℤ dot z d) (sym is) (sign_positive (dot g d) e);
-            same = inl is;
-            agrees = λ y h. positive_sign (dot g y) (subst (λ z. pos 0 <ℤ dot z y) is h) ∙ sym e;
-          }
-      go Neg e =
-          let is : facing d g ≡ negative g = ap (λ t. elim t as (λ t. V3) [ Neg ↦ negative g | Zero ↦ g | Pos ↦ g ]) e in
-          record {
-            front = subst (λ z. pos 0 <ℤ dot z d) (sym is) (turned_front (dot (negative g) d) (dot g d) (negative_dot g d) (sign_negative (dot g d) e));
-            same = inr is;
-            agrees = λ y h. negative_sign (dot g y) (opposite_negative_back (dot (negative g) y) (dot g y) (negative_dot g y) (subst (λ z. pos 0 <ℤ dot z y) is h)) ∙ sym e;
-          }
+    below : (x : V3) → pos 0 <ℤ dot v x → dot g x <ℤ pos 0
+    below x k = opposite_negative_back (dot v x) (dot g x) (ap (λ z. dot z x) e ∙ negative_dot g x) k
 
 -- a sign other than zero
 pub not_zero : (t : Sign) → t ≢ Zero → is_zero t ≡ false
@@ -228,28 +195,23 @@ same_at (h ∷ gs) y z g e (zero, lt, p) = let head : sign (dot h y) ≡ sign (d
 same_at (h ∷ gs) y z g e (suc k, lt, p) = let rest : signs_of gs y ≡ signs_of gs z = cc in same_at gs y z g rest (k, omega arith, p)
 
 module _ (planes : List V3) (d : V3) (axes : HoldsAxes planes) (apart : NoneParallel planes) (off : zeros (signs_of planes d) ≡ 0) where
-  walls : List V3
-  walls = map (facing d) planes
+  walls : Conditions d planes
+  walls = conditions d planes
 
-  faces_at : (g : V3) → Contains planes g → Faces d g
-  faces_at g c = faces d g (off_all planes d off g c)
+  -- the condition of a plane
+  wall_of : (g : V3) → Contains planes g → (v : V3) × Contains walls.cs v × IsSame v g
+  wall_of g c =
+      by_lt_z {P = (v : V3) × Contains walls.cs v × IsSame v g} (dot g d) (pos 0)
+      (λ low. (negative g, walls.down g c (negative_nonpositive (dot g d) low), inr refl))
+      (λ high. (g, walls.up g c high, inl refl))
 
-  wall_of : (v : V3) → Contains walls v → (g : V3) × Contains planes g × (v ≡ facing d g)
-  unfolding walls
-  wall_of v c = from_map (facing d) planes v c
+  inside : All (λ v. pos 0 <ℤ dot v d) walls.cs
+  inside = All-from_members (λ v. pos 0 <ℤ dot v d) walls.cs (λ v c.
+      let (g, g_in, same) = walls.only v c in
+      positive_from_nonneg (dot v d) (All-contains (λ v. pos 0 ≤ℤ dot v d) walls.cs v walls.above c) (λ z. off_all planes d off g g_in (ap sign (same_back v g d same z))))
 
-  wall_in : (g : V3) → Contains planes g → Contains walls (facing d g)
-  unfolding walls
-  wall_in g c = Contains-map (facing d) planes g c
-
-  either_wall : (axis : V3) → Contains planes axis → HasEither walls axis
-  either_wall axis c = ⊎_elim (λ e. inl (subst (Contains walls) e (wall_in axis c))) (λ e. inr (subst (Contains walls) e (wall_in axis c))) (Faces.same (faces_at axis c))
-
-  walls_span : IsSpanning walls
-  walls_span = axes_span walls (record { x = either_wall (vector (pos 1) (pos 0) (pos 0)) axes.x; y = either_wall (vector (pos 0) (pos 1) (pos 0)) axes.y; z = either_wall (vector (pos 0) (pos 0) (pos 1)) axes.z })
-
-  inside : All (λ v. pos 0 <ℤ dot v d) walls
-  inside = All-from_members (λ v. pos 0 <ℤ dot v d) walls (λ v c. let (g, in_g, e) = wall_of v c in let f = faces_at g in_g in subst (λ z. pos 0 <ℤ dot z d) (sym e) f.front)
+  on_side : (v g y : V3) → Contains walls.cs v → IsSame v g → pos 0 <ℤ dot v y → sign (dot g y) ≡ sign (dot g d)
+  on_side v g y c same h = same_sign v g d y same (All-contains (λ v. pos 0 <ℤ dot v d) walls.cs v inside c) h
 
   -- the signs of a direction on one wall
   record Edges (g y : V3) : Type 0 where
@@ -261,35 +223,30 @@ module _ (planes : List V3) (d : V3) (axes : HoldsAxes planes) (apart : NonePara
     border : IsBorder (signs_of planes y) (signs_of planes d)
     one : zeros (signs_of planes y) ≡ 1
 
-  edges : (g y : V3) → IsOnBorder walls g y → Edges g y
+  edges : (g y : V3) → IsOnBorder walls.cs g y → Edges g y
   unfolding Sided
   edges g y b =
-      let (m, in_m, e) = wall_of g b.g_in in
-      let f = faces_at m in_m in
-      let on : dot m y ≡ pos 0 = on_plane m y (subst (λ z. IsSame z m) (sym e) f.same) b.on in
-      let sided : Sided d m y planes = side_of g y m b e f in
-      let (border, one) = edge_signs d m y planes sided apart in_m on in
-      record { m = m; in_planes = in_m; zero_there = ap sign on; agrees = λ z h q. off_all planes d off m in_m (sym (f.agrees z (subst (λ v. pos 0 <ℤ dot v z) e h)) ∙ q); border = border; one = one }
+      let (m, in_m, same) = walls.only g b.g_in in
+      let on : dot m y ≡ pos 0 = same_back g m y same b.on in
+      let (border, one) = edge_signs d m y planes (side_of m same) apart in_m on in
+      record { m = m; in_planes = in_m; zero_there = ap sign on; agrees = λ z h q. off_all planes d off m in_m (sym (on_side g m z b.g_in same h) ∙ q); border = border; one = one }
     where
-      on_plane : (m y : V3) → IsSame g m → dot g y ≡ pos 0 → dot m y ≡ pos 0
-      on_plane m y (inl e) on = ap (λ v. dot v y) (sym e) ∙ on
-      on_plane m y (inr e) on = opposite_zero_back (dot (negative m) y) (dot m y) (negative_dot m y) (ap (λ v. dot v y) (sym e) ∙ on)
-
-      side_of : (g y m : V3) → IsOnBorder walls g y → g ≡ facing d m → Faces d m → Sided d m y planes
-      side_of g y m b e f h c = (
-        off_all planes d off h c,
-        λ some. ⊎_elim
-            (λ z. absurd (same_some (cross (facing d h) g) (cross h m) (cross_signs (facing d h) g h m (Faces.same (faces_at h c)) (subst (λ z. IsSame z m) (sym e) f.same)) some z))
-            (λ p. Faces.agrees (faces_at h c) y p)
-            (All-contains (λ v. (cross v g ≡ origin) ⊎ (pos 0 <ℤ dot v y)) walls (facing d h) b.inside (wall_in h c)),
-      )
+      side_of : (m : V3) → IsSame g m → Sided d m y planes
+      side_of m same h c =
+          let (v, v_in, is) = wall_of h c in (
+            off_all planes d off h c,
+            λ some. ⊎_elim
+                (λ z. absurd (same_some (cross v g) (cross h m) (cross_signs v g h m is same) some z))
+                (λ p. on_side v h y v_in is p)
+                (All-contains (λ v. (cross v g ≡ origin) ⊎ (pos 0 <ℤ dot v y)) walls.cs v b.inside v_in),
+          )
 
   some_from : (h y : V3) → pos 0 <ℤ dot h y → y ≢ origin
   some_from h y p e = zero_not_positive (dot h y) (ap (dot h) e ∙ dot_origin h) p
 
   two_edges : HasTwoEdges planes (signs_of planes d)
   two_edges =
-      let b = borders_lemma walls d walls_span inside in
+      let b = borders_lemma walls.cs d (axes_span walls.cs (have_axes d planes walls axes)) inside in
       let e = edges b.g b.y b.y_on in
       let f = edges b.h b.z b.z_on in
       record {

@@ -9,7 +9,7 @@ use Rattle.staat_vec.proofs.VecRing.{crossE, negativeE, values, v0, v1, ring3, n
 use Rattle.staat_vec.proofs.Primitives.{IsPrimitive-negative, primitive-is, primitive-negative}
 use Rattle.staat_model.specs.Cones.{IsAbove, HasAxes, HasEither, IsCrossing}
 use Rattle.staat_model.proofs.CornerLemmas.{across_primitive, corner_lemma}
-use Rattle.staat_vec.proofs.Integers.{opposite_nonneg, opposite_zero, opposite_nonpositive_back, negative_nonpositive, negative_nonneg_clash}
+use Rattle.staat_vec.proofs.Integers.{opposite_nonneg, opposite_zero, opposite_zero_back, opposite_nonpositive_back, negative_nonpositive, negative_nonneg_clash}
 use Rattle.staat_vec.proofs.Unique.{Contains-front}
 use Rattle.staat_vec.proofs.ListLaws.{Contains-there}
 
@@ -23,6 +23,14 @@ pub record IsTowards (d v g : V3) : Type 0 where
 -- the member or its negative
 abbrev pub IsSame : V3 → V3 → Type 0
 IsSame s g = (s ≡ g) ⊎ (s ≡ negative g)
+
+pub same_zero : (e g d : V3) → IsSame e g → dot g d ≡ pos 0 → dot e d ≡ pos 0
+same_zero e g d (inl p) h = ap (λ v. dot v d) p ∙ h
+same_zero e g d (inr p) h = opposite_zero (dot e d) (dot g d) (ap (λ v. dot v d) p ∙ negative_dot g d) h
+
+pub same_back : (e g d : V3) → IsSame e g → dot e d ≡ pos 0 → dot g d ≡ pos 0
+same_back e g d (inl p) h = ap (λ v. dot v d) (sym p) ∙ h
+same_back e g d (inr p) h = opposite_zero_back (dot e d) (dot g d) (ap (λ v. dot v d) p ∙ negative_dot g d) h
 
 pub record Conditions (d : V3) (gs : List V3) : Type 0 where
   pub cs : List V3

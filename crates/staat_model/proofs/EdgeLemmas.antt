@@ -13,7 +13,7 @@ use Rattle.staat_model.specs.Cones.{IsAbove}
 use Rattle.staat_model.proofs.Members.{All-from_members}
 use Rattle.staat_model.proofs.Edge.{edge_below}
 use Rattle.staat_model.proofs.CornerLemmas.{above_primitive, axes_span, dot_multiple}
-use Rattle.staat_model.proofs.Corners.{Conditions, conditions, have_axes, is_corner, HoldsAxes, IsOnBoth, IsSame, IsTowards, IsCornerTowards, on_both}
+use Rattle.staat_model.proofs.Corners.{Conditions, conditions, have_axes, is_corner, HoldsAxes, same_back, same_zero, IsOnBoth, IsSame, IsTowards, IsCornerTowards, on_both}
 use Rattle.staat_vec.proofs.Integers.{mixed_product, mul-comm_ℤ, negative_nonneg_clash, negative_nonpositive, opposite_negative, opposite_zero, other_factor_zero, product_zero, products_zero, two_negatives, positive_nonpositive_mul, zero_or}
 use Rattle.staat_vec.proofs.Integers.{opposite_zero_back, positive_from_nonneg, opposite_positive_back, zero_from_bounds, zero_nonneg, zero_nonpositive}
 use Rattle.staat_vec.proofs.Divisors.{neg-neg}
@@ -49,14 +49,6 @@ far d t (e ∷ cs) ahead =
     at_head (inr p) l le = nonneg_is (dot e (plus (times l d) t)) (pos l *ℤ dot e d +ℤ dot e t) (dot_along e d t l) (reach (dot e t) (dot e d) l le p)
 
 -- ---- a vertex on each side of d
-
-same_zero : (e g d : V3) → IsSame e g → dot g d ≡ pos 0 → dot e d ≡ pos 0
-same_zero e g d (inl p) h = ap (λ v. dot v d) p ∙ h
-same_zero e g d (inr p) h = opposite_zero (dot e d) (dot g d) (ap (λ v. dot v d) p ∙ negative_dot g d) h
-
-same_back : (e g d : V3) → IsSame e g → dot e d ≡ pos 0 → dot g d ≡ pos 0
-same_back e g d (inl p) h = ap (λ v. dot v d) (sym p) ∙ h
-same_back e g d (inr p) h = opposite_zero_back (dot e d) (dot g d) (ap (λ v. dot v d) p ∙ negative_dot g d) h
 
 -- what t has of the vector that is far along d
 back_low : (t d : V3) (l : ℕ) → dot t d ≡ pos 0 → pos 0 <ℤ dot t t → dot (negative t) (plus (times l d) t) <ℤ pos 0
