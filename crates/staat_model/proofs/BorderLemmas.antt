@@ -1,10 +1,10 @@
 -- A vector strictly on the positive side of all members of a list that spans space: the cone of the conditions has two walls, and on each a direction strictly inside the other conditions.
 use Rattle.std.proofs.Common.{◌≡◌, ℕ, zero, suc, ◌≤◌, ◌≢◌, refl, sym, ap, subst, ◌∙◌, arith, ℤ, pos, negsuc, ◌+ℤ◌, ◌-ℤ◌, ◌*ℤ◌, ◌≤ℤ◌, neg_ℤ, ◌<ℤ◌, ◌⊎◌, inl, inr, ⊎_elim, List, [], ◌∷◌, ◌++◌, All, Contains}
-use lib.IntN.{ℤ_discrete}
 use Rattle.std.proofs.lemmas.Int.{ints}
 use Rattle.std.proofs.lemmas.List.Elements.{All-nil, All-cons, All-head, All-tail, All-contains, All-weaker, All-append}
 use Rattle.staat_vec.specs.declared.vector.V3.{V3}
-use Rattle.staat_vec.specs.Vectors.{dot, cross, plus, times, negative, origin}
+use Rattle.staat_vec.specs.Vectors.{dot, cross, plus, times, negative, origin, vector_cmp}
+use Rattle.staat_vec.proofs.VectorOrder.{vector_exact, vector_total}
 use Rattle.staat_vec.proofs.Ring.{Ex, at, num, ◌⊕◌, ◌⊖◌, ◌⊗◌, ring, ring_by_two}
 use Rattle.staat_vec.proofs.VecRing.{VEx, dotE, crossE, plusE, timesE, originE, values, v0, v1, v2, scale, same_vector, ring3, dot_negative, cross_self}
 use Rattle.staat_vec.proofs.Order.{nonneg_is, nonneg_pos, nonneg_mul, pos_mul, cancel_nonneg, cancel_zero, positive_nonneg, turned_positive}
@@ -14,8 +14,9 @@ use Rattle.staat_model.proofs.Members.{All-from_members, all_back, all_front, bo
 use Rattle.staat_model.proofs.Mixes.{mix_above, dot_step}
 use Rattle.staat_model.proofs.Alternative.{IsSeparated, alternative, combine_lemma}
 use Rattle.staat_model.proofs.Tilt.{dot_pair}
+use Rattle.staat_model.proofs.Decisions.{equal_or, first_or}
 use Rattle.staat_model.proofs.Edge.{perpendicular}
-use Rattle.staat_vec.proofs.Unique.{Contains-nothing, Contains-front}
+use Rattle.staat_vec.proofs.Unique.{Contains-nothing, Contains-front, IsFirst-in}
 use Rattle.staat_vec.proofs.ListLaws.{Contains-there}
 
 -- some x breaks g alone among the kept, and nothing of the rest
@@ -67,23 +68,11 @@ prune ks (g ∷ rs) needed = go (alternative (ks ++ rs) g) (prune ks rs (All-wea
           λ x h. ⊎_elim (out x) (λ b. inr (Contains-there g x rs b)) (from x h),
         )
 
-pub same_or_not : (a b : V3) → Dec (a ≡ b)
-same_or_not a b = go (ℤ_discrete a.x b.x) (ℤ_discrete a.y b.y) (ℤ_discrete a.z b.z)
-  where
-    go : Dec (a.x ≡ b.x) → Dec (a.y ≡ b.y) → Dec (a.z ≡ b.z) → Dec (a ≡ b)
-    go (yes p) (yes q) (yes r) = yes (same_vector a b p q r)
-    go (no p) q r = no (λ e. p (ap (λ v. v.x) e))
-    go (yes p) (no q) r = no (λ e. q (ap (λ v. v.y) e))
-    go (yes p) (yes q) (no r) = no (λ e. r (ap (λ v. v.z) e))
-
 find_other : (g : V3) (ks : List V3) → ((h : V3) × Contains ks h × (h ≢ g)) ⊎ All (λ m. m ≡ g) ks
-find_other g [] = inr (All-nil (λ m. m ≡ g))
-find_other g (k ∷ ks) = go (same_or_not k g) (find_other g ks)
-  where
-    go : Dec (k ≡ g) → ((h : V3) × Contains ks h × (h ≢ g)) ⊎ All (λ m. m ≡ g) ks → ((h : V3) × Contains (k ∷ ks) h × (h ≢ g)) ⊎ All (λ m. m ≡ g) (k ∷ ks)
-    go (no n) r = inl (k, Contains-front k ks, n)
-    go (yes e) (inl (h, c, n)) = inl (h, Contains-there k h ks c, n)
-    go (yes e) (inr rules) = inr (All-cons (λ m. m ≡ g) k ks e rules)
+find_other g ks = elim (first_or (λ m. m ≡ g) (λ m. equal_or vector_cmp vector_total vector_exact m g) ks) [
+  | inl all ↦ inr all
+  | inr other ↦ (let at = IsFirst-in (λ m. m ≢ g) ks other.0 other.1 in inl (other.0, at.0, at.1))
+]
 
 between_zero : (p q : ℤ) → p ≡ neg_ℤ q → pos 0 ≤ℤ q → pos 0 ≤ℤ p → q ≡ pos 0
 between_zero p q e h g = omega (arith, ints)

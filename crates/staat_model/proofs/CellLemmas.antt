@@ -38,6 +38,17 @@ zeros s = count_by is_zero s
 pub zeros-cons : (t : Sign) (s : List Sign) → zeros (t ∷ s) ≡ cond (is_zero t) 1 0 + zeros s
 zeros-cons t s = sum_by-cons (λ x. cond (is_zero x) 1 0) t s
 
+-- a sign other than zero
+pub not_zero : (t : Sign) → t ≢ Zero → is_zero t ≡ false
+not_zero Zero n = absurd (n refl)
+not_zero t n = refl
+
+pub zeros_off : (t : Sign) (ts : List Sign) → t ≢ Zero → zeros (t ∷ ts) ≡ zeros ts
+zeros_off t ts n = zeros-cons t ts ∙ ap (λ b. cond b 1 0 + zeros ts) (not_zero t n) ∙ omega arith
+
+pub zeros_on : (t : Sign) (ts : List Sign) → t ≡ Zero → zeros (t ∷ ts) ≡ 1 + zeros ts
+zeros_on t ts e = zeros-cons t ts ∙ ap (λ t. cond (is_zero t) 1 0 + zeros ts) e
+
 pub open_no_zero : (n : ℕ) → kind_by_count n ≡ Open → n ≡ 0
 open_no_zero zero e = refl
 open_no_zero (suc zero) e = cc
@@ -80,9 +91,7 @@ covers_right es ss b = absurd b
 
 -- behind the one plane through a cell the signs are those of the cell on whose border it is
 strict_behind : (e : Sign) (es ss : List Sign) → e ≡ Zero → zeros (e ∷ es) ≤ 1 → IsBorder es ss → es ≡ ss
-strict_behind e es ss z most b =
-    let c : zeros (e ∷ es) ≡ 1 + zeros es = zeros-cons e es ∙ ap (λ t. cond (is_zero t) 1 0 + zeros es) z in
-    border_strict es ss (omega (arith, most, c)) b
+strict_behind e es ss z most b = border_strict es ss (omega (arith, most, zeros_on e es z)) b
 
 -- two cells on the border, each with at most one plane through it, are one, or cover the cell
 covers_or_same : (es fs ss : List Sign) → zeros es ≤ 1 → zeros fs ≤ 1 → IsBorder es ss → IsBorder fs ss → Covers es fs ss ⊎ (es ≡ fs)
@@ -139,20 +148,10 @@ same_sign v g d y (inr e) h k = negative_sign (dot g y) (below y k) ∙ sym (neg
     below : (x : V3) → pos 0 <ℤ dot v x → dot g x <ℤ pos 0
     below x k = opposite_negative_back (dot v x) (dot g x) (ap (λ z. dot z x) e ∙ negative_dot g x) k
 
--- a sign other than zero
-pub not_zero : (t : Sign) → t ≢ Zero → is_zero t ≡ false
-not_zero Neg n = refl
-not_zero Zero n = absurd (n refl)
-not_zero Pos n = refl
-
-pub zeros_off : (t : Sign) (ts : List Sign) → t ≢ Zero → zeros (t ∷ ts) ≡ zeros ts
-zeros_off t ts n = zeros-cons t ts ∙ ap (λ b. cond b 1 0 + zeros ts) (not_zero t n) ∙ omega arith
-
 pub off_all : (gs : List V3) (d : V3) → zeros (signs_of gs d) ≡ 0 → (g : V3) → Contains gs g → sign (dot g d) ≢ Zero
 off_all [] d none g (k, lt, e) z = absurd (omega arith)
 off_all (h ∷ gs) d none g (zero, lt, e) z =
-    let c : zeros (signs_of (h ∷ gs) d) ≡ 1 + zeros (signs_of gs d) = zeros-cons (sign (dot h d)) (signs_of gs d) ∙ ap (λ t. cond (is_zero t) 1 0 + zeros (signs_of gs d)) (ap (λ v. sign (dot v d)) e ∙ z) in
-    omega (arith, none, c)
+    omega (arith, none, zeros_on (sign (dot h d)) (signs_of gs d) (ap (λ v. sign (dot v d)) e ∙ z))
 off_all (h ∷ gs) d none g (suc k, lt, e) z = off_all gs d (let c = zeros-cons (sign (dot h d)) (signs_of gs d) in omega (arith, none, c)) g (k, omega arith, e) z
 
 module _ (d m y : V3) where
@@ -178,7 +177,7 @@ module _ (d m y : V3) where
   edge_signs (g ∷ gs) sided (head, rest) (zero, lt, e) on =
       let zero_here : sign (dot g y) ≡ Zero = ap sign (ap (λ v. dot v y) e ∙ on) in
       let strict = strict_signs gs (λ h c. sided h (Contains-there g h gs c)) (λ h c z. All-contains (λ h. cross g h ≢ origin) gs h head c (swap_zero g h (ap (cross h) e ∙ z))) in
-      ((inr zero_here, border_from_same (signs_of gs y) (signs_of gs d) strict.0), zeros-cons (sign (dot g y)) (signs_of gs y) ∙ ap (λ t. cond (is_zero t) 1 0 + zeros (signs_of gs y)) zero_here ∙ ap (λ n. 1 + n) strict.1)
+      ((inr zero_here, border_from_same (signs_of gs y) (signs_of gs d) strict.0), zeros_on (sign (dot g y)) (signs_of gs y) zero_here ∙ ap (λ n. 1 + n) strict.1)
   edge_signs (g ∷ gs) sided (head, rest) (suc k, lt, e) on =
       let inside : Contains gs m = (k, omega arith, e) in
       let (some, same) = sided g (Contains-front g gs) in

@@ -3,10 +3,11 @@ use Rattle.std.proofs.Common.{◌≡◌, ◌≢◌, zero, suc, ◌≤◌, refl, 
 use Rattle.std.proofs.lemmas.Int.{ints}
 use Rattle.std.specs.FinSet as set
 use Rattle.staat_vec.specs.declared.vector.V3.{V3}
-use Rattle.staat_vec.specs.Vectors.{vector, dot, cross, negative, origin}
+use Rattle.staat_vec.specs.Vectors.{vector, dot, cross, origin, vector_cmp}
+use Rattle.staat_vec.proofs.VectorOrder.{vector_exact, vector_total}
 use Rattle.staat_vec.specs.Primitives.{IsPrimitive, primitive, canon}
 use Rattle.staat_vec.proofs.VecRing.{cross_self, cross_turned}
-use Rattle.staat_vec.proofs.Primitives.{IsPrimitive-some, primitive-is, primitive-negative}
+use Rattle.staat_vec.proofs.Primitives.{IsPrimitive-some, primitive-negative}
 use Rattle.staat_model.specs.declared.assembly.Part.{Part}
 use Rattle.staat_model.specs.declared.set.PartSet.{PartSet}
 use Rattle.staat_model.specs.declared.certificate.Arc.{Arc}
@@ -20,9 +21,9 @@ use Rattle.staat_model.specs.Removal.{MeetsAlong}
 use Rattle.staat_model.proofs.Corners.{HoldsAxes, IsCornerTowards, IsOnBoth, IsTowards, corner_towards, on_both}
 use Rattle.staat_model.proofs.FacetLemmas.{across_crosses}
 use Rattle.staat_model.proofs.GraphLemmas.{facet_towards, piece_in, positive_back}
-use Rattle.staat_model.proofs.BorderLemmas.{same_or_not}
+use Rattle.staat_model.proofs.Decisions.{Decided, equal_or}
 use Rattle.staat_model.proofs.PieceFacets.{meets_by_facets_lemma}
-use Rattle.staat_model.proofs.VertexLemmas.{in_vertices, same_some}
+use Rattle.staat_model.proofs.VertexLemmas.{in_vertices}
 use Rattle.staat_vec.proofs.Integers.{zero_from_bounds, zero_nonneg, zero_nonpositive}
 use Rattle.staat_vec.proofs.Unique.{Contains-front}
 use Rattle.staat_vec.proofs.ListLaws.{Contains-there}
@@ -60,12 +61,11 @@ pub free_at_vertex_lemma : (parts : List Part) (core : List Arc) (planes : List 
     → IsFreeInCore parts core s r d → IsFreeAtVertex parts core planes s r
 free_at_vertex_lemma parts core planes s r d each has some free =
     let (v, c) = corner_towards planes d (core_axes parts core planes has) some in
-    let crossing = primitive (cross c.g c.h) in
-    let p = primitive-is (cross c.g c.h) c.independent in record {
+    let on = on_both v c.g c.h c.independent c.is in record {
       v = v;
       vertex = record {
         listed = in_vertices planes c.g c.h v c.g_in c.h_in c.independent c.is;
-        moves = same_some v crossing c.is (IsPrimitive-some crossing p.primitive);
+        moves = IsPrimitive-some v on.primitive;
       };
       free = λ arc listed a_in b_in m.
           free arc listed a_in b_in (meets_towards parts core planes d v arc each has c.towards listed m);
@@ -84,15 +84,15 @@ crossing_at g planes v h is on_g on_h (suc k, lt, e) apart = record {
 }
 
 crossing_on : (g d v : V3) (planes : List V3) → g ≢ origin → dot g v ≡ pos 0 → IsCornerTowards (g ∷ planes) d v → IsCrossingOn g planes v
-crossing_on g d v planes some on c = go (same_or_not (cross g c.g) origin) (same_or_not (cross g c.h) origin)
+crossing_on g d v planes some on c = go (equal_or vector_cmp vector_total vector_exact (cross g c.g) origin) (equal_or vector_cmp vector_total vector_exact (cross g c.h) origin)
   where
     o : IsOnBoth v c.g c.h
     o = on_both v c.g c.h c.independent c.is
 
-    go : Dec (cross g c.g ≡ origin) → Dec (cross g c.h ≡ origin) → IsCrossingOn g planes v
-    go (no n) q = crossing_at g planes v c.g o.primitive on o.on_g c.g_in n
-    go (yes p) (no n) = crossing_at g planes v c.h o.primitive on o.on_h c.h_in n
-    go (yes p) (yes q) = absurd (c.independent (parallel_cross g c.g c.h some p q))
+    go : Decided (cross g c.g ≡ origin) → Decided (cross g c.h ≡ origin) → IsCrossingOn g planes v
+    go (inr n) q = crossing_at g planes v c.g o.primitive on o.on_g c.g_in n
+    go (inl p) (inr n) = crossing_at g planes v c.h o.primitive on o.on_h c.h_in n
+    go (inl p) (inl q) = absurd (c.independent (parallel_cross g c.g c.h some p q))
 
 with_plane : (g : V3) (planes : List V3) → HoldsAxes planes → HoldsAxes (g ∷ planes)
 with_plane g planes axes = record {

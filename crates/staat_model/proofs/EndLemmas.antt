@@ -10,7 +10,7 @@ use Rattle.std.specs.declared.cmp.Ordering.TheVariants.{Less, Equal, Greater}
 use Rattle.std.specs.List.Sorted.{IsStrictlySortedBy}
 use Rattle.staat_vec.specs.declared.vector.V3.{V3}
 use Rattle.staat_vec.specs.declared.vector.Sign.{Sign}
-use Rattle.staat_vec.specs.declared.vector.Sign.TheVariants.{Neg, Zero, Pos}
+use Rattle.staat_vec.specs.declared.vector.Sign.TheVariants.{Zero}
 use Rattle.staat_vec.specs.Vectors.{dot, cross, plus, negative, origin, sign, vector_cmp}
 use Rattle.staat_vec.specs.Primitives.{primitive}
 use Rattle.staat_vec.proofs.VecRing.{crossE, dotE, negativeE, values, v0, v1, negative_dot, dot_negative, dot_cross_left, dot_cross_right}
@@ -24,13 +24,13 @@ use Rattle.staat_model.proofs.Corners.{HoldsAxes, IsSame, IsCornerTowards}
 use Rattle.staat_model.proofs.GraphLemmas.{border_towards, towards_border}
 use Rattle.staat_model.proofs.VertexLemmas.{in_vertices}
 use Rattle.staat_model.proofs.PlaneLemmas.{NoneParallel}
-use Rattle.staat_model.proofs.CellLemmas.{zeros, zeros-cons, edge_zeros, off_all, Covers, sum_covers}
+use Rattle.staat_model.proofs.CellLemmas.{zeros, zeros_off, zeros_on, edge_zeros, off_all, Covers, sum_covers}
 use Rattle.staat_model.proofs.EdgeLemmas.{IsOnOne, IsAhead, IsTip, ahead, tip, cross_positive, same_tip, same_tip_low, tip_aside, not_both}
 use Rattle.staat_vec.proofs.Integers.{opposite_negative_back, zero_from_bounds_down, opposite_zero}
 use Rattle.staat_vec.proofs.VectorLaws.{plus_comm}
 use Rattle.staat_vec.proofs.Unique.{Contains-front}
 use Rattle.staat_vec.proofs.ListLaws.{Contains-there}
-use Rattle.staat_vec.proofs.Signs.{zero_sign}
+use Rattle.staat_vec.proofs.Signs.{sign_zero_or, zero_sign}
 
 -- ---- the planes of a vertex
 
@@ -73,34 +73,22 @@ some_sign a n e = n (ap sign e)
 
 pub on_one : (gs : List V3) (d : V3) → zeros (signs_of gs d) ≡ 1 → (c : V3) × Contains gs c × (dot c d ≡ pos 0) × ((g : V3) → Contains gs g → (g ≡ c) ⊎ (dot g d ≢ pos 0))
 on_one [] d e = absurd (omega (arith, e))
-on_one (h ∷ gs) d e = by_head (on_one gs d) (sign (dot h d)) refl
+on_one (h ∷ gs) d e = go (sign_zero_or (sign (dot h d))) (on_one gs d)
   where
     Found : List V3 → Type 0
     Found gs = (c : V3) × Contains gs c × (dot c d ≡ pos 0) × ((g : V3) → Contains gs g → (g ≡ c) ⊎ (dot g d ≢ pos 0))
 
-    first : zeros (signs_of gs d) ≡ 0 → dot h d ≡ pos 0 → (g : V3) → Contains (h ∷ gs) g → (g ≡ h) ⊎ (dot g d ≢ pos 0)
-    first none at g (zero, lt, p) = inl (sym p)
-    first none at g (suc k, lt, p) = inr (some_sign (dot g d) (off_all gs d none g (k, omega arith, p)))
+    first : zeros (signs_of gs d) ≡ 0 → (g : V3) → Contains (h ∷ gs) g → (g ≡ h) ⊎ (dot g d ≢ pos 0)
+    first none g (zero, lt, p) = inl (sym p)
+    first none g (suc k, lt, p) = inr (some_sign (dot g d) (off_all gs d none g (k, omega arith, p)))
 
     later : (c : V3) → sign (dot h d) ≢ Zero → ((g : V3) → Contains gs g → (g ≡ c) ⊎ (dot g d ≢ pos 0)) → (g : V3) → Contains (h ∷ gs) g → (g ≡ c) ⊎ (dot g d ≢ pos 0)
     later c off only g (zero, lt, p) = inr (λ z. off (ap sign (ap (λ v. dot v d) p ∙ z)))
     later c off only g (suc k, lt, p) = only g (k, omega arith, p)
 
-    rest_of : (t : Sign) → t ≢ Zero → zeros (t ∷ signs_of gs d) ≡ 1 → zeros (signs_of gs d) ≡ 1
-    rest_of Zero n q = absurd (n refl)
-    rest_of Neg n q = let c = zeros-cons Neg (signs_of gs d) in omega (arith, q, c)
-    rest_of Pos n q = let c = zeros-cons Pos (signs_of gs d) in omega (arith, q, c)
-
-    none_of : zeros (Zero ∷ signs_of gs d) ≡ 1 → zeros (signs_of gs d) ≡ 0
-    none_of q = let c = zeros-cons Zero (signs_of gs d) in omega (arith, q, c)
-
-    further : sign (dot h d) ≢ Zero → Found gs → Found (h ∷ gs)
-    further off (c, c_in, on, only) = (c, Contains-there h c gs c_in, on, later c off only)
-
-    by_head : (zeros (signs_of gs d) ≡ 1 → Found gs) → (t : Sign) → sign (dot h d) ≡ t → Found (h ∷ gs)
-    by_head ih Zero q = let none = none_of (subst (λ t. zeros (t ∷ signs_of gs d) ≡ 1) q e) in (h, Contains-front h gs, zero_sign (dot h d) q, first none (zero_sign (dot h d) q))
-    by_head ih Neg q = further (λ z. let clash : Neg ≡ Zero = sym q ∙ z in cc) (ih (rest_of (sign (dot h d)) (λ z. let clash : Neg ≡ Zero = sym q ∙ z in cc) e))
-    by_head ih Pos q = further (λ z. let clash : Pos ≡ Zero = sym q ∙ z in cc) (ih (rest_of (sign (dot h d)) (λ z. let clash : Pos ≡ Zero = sym q ∙ z in cc) e))
+    go : (sign (dot h d) ≡ Zero) ⊎ (sign (dot h d) ≢ Zero) → (zeros (signs_of gs d) ≡ 1 → Found gs) → Found (h ∷ gs)
+    go (inl z) ih = (h, Contains-front h gs, zero_sign (dot h d) z, first (omega (arith, e, zeros_on (sign (dot h d)) (signs_of gs d) z)))
+    go (inr off) ih = let (c, c_in, on, only) = ih (sym (zeros_off (sign (dot h d)) (signs_of gs d) off) ∙ e) in (c, Contains-there h c gs c_in, on, later c off only)
 
 -- ---- the two ends
 

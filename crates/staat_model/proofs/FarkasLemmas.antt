@@ -13,10 +13,10 @@ use Rattle.staat_model.specs.Meeting.{mix}
 use Rattle.staat_model.specs.Cones.{IsAbove, IsSpanning, IsCombined, IsReached, IsStopped, ExactlyOne}
 use Rattle.staat_model.proofs.Mixes.{square_vector, dot_step, mix_above}
 use Rattle.staat_model.proofs.Alternative.{IsSeparated, alternative}
+use Rattle.staat_model.proofs.Decisions.{all_decided, le_or}
 use Rattle.staat_model.proofs.Edge.{edge_below}
 use Rattle.staat_vec.proofs.Primitives.{IsPrimitive-some, primitive-is}
 use Rattle.staat_model.proofs.CornerLemmas.{above_primitive, across_primitive, dot_multiple}
-use Rattle.staat_vec.proofs.Integers.{negative_nonneg_clash}
 use Rattle.staat_vec.proofs.Unique.{Contains-front}
 use Rattle.staat_vec.proofs.ListLaws.{Contains-there}
 
@@ -31,16 +31,6 @@ search_all {X} B P more f (x ∷ xs) = go (f x) (search_all B P more f xs)
     go (inr (k, p)) (inr (l, q)) =
         let top = max k l in
         inr (top, All-cons (λ y. P y top) x xs (more x k top (omega arith) p) (All-weaker (λ y. P y l) (λ y. P y top) (λ y r. more y l top (omega arith) r) xs q))
-
-decide_above : (f : V3) (vs : List V3) → IsAbove f vs ⊎ (IsAbove f vs → ⊥)
-decide_above f [] = inl (All-nil (λ v. pos 0 ≤ℤ dot v f))
-decide_above f (v ∷ vs) = go (decide_above f vs)
-  where
-    go : IsAbove f vs ⊎ (IsAbove f vs → ⊥) → IsAbove f (v ∷ vs) ⊎ (IsAbove f (v ∷ vs) → ⊥)
-    go (inr n) = inr (λ h. n (All-tail (λ v. pos 0 ≤ℤ dot v f) v vs h))
-    go (inl y) = by_lt_z {P = IsAbove f (v ∷ vs) ⊎ (IsAbove f (v ∷ vs) → ⊥)} (dot v f) (pos 0)
-        (λ neg. inr (λ h. negative_nonneg_clash (dot v f) neg (All-head (λ v. pos 0 ≤ℤ dot v f) v vs h)))
-        (λ nonneg. inl (All-cons (λ v. pos 0 ≤ℤ dot v f) v vs nonneg y))
 
 total : List V3 → V3
 total [] = origin
@@ -86,7 +76,7 @@ module _ (vs : List V3) (d : V3) where
 
   pair_case : (g h : V3) → IsBad g h ⊎ ((k : ℕ) × IsFar g h k)
   unfolding IsBad IsFar
-  pair_case g h = go (decide_above (cross g h) vs) (square_vector (cross g h))
+  pair_case g h = go (all_decided (λ v. pos 0 ≤ℤ dot v (cross g h)) (λ v. le_or (pos 0) (dot v (cross g h))) vs) (square_vector (cross g h))
     where
       go : IsAbove (cross g h) vs ⊎ (IsAbove (cross g h) vs → ⊥) → (cross g h ≡ origin) ⊎ (pos 0 <ℤ dot (cross g h) (cross g h)) → IsBad g h ⊎ ((k : ℕ) × IsFar g h k)
       go (inr not_up) q = inr (0, λ up some l le. absurd (not_up up))

@@ -7,9 +7,10 @@ use Rattle.std.proofs.lemmas.List.Elements.{All-contains, Contains-append_left, 
 use Rattle.staat_vec.specs.declared.vector.V3.{V3}
 use Rattle.staat_vec.specs.declared.vector.Sign.{Sign}
 use Rattle.staat_vec.specs.declared.vector.Sign.TheVariants.{Zero}
-use Rattle.staat_vec.specs.Vectors.{dot, negative, sign}
+use Rattle.staat_vec.specs.Vectors.{dot, negative, sign, vector_cmp}
 use Rattle.staat_vec.specs.Primitives.{canon}
 use Rattle.staat_vec.proofs.VecRing.{negative_dot}
+use Rattle.staat_vec.proofs.VectorOrder.{vector_exact, vector_total}
 use Rattle.staat_vec.proofs.Canons.{canon-either}
 use Rattle.staat_model.specs.declared.assembly.Part.{Part}
 use Rattle.staat_model.specs.declared.set.PartSet.{PartSet}
@@ -20,7 +21,7 @@ use Rattle.staat_model.specs.Assemblies.{IsAssembly, IsPart, piece_at}
 use Rattle.staat_model.specs.Removal.{MeetsAlong, Blocks}
 use Rattle.staat_model.specs.Planes.{ArePlanes, IsFacetPlane, axes}
 use Rattle.staat_model.specs.Cells.{signs_of, IsBorder}
-use Rattle.staat_model.proofs.BorderLemmas.{same_or_not}
+use Rattle.staat_model.proofs.Decisions.{contains_or}
 use Rattle.staat_model.proofs.Corners.{IsTowards}
 use Rattle.staat_model.proofs.PieceFacets.{meets_by_facets_lemma}
 use Rattle.staat_model.proofs.Reversed.{meets_opposite_lemma}
@@ -43,17 +44,7 @@ piece_is parts a i p is e = piece_in parts a i p is.each e
 -- ---- the planes of a set hold each facet's
 
 pub member_or_not : (x : V3) (xs : List V3) → Contains xs x ⊎ (Contains xs x → ⊥)
-member_or_not x [] = inr (λ (k, lt, e). omega arith)
-member_or_not x (y ∷ ys) = go (same_or_not y x) (member_or_not x ys)
-  where
-    out : (y ≡ x → ⊥) → (Contains ys x → ⊥) → Contains (y ∷ ys) x → ⊥
-    out n m (zero, lt, e) = n e
-    out n m (suc k, lt, e) = m (k, omega arith, e)
-
-    go : Dec (y ≡ x) → Contains ys x ⊎ (Contains ys x → ⊥) → Contains (y ∷ ys) x ⊎ (Contains (y ∷ ys) x → ⊥)
-    go (yes e) r = inl (0, omega arith, e)
-    go (no n) (inl c) = inl (Contains-there y x ys c)
-    go (no n) (inr m) = inr (out n m)
+member_or_not x xs = contains_or vector_cmp vector_total vector_exact xs x
 
 pub plane_in : (parts : List Part) (w : PartSet) (planes : List V3) (n : V3) → ArePlanes parts w planes → IsFacetPlane parts w n → Contains planes n
 plane_in parts w planes n are wall =

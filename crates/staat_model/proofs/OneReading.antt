@@ -2,13 +2,14 @@
 use Rattle.std.proofs.Common.{◌≡◌, ◌≢◌, ◌⊎◌, ℕ, suc, ◌+◌, ◌<◌, List, [], ◌∷◌, ◌++◌, map, length, All, ap, sym, subst, refl, ◌∙◌, arith, inl, inr, append_assoc, append-nil}
 use Rattle.std.specs.Prelude.{flat_map}
 use Rattle.std.proofs.lemmas.Grind.{flat_map-append}
-use Rattle.std.proofs.lemmas.List.Elements.{All-cons, All-head, All-tail}
+use Rattle.std.proofs.lemmas.List.Elements.{All-head, All-tail}
 use Rattle.staat_model.specs.declared.certificate.Certificate.{Certificate}
 use Rattle.staat_model.specs.declared.line.Line.{Line}
 use Rattle.staat_model.specs.Lines.{IsInBounds, line_text}
 use Rattle.staat_model.specs.Texts.{lines_of, text_of, IsTextOf, IsWellFormed, BeginsText, HasNoFeed, IsLine, joined, IsBadAfter, IsFirstBadLine, Reading, whole, bad_line, too_short, IsReading}
 use Rattle.staat_model.proofs.CertificateLines.{lines_end, one_by_lines}
 use Rattle.staat_model.proofs.LineTexts.{line_front, line_is, line_length, line_whole, one_line}
+use Rattle.staat_model.proofs.Members.{all_back, all_front}
 use Rattle.staat_vec.proofs.ListLaws.{long_not_nil}
 
 abbrev pub text : List Line → List ℕ
@@ -126,18 +127,10 @@ pub texts_count : (ls : List Line) → length (map line_text ls) ≡ length ls
 texts_count [] = refl
 texts_count (l ∷ ls) = ap suc (texts_count ls)
 
-pub front_in_bounds : (xs ys : List Line) → All IsInBounds (xs ++ ys) → All IsInBounds xs
-front_in_bounds [] ys h = λ k d lt. absurd (omega arith)
-front_in_bounds (x ∷ xs) ys h = All-cons IsInBounds x xs (All-head IsInBounds x (xs ++ ys) h) (front_in_bounds xs ys (All-tail IsInBounds x (xs ++ ys) h))
-
-pub one_in_bounds : (xs : List Line) (y : Line) (ys : List Line) → All IsInBounds (xs ++ y ∷ ys) → IsInBounds y
-one_in_bounds [] y ys h = All-head IsInBounds y ys h
-one_in_bounds (x ∷ xs) y ys h = one_in_bounds xs y ys (All-tail IsInBounds x (xs ++ y ∷ ys) h)
-
 -- where a certificate has the line l after these, and the bytes ahead begin with it, no bad line follows
 pub not_bad : (c : Certificate) (few : List Line) (l : Line) (back : List Line) (ahead rest : List ℕ) → IsWellFormed c → lines_of c ≡ few ++ l ∷ back → ahead ≡ line_text l ++ rest → IsBadAfter (text few) ahead → ⊥
 not_bad c few l back ahead rest form is a (inl w) =
-    let fits : IsInBounds l = one_in_bounds few l back (subst (All IsInBounds) is form.lines) in
+    let fits : IsInBounds l = All-head IsInBounds l back (all_back IsInBounds few (l ∷ back) (subst (All IsInBounds) is form.lines)) in
     let once = lines_once w.line (line_text l) w.rest rest w.whole (line_whole l fits) (sym w.is ∙ a) in
     w.wrong (record {
       certificate = c;
@@ -146,10 +139,10 @@ not_bad c few l back ahead rest form is a (inl w) =
       is = ap text is ∙ flat_map-append line_text few (l ∷ back) ∙ ap (λ t. text few ++ (t ++ text back)) (sym once.0) ∙ sym (append_assoc (text few) w.line (text back));
     })
 not_bad c few l back ahead rest form is a (inr (inl long)) =
-    let fits : IsInBounds l = one_in_bounds few l back (subst (All IsInBounds) is form.lines) in
+    let fits : IsInBounds l = All-head IsInBounds l back (all_back IsInBounds few (l ∷ back) (subst (All IsInBounds) is form.lines)) in
     no_feed_stops long.line (line_front l) long.rest rest long.no_feed (omega (arith, line_length l fits, long.long)) (sym long.is ∙ a ∙ ap (λ t. t ++ rest) (line_is l) ∙ with_feed (line_front l) rest)
 not_bad c few l back ahead rest form is a (inr (inr more)) =
-    let same : few ≡ lines_of more.certificate = lines_by_text few (lines_of more.certificate) (front_in_bounds few (l ∷ back) (subst (All IsInBounds) is form.lines)) more.whole.form.lines more.whole.is in
+    let same : few ≡ lines_of more.certificate = lines_by_text few (lines_of more.certificate) (all_front IsInBounds few (l ∷ back) (subst (All IsInBounds) is form.lines)) more.whole.form.lines more.whole.is in
     lines_end more.certificate c l back (is ∙ ap (λ ls. ls ++ l ∷ back) same)
 
 -- what a first bad line says of the lines before it
@@ -181,7 +174,7 @@ before bytes k h =
     }
 
 pub front_bounds : (bytes : List ℕ) (k : ℕ) (b : Before bytes k) → All IsInBounds b.front
-front_bounds bytes k b = front_in_bounds b.front b.back (subst (All IsInBounds) b.is b.form.lines)
+front_bounds bytes k b = all_front IsInBounds b.front b.back (subst (All IsInBounds) b.is b.form.lines)
 
 -- a bad line after fewer lines of the same bytes
 earlier : (few many back : List Line) (c : Certificate) (behind : List Line) (ahead rest : List ℕ) → IsWellFormed c → lines_of c ≡ many ++ behind → IsBadAfter (text few) ahead → many ≡ few ++ back → ahead ≡ text back ++ rest → length few ≡ length many

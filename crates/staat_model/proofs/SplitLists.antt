@@ -1,14 +1,14 @@
 -- The list of the splits of a plan.
 use Rattle.std.proofs.Common.{◌≡◌, ℕ, zero, suc, ◌<◌, List, [], ◌∷◌, ◌++◌, length, All, arith, refl}
 use Rattle.std.specs.Prelude.{Some, slice_get}
-use Rattle.std.proofs.lemmas.List.Elements.{All-append, All-cons, All-contains, All-head, All-nil, All-tail, Contains-append_left, Contains-append_right}
+use Rattle.std.proofs.lemmas.List.Elements.{All-append, All-cons, All-contains, All-head, All-nil, All-tail}
 use Rattle.staat_vec.specs.Lists.{FailsFirst}
 use Rattle.staat_model.specs.declared.assembly.Part.{Part}
 use Rattle.staat_model.specs.declared.certificate.Node.TheVariants.{Split}
 use Rattle.staat_model.specs.Certificates.{WalledPlan, walled_leaf, walled_split, nodes_of, SplitsHold}
 use Rattle.staat_model.specs.Reasons.{EntryHolds, SplitEntry, splits_of}
 use Rattle.staat_model.specs.Texts.{IsNodeInOrder}
-use Rattle.staat_model.proofs.Members.{All-from_members}
+use Rattle.staat_model.proofs.Members.{all_back, all_front}
 use Rattle.staat_vec.proofs.Unique.{from_place}
 
 module _ {X : Type 0} (P : X → Type 0) where
@@ -36,12 +36,6 @@ module _ {X : Type 0} (P : X → Type 0) where
     fails = fails;
     before = kept_before before (x ∷ more) all;
   }
-
-  pub all_front : (xs ys : List X) → All P (xs ++ ys) → All P xs
-  all_front xs ys all = All-from_members P xs (λ x c. All-contains P (xs ++ ys) x all (Contains-append_left xs ys x c))
-
-  pub all_back : (xs ys : List X) → All P (xs ++ ys) → All P ys
-  all_back xs ys all = All-from_members P ys (λ x c. All-contains P (xs ++ ys) x all (Contains-append_right xs ys x c))
 
 -- where the splits of a plan hold, each that is listed does
 pub entries_hold : (parts : List Part) (t : WalledPlan) (node line : ℕ) → SplitsHold parts t

@@ -6,7 +6,7 @@ use Rattle.staat_vec.specs.declared.vector.V3.{V3}
 use Rattle.staat_vec.specs.Vectors.{vector, cross, negative, origin}
 use Rattle.staat_vec.specs.Primitives.{primitive}
 use Rattle.staat_vec.proofs.VecRing.{cross_self, cross_turned}
-use Rattle.staat_vec.proofs.Primitives.{IsPrimitive-some, primitive-is, primitive-negative}
+use Rattle.staat_vec.proofs.Primitives.{IsPrimitive-some, primitive-negative}
 use Rattle.staat_vec.proofs.Canons.{negative-negative}
 use Rattle.staat_model.specs.declared.assembly.Part.{Part}
 use Rattle.staat_model.specs.declared.set.PartSet.{PartSet}
@@ -17,7 +17,7 @@ use Rattle.staat_model.specs.Plans.{IsStuck}
 use Rattle.staat_model.specs.Planes.{ArePlanes, axes, vertices, crossings}
 use Rattle.staat_model.specs.Cells.{signs_of, IsBorder}
 use Rattle.staat_model.specs.Borders.{HasBorderVertex, HasFreeVertex}
-use Rattle.staat_model.proofs.Corners.{HoldsAxes, IsSame, corner_towards}
+use Rattle.staat_model.proofs.Corners.{HoldsAxes, IsSame, corner_towards, on_both}
 use Rattle.staat_model.proofs.RestrictLemmas.{rest_apart, rest_within}
 use Rattle.staat_model.proofs.GraphLemmas.{axis_in, border_towards, arc_from_border}
 use Rattle.staat_vec.proofs.Unique.{Contains-front}
@@ -81,7 +81,7 @@ vertex_on_border_lemma planes d axes some =
     let (v, c) = corner_towards planes d axes some in record {
       v = v;
       vertex = in_vertices planes c.g c.h v c.g_in c.h_in c.independent c.is;
-      nonzero = same_some v (primitive (cross c.g c.h)) c.is (IsPrimitive-some (primitive (cross c.g c.h)) (let p = primitive-is (cross c.g c.h) c.independent in p.primitive));
+      nonzero = let on = on_both v c.g c.h c.independent c.is in IsPrimitive-some v on.primitive;
       border = border_towards planes d v c.towards;
     }
 
