@@ -21,7 +21,7 @@ use Rattle.staat_model.proofs.CoreLemmas.{free_at_crossing_lemma, free_at_vertex
 use Rattle.staat_model.proofs.WholeLemmas.{left_within, moves_whole_lemma, right_within}
 use Rattle.staat_model.proofs.RestrictLemmas.{nonempty_or}
 use Rattle.staat_model.proofs.SetMembers.{has-empty, has-single}
-use Rattle.staat_model.proofs.SetSizes.{many}
+use Rattle.staat_model.proofs.SetSizes.{len_below, many}
 use Rattle.staat_model.proofs.SetWords.{same_members}
 use Rattle.staat_vec.proofs.Unique.{Contains-front}
 use Rattle.staat_vec.proofs.ListLaws.{Contains-there}
@@ -64,12 +64,9 @@ node_nonempty parts t (inl (p, e)) = (p, subst (λ (u : PartSet). Has u p) (sym 
 node_nonempty parts t (inr stuck) = elim (nonempty_or t) [
   | inl one ↦ one
   | inr none ↦
-      let same : t ≡ set.empty =
-      same_members t set.empty (λ q h. absurd (none q h)) (λ q h. absurd (has-empty q h)) in
-      let no_members : set.len t ≡ 0 =
-      subst (λ (u : PartSet). set.len u ≡ 0) (sym same) (set.len-empty nat_cmp) in
+      let few = len_below 0 t (λ q h. absurd (none q h)) in
       let two : 2 ≤ set.len t = stuck.two in
-      absurd (omega (arith, no_members, two))
+      absurd (omega (arith, few, two))
 ]
 
 -- two nodes that are apart have two parts

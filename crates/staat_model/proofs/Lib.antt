@@ -1,5 +1,4 @@
 pub mod Flat
-pub mod Spanning
 pub mod WallLaws
 pub mod Members
 pub mod Mixes

@@ -181,7 +181,7 @@ split_none qs ms e = record {
 split_step : (r s p m : V3) → plus (minus r p) (minus s m) ≡ minus (plus r s) (plus p m)
 split_step r s p m = ring3 (values (r ∷ s ∷ p ∷ m ∷ []) []) (plusE (minusE v0 v2) (minusE v1 v3)) (minusE (plusE v0 v1) (plusE v2 v3)) (tt, tt, tt)
 
-some_sum : (xs : List ℕ) → 1 ≤ length xs → All (λ w. 1 ≤ w) xs → 1 ≤ sum xs
+pub some_sum : (xs : List ℕ) → 1 ≤ length xs → All (λ w. 1 ≤ w) xs → 1 ≤ sum xs
 some_sum [] h g = absurd (omega arith)
 some_sum (x ∷ xs) h g = let one = All-head (λ w. 1 ≤ w) x xs g in omega (arith, one, sum-cons x xs)
 
