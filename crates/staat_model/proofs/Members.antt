@@ -1,5 +1,5 @@
 -- Members of lists, and what holds of all of them.
-use Rattle.std.proofs.Common.{List, [], ◌∷◌, ◌++◌, All, Contains}
+use Rattle.std.proofs.Common.{◌≡◌, List, [], ◌∷◌, ◌++◌, map, refl, All, Contains}
 use Rattle.std.proofs.lemmas.List.Elements.{All-weaker, All-contains_itself, All-cons, All-head, All-nil, All-tail}
 
 pub both : {X : Type 0} (P Q R : X → Type 0) → ((x : X) → P x → Q x → R x) → (xs : List X) → All P xs → All Q xs → All R xs
@@ -17,3 +17,16 @@ all_front P (x ∷ xs) ys h = All-cons P x xs (All-head P x (xs ++ ys) h) (all_f
 pub all_back : {X : Type 0} (P : X → Type 0) (xs ys : List X) → All P (xs ++ ys) → All P ys
 all_back P [] ys h = h
 all_back P (x ∷ xs) ys h = all_back P xs ys (All-tail P x (xs ++ ys) h)
+
+-- lists whose members are known by what f says of them are known by it
+pub known_by : {X Y : Type 0} (f : X → Y) (P : X → Type 0) → ((x y : X) → f x ≡ f y → P x → P y → x ≡ y)
+    → (xs ys : List X) → map f xs ≡ map f ys → All P xs → All P ys → xs ≡ ys
+known_by f P one [] [] e g h = refl
+known_by f P one [] (y ∷ ys) e g h = absurd cc
+known_by f P one (x ∷ xs) [] e g h = absurd cc
+known_by f P one (x ∷ xs) (y ∷ ys) e g h =
+    let heads : f x ≡ f y = cc in
+    let tails : map f xs ≡ map f ys = cc in
+    let front : x ≡ y = one x y heads (All-head P x xs g) (All-head P y ys h) in
+    let rest : xs ≡ ys = known_by f P one xs ys tails (All-tail P x xs g) (All-tail P y ys h) in
+    λ i. front i ∷ rest i

@@ -2,7 +2,7 @@
 use Rattle.std.proofs.Common.{◌≡◌, ◌≢◌, ◌⊎◌, ℕ, zero, suc, ◌+◌, ◌<◌, arith, refl, sym, ap, subst, inl, inr, ⊎_elim, List, [], ◌∷◌, ◌++◌, length, map, All, Contains}
 use Rattle.std.specs.Prelude.{Some, slice_get}
 use Rattle.std.specs.FinSet as set
-use Rattle.std.proofs.lemmas.List.Elements.{All-contains, All-weaker}
+use Rattle.std.proofs.lemmas.List.Elements.{All-cons, All-contains, All-head, All-nil, All-tail, All-weaker}
 use Rattle.staat_vec.specs.declared.vector.V3.{V3}
 use Rattle.staat_vec.specs.Lists.{Lists}
 use Rattle.staat_vec.specs.Vectors.{origin, vector_cmp}
@@ -122,34 +122,20 @@ more_within w reached p within in_w q h = ⊎_elim (λ e. subst (Has w) (sym e) 
 
 module _ (parts : List Part) (w : PartSet) (d : V3) where
   -- the arcs of a tree join parts of the set
+  arcs_within : (R : ℕ → ℕ → Type 0) (step : Arc → ℕ × ℕ) → ((x : Arc) → Has w (step x).0 → Has w (step x).1 → (step x).0 ≢ (step x).1 → MeetsAlong parts d x → IsArcWithin parts w x)
+      → (reached : PartSet) (arcs : List Arc) → IsSubset reached w → IsTree R w reached (map step arcs) → All (IsLeastArc parts d) arcs → All (IsArcWithin parts w) arcs
+  arcs_within R step joins reached [] within tree least = All-nil (IsArcWithin parts w)
+  arcs_within R step joins reached (x ∷ arcs) within tree least =
+      let bridge = tree.0.is in
+      All-cons (IsArcWithin parts w) x arcs
+      (joins x (within (step x).0 bridge.from_in) bridge.to_in (λ same. bridge.to_new (subst (Has reached) same bridge.from_in)) (All-head (IsLeastArc parts d) x arcs least).has.2)
+      (arcs_within R step joins (set.insert reached (step x).1) arcs (more_within w reached (step x).1 within bridge.to_in) tree.1 (All-tail (IsLeastArc parts d) x arcs least))
 
-  outs_within : (reached : PartSet) (arcs : List Arc) → IsSubset reached w → IsTree (Blocks parts d) w reached (map outward arcs) → All (IsLeastArc parts d) arcs → (arc : Arc) → Contains arcs arc → IsArcWithin parts w arc
-  outs_within reached [] within tree least arc (k, lt, e) = absurd (omega arith)
-  outs_within reached (x ∷ arcs) within tree least arc (zero, lt, e) =
-      let bridge = tree.0.is in
-      let meets = (Rattle.std.proofs.lemmas.List.Elements.All-head (IsLeastArc parts d) x arcs least).has.2 in
-      let pieces = there_are parts d x meets in
-      subst (IsArcWithin parts w) e (record {
-        across = record { a_in = within x.a bridge.from_in; b_in = bridge.to_in; i_in = pieces.0; j_in = pieces.1 };
-        different = λ same. bridge.to_new (subst (Has reached) same bridge.from_in);
-      })
-  outs_within reached (x ∷ arcs) within tree least arc (suc k, lt, e) =
-      let bridge = tree.0.is in
-      outs_within (set.insert reached x.b) arcs (more_within w reached x.b within bridge.to_in) tree.1 (Rattle.std.proofs.lemmas.List.Elements.All-tail (IsLeastArc parts d) x arcs least) arc (k, omega arith, e)
-
-  ins_within : (reached : PartSet) (arcs : List Arc) → IsSubset reached w → IsTree (λ b a. Blocks parts d a b) w reached (map inward arcs) → All (IsLeastArc parts d) arcs → (arc : Arc) → Contains arcs arc → IsArcWithin parts w arc
-  ins_within reached [] within tree least arc (k, lt, e) = absurd (omega arith)
-  ins_within reached (x ∷ arcs) within tree least arc (zero, lt, e) =
-      let bridge = tree.0.is in
-      let meets = (Rattle.std.proofs.lemmas.List.Elements.All-head (IsLeastArc parts d) x arcs least).has.2 in
-      let pieces = there_are parts d x meets in
-      subst (IsArcWithin parts w) e (record {
-        across = record { a_in = bridge.to_in; b_in = within x.b bridge.from_in; i_in = pieces.0; j_in = pieces.1 };
-        different = λ same. bridge.to_new (subst (Has reached) (sym same) bridge.from_in);
-      })
-  ins_within reached (x ∷ arcs) within tree least arc (suc k, lt, e) =
-      let bridge = tree.0.is in
-      ins_within (set.insert reached x.a) arcs (more_within w reached x.a within bridge.to_in) tree.1 (Rattle.std.proofs.lemmas.List.Elements.All-tail (IsLeastArc parts d) x arcs least) arc (k, omega arith, e)
+  arc_within : (x : Arc) → Has w x.a → Has w x.b → x.a ≢ x.b → MeetsAlong parts d x → IsArcWithin parts w x
+  arc_within x a_in b_in apart m = let pieces = there_are parts d x m in record {
+    across = record { a_in = a_in; b_in = b_in; i_in = pieces.0; j_in = pieces.1 };
+    different = apart;
+  }
 
   tree_reaches : (R : ℕ → ℕ → Type 0) (reached : PartSet) (pairs : List (ℕ × ℕ)) → IsTree R w reached pairs → ReachesAll w reached pairs
   tree_reaches R reached [] tree = tree
@@ -159,8 +145,8 @@ module _ (parts : List Part) (w : PartSet) (d : V3) where
   witness_holds witness at =
       let root_in : IsSubset (single at.root) w = λ q h. subst (Has w) (sym ((has-single at.root q).0 h)) at.root_is.has in
       record {
-        outs = All-from_members (IsArcWithin parts w) witness.outs (outs_within (single at.root) witness.outs root_in at.outs at.outs_least);
-        ins = All-from_members (IsArcWithin parts w) witness.ins (ins_within (single at.root) witness.ins root_in at.ins at.ins_least);
+        outs = arcs_within (Blocks parts d) outward arc_within (single at.root) witness.outs root_in at.outs at.outs_least;
+        ins = arcs_within (λ b a. Blocks parts d a b) inward (λ x b_in a_in apart. arc_within x a_in b_in (λ e. apart (sym e))) (single at.root) witness.ins root_in at.ins at.ins_least;
         root = at.root;
         root_is = at.root_is;
         outs_reach = tree_reaches (Blocks parts d) (single at.root) (map outward witness.outs) at.outs;
@@ -172,8 +158,6 @@ module _ (parts : List Part) (w : PartSet) (d : V3) where
     All-weaker (IsLeastArc parts d) (IsBlocking parts d) (λ arc least. blocking parts d arc is least.has.2) witness.outs at.outs_least,
     All-weaker (IsLeastArc parts d) (IsBlocking parts d) (λ arc least. blocking parts d arc is least.has.2) witness.ins at.ins_least,
   )
-
--- ---- directions
 
 -- ---- refusals
 
