@@ -52,7 +52,7 @@ zeros_on t ts e = zeros-cons t ts ∙ ap (λ t. cond (is_zero t) 1 0 + zeros ts)
 pub open_no_zero : (n : ℕ) → kind_by_count n ≡ Open → n ≡ 0
 open_no_zero zero e = refl
 open_no_zero (suc zero) e = cc
-open_no_zero (suc (suc n)) e = cc
+open_no_zero n e = cc
 
 pub open_zeros : (s : List Sign) → kind_of s ≡ Open → zeros s ≡ 0
 open_zeros s e = open_no_zero (zeros s) e
@@ -61,9 +61,8 @@ pub edge_zeros : (s : List Sign) → kind_of s ≡ Edge → zeros s ≡ 1
 edge_zeros s e = go (zeros s) e
   where
     go : (n : ℕ) → kind_by_count n ≡ Edge → n ≡ 1
-    go zero e = cc
     go (suc zero) e = refl
-    go (suc (suc n)) e = cc
+    go n e = cc
 
 -- ---- two edges on the border of a cell
 
@@ -122,13 +121,12 @@ sum_sign a b Zero p q = ap sign (sum_zero a b (zero_sign a p) (⊎_elim (λ h. z
 
 pub sum_covers : (gs : List V3) (u v : V3) (ss : List Sign) → Covers (signs_of gs u) (signs_of gs v) ss → IsBorder (signs_of gs u) ss → IsBorder (signs_of gs v) ss → signs_of gs (plus u v) ≡ ss
 sum_covers [] u v [] c bu bv = refl
-sum_covers [] u v (s ∷ ss) c bu bv = absurd c
-sum_covers (g ∷ gs) u v [] c bu bv = absurd c
 sum_covers (g ∷ gs) u v (s ∷ ss) c bu bv = λ i. at_head c.0 i ∷ sum_covers gs u v ss c.1 bu.1 bv.1 i
   where
     at_head : (sign (dot g u) ≡ s) ⊎ (sign (dot g v) ≡ s) → sign (dot g (plus u v)) ≡ s
     at_head (inl e) = ap sign (dot_plus g u v) ∙ sum_sign (dot g u) (dot g v) s e bv.0
     at_head (inr e) = ap sign (dot_plus g u v ∙ add-comm_ℤ (dot g u) (dot g v)) ∙ sum_sign (dot g v) (dot g u) s e bu.0
+sum_covers gs u v ss c bu bv = absurd c
 
 -- directions on two different edges on the border of a cell add up to one in it
 pub edges_add_up_lemma : (planes : List V3) (s e f : List Sign) (u v : V3) → kind_of e ≡ Edge → kind_of f ≡ Edge → IsBorder e s → IsBorder f s → e ≢ f → signs_of planes u ≡ e → signs_of planes v ≡ f → signs_of planes (plus u v) ≡ s

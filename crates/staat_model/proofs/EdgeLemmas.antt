@@ -14,7 +14,7 @@ use Rattle.staat_model.proofs.Members.{All-from_members}
 use Rattle.staat_model.proofs.Edge.{edge_below}
 use Rattle.staat_model.proofs.CornerLemmas.{above_primitive, axes_span, dot_multiple}
 use Rattle.staat_model.proofs.Corners.{Conditions, conditions, have_axes, is_corner, HoldsAxes, same_back, same_zero, IsOnBoth, IsSame, IsTowards, IsCornerTowards, on_both}
-use Rattle.staat_vec.proofs.Integers.{mixed_product, mul-comm_ℤ, negative_nonneg_clash, negative_nonpositive, opposite_negative, opposite_zero, other_factor_zero, product_zero, products_zero, two_negatives, positive_nonpositive_mul, zero_or}
+use Rattle.staat_vec.proofs.Integers.{cancel_positive, mixed_product, mul-comm_ℤ, negative_nonneg_clash, negative_nonpositive, opposite_negative, opposite_zero, other_factor_zero, product_zero, products_zero, two_negatives, positive_nonpositive_mul, positive_pos, zero_or}
 use Rattle.staat_vec.proofs.Integers.{opposite_zero_back, positive_from_nonneg, opposite_positive_back, zero_from_bounds, zero_nonneg, zero_nonpositive}
 use Rattle.staat_vec.proofs.Divisors.{neg-neg}
 use Rattle.staat_vec.proofs.VectorLaws.{dot_along, some_square, unscaled}
@@ -26,10 +26,9 @@ Ahead : V3 → V3 → V3 → Type 0
 Ahead d t e = ((dot e d ≡ pos 0) × (dot e t ≡ pos 0)) ⊎ (pos 0 <ℤ dot e d)
 
 reach : (a q : ℤ) (l : ℕ) → unsigned_abs a ≤ l → pos 0 <ℤ q → pos 0 ≤ℤ (pos l *ℤ q +ℤ a)
-reach a (pos zero) l h g = absurd g.lt
 reach (pos n) (pos (suc q)) l h g = omega (arith, ints)
 reach (negsuc n) (pos (suc q)) l h g = omega (arith, ints)
-reach a (negsuc q) l h g = absurd g.lt
+reach a q l h g = absurd g.lt
 
 zero_reach : (a q : ℤ) (l : ℕ) → q ≡ pos 0 → a ≡ pos 0 → pos 0 ≤ℤ (pos l *ℤ q +ℤ a)
 zero_reach a q l e f = subst (λ q. pos 0 ≤ℤ (pos l *ℤ q +ℤ a)) (sym e) (subst (λ a. pos 0 ≤ℤ (pos l *ℤ pos 0 +ℤ a)) (sym f) (omega (arith, ints)))
@@ -60,11 +59,6 @@ back_low t d l e p = opposite_negative (dot (negative t) (plus (times l d) t)) (
     none : (l : ℕ) (q : ℤ) → neg_ℤ (pos l *ℤ pos 0 +ℤ q) ≡ neg_ℤ q
     none l q = ring (pos l ∷ q ∷ []) (opp (at 0 ⊗ num (pos 0) ⊕ at 1)) (opp (at 1)) tt
 
-positive_part : (k : ℕ) (p q : ℤ) → q ≡ pos k *ℤ p → pos 0 <ℤ q → pos 0 <ℤ p
-positive_part k (pos zero) q e h = absurd (omega (arith, ints))
-positive_part k (pos (suc p)) q e h = omega (arith, ints)
-positive_part k (negsuc p) q e h = absurd (omega (arith, ints))
-
 -- d lies on the plane c of the list, and on no other
 pub record IsOnOne (planes : List V3) (d c : V3) : Type 0 where
   pub some : d ≢ origin
@@ -91,7 +85,8 @@ ahead planes d c t axes one in_plane across some =
     let v = primitive f in record {
       v = v;
       corner = is_corner d v planes cs (record { g = g; h = h; g_in = g_in; h_in = h_in; independent = apart; is = refl }) (above_primitive cs.cs f v p up);
-      side = positive_part p.factor (dot t v) (dot t f) (dot_multiple t f v p.factor p.multiple) (opposite_positive_back (dot (negative t) f) (dot t f) (negative_dot t f) low);
+      side = cancel_positive (pos p.factor) (dot t v) (positive_pos p.factor p.positive)
+          (positive_is (pos p.factor *ℤ dot t v) (dot t f) (sym (dot_multiple t f v p.factor p.multiple)) (opposite_positive_back (dot (negative t) f) (dot t f) (negative_dot t f) low));
     }
   where
     condition : (cs : Conditions d planes) (e : V3) → Contains cs.cs e → ((dot e d ≡ pos 0) × (dot e t ≡ pos 0)) ⊎ (pos 0 <ℤ dot e d)
