@@ -1,10 +1,10 @@
 -- What can be decided, and the first and the least that is found.
-use Rattle.std.proofs.Common.{◌≡◌, ◌⊎◌, ℕ, zero, suc, ◌<◌, ℤ, ◌≤ℤ◌, ◌<ℤ◌, Bool, true, false, List, [], ◌∷◌, All, arith, ap, sym, ◌∙◌, subst, refl, inl, inr, T}
+use Rattle.std.proofs.Common.{◌≡◌, ◌⊎◌, ℕ, zero, suc, ◌<◌, ℤ, ◌≤ℤ◌, ◌<ℤ◌, List, [], ◌∷◌, All, arith, ap, sym, ◌∙◌, subst, refl, inl, inr, ⊎_elim}
 use Rattle.std.specs.Prelude.{Contains, Some, slice_get}
-use Rattle.std.proofs.lemmas.List.Elements.{All-contains, All-from_recursion}
+use Rattle.std.proofs.lemmas.Int.{by_lt_z, ints}
+use Rattle.std.proofs.lemmas.List.Elements.{All-cons, All-head, All-nil, All-tail}
 use Rattle.std.specs.Cmp.{IsTotalOrder}
 use Rattle.std.specs.FinMap.{IsAntisymmetric}
-use Rattle.std.specs.Int.Signed.{le_z, lt_z}
 use Rattle.std.specs.List.{AllByRecursion}
 use Rattle.std.specs.List.Sorted.{IsStrictlySortedBy}
 use Rattle.std.specs.Ordering.{ordering_reverse}
@@ -12,7 +12,6 @@ use Rattle.std.specs.declared.cmp.Ordering.{Ordering}
 use Rattle.std.specs.declared.cmp.Ordering.TheVariants.{Less, Equal, Greater}
 use Rattle.staat_vec.specs.Lists.{FailsFirst, IsFirst, Lists}
 use Rattle.staat_vec.proofs.Unique.{Contains-cases, Contains-front, Contains-later, Contains-nothing}
-use Rattle.staat_model.proofs.Members.{All-from_members}
 use Rattle.staat_vec.proofs.ListLaws.{All-at}
 
 abbrev pub Decided : Type 0 → Type 0
@@ -27,6 +26,11 @@ pub not_or : {P : Type 0} → Decided P → Decided (P → ⊥)
 not_or (inl p) = inr (λ n. n p)
 not_or (inr n) = inl n
 
+pub either_or : {P Q : Type 0} → Decided P → Decided Q → Decided (P ⊎ Q)
+either_or (inl p) q = inl (inl p)
+either_or (inr n) (inl q) = inl (inr q)
+either_or (inr n) (inr m) = inr (λ h. ⊎_elim n m h)
+
 pub carried : {P Q : Type 0} → (P → Q) → (Q → P) → Decided P → Decided Q
 carried f g (inl p) = inl (f p)
 carried f g (inr n) = inr (λ q. n (g q))
@@ -38,43 +42,38 @@ pub nat_or : (a b : ℕ) → Decided (a ≡ b)
 nat_or a b = grind arith
 
 pub le_or : (a b : ℤ) → Decided (a ≤ℤ b)
-le_or a b = go (le_z a b) refl
-  where
-    go : (t : Bool) → le_z a b ≡ t → Decided (a ≤ℤ b)
-    go true e = inl (record { le = subst T (sym e) tt })
-    go false e = inr (λ h. subst T e h.le)
+le_or a b = by_lt_z {P = Decided (a ≤ℤ b)} b a (λ less. inr (λ h. omega (arith, ints, less, h))) (λ le. inl le)
 
 pub less_or : (a b : ℤ) → Decided (a <ℤ b)
-less_or a b = go (lt_z a b) refl
-  where
-    go : (t : Bool) → lt_z a b ≡ t → Decided (a <ℤ b)
-    go true e = inl (record { lt = subst T (sym e) tt })
-    go false e = inr (λ h. subst T e h.lt)
+less_or a b = by_lt_z {P = Decided (a <ℤ b)} a b (λ less. inl less) (λ le. inr (λ h. omega (arith, ints, le, h)))
 
 -- ---- lists
 
--- all keep the rule, or there is a first that breaks it
-pub all_or : {X : Type 0} (P : X → Type 0) → ((x : X) → Decided (P x)) → (xs : List X) → All P xs ⊎ ((k : ℕ) × FailsFirst P xs k)
-all_or P f [] = inl (All-from_recursion P [] tt)
-all_or {X} P f (x ∷ xs) = go (f x) (all_or P f xs)
+-- of members for which it can be decided, all keep the rule, or there is a first that breaks it
+pub all_or_where : {X : Type 0} (Q P : X → Type 0) → ((x : X) → Q x → Decided (P x)) → (xs : List X) → All Q xs → All P xs ⊎ ((k : ℕ) × FailsFirst P xs k)
+all_or_where Q P f [] all = inl (All-nil P)
+all_or_where {X} Q P f (x ∷ xs) all = go (f x (All-head Q x xs all)) (all_or_where Q P f xs (All-tail Q x xs all))
   where
     go : Decided (P x) → All P xs ⊎ ((k : ℕ) × FailsFirst P xs k) → All P (x ∷ xs) ⊎ ((k : ℕ) × FailsFirst P (x ∷ xs) k)
     go (inr n) rest = inr (0, record { x = x; at = refl; fails = n; before = λ m y lt e. absurd (omega (arith, lt)) })
-    go (inl p) (inl all) = inl (All-from_members P (x ∷ xs) (λ y c. elim (Contains-cases x xs y c) [ inl e ↦ subst P (sym e) p | inr later ↦ All-contains P xs y all later ]))
+    go (inl p) (inl rest) = inl (All-cons P x xs p rest)
     go (inl p) (inr (k, fails)) = inr (suc k, record { x = fails.x; at = fails.at; fails = fails.fails; before = earlier })
       where
         earlier : (m : ℕ) (y : X) → m < suc k → slice_get (x ∷ xs) m ≡ Some y → P y
         earlier zero y lt e = let same : x ≡ y = cc in subst P same p
         earlier (suc m) y lt e = fails.before m y (omega (arith, lt)) e
 
+pub all_or : {X : Type 0} (P : X → Type 0) → ((x : X) → Decided (P x)) → (xs : List X) → All P xs ⊎ ((k : ℕ) × FailsFirst P xs k)
+all_or P f xs = all_or_where (λ x. Unit {0}) P (λ x q. f x) xs (λ k x lt. tt)
+
 -- the same, with the first itself
 pub first_or : {X : Type 0} (P : X → Type 0) → ((x : X) → Decided (P x)) → (xs : List X) → All P xs ⊎ ((x : X) × IsFirst (λ y. P y → ⊥) xs x)
-first_or P f [] = inl (All-from_recursion P [] tt)
+first_or P f [] = inl (All-nil P)
 first_or {X} P f (x ∷ xs) = go (f x) (first_or P f xs)
   where
     go : Decided (P x) → All P xs ⊎ ((y : X) × IsFirst (λ z. P z → ⊥) xs y) → All P (x ∷ xs) ⊎ ((y : X) × IsFirst (λ z. P z → ⊥) (x ∷ xs) y)
     go (inr n) rest = inr (x, inl (refl, n))
-    go (inl p) (inl all) = inl (All-from_members P (x ∷ xs) (λ y c. elim (Contains-cases x xs y c) [ inl e ↦ subst P (sym e) p | inr later ↦ All-contains P xs y all later ]))
+    go (inl p) (inl all) = inl (All-cons P x xs p all)
     go (inl p) (inr (y, first)) = inr (y, inr ((λ n. n p), first))
 
 pub all_decided : {X : Type 0} (P : X → Type 0) → ((x : X) → Decided (P x)) → (xs : List X) → Decided (All P xs)
@@ -110,6 +109,9 @@ below_or P f (suc n) = go (below_or P f n) (f n)
     go (inl (k, lt, p, least)) d = inl (k, omega (arith, lt), p, least)
     go (inr none) (inl p) = inl (n, omega arith, p, none)
     go (inr none) (inr not) = inr (λ k lt p. elim (lt_or k n) [ inl low ↦ none k low p | inr high ↦ not (let e : k ≡ n = omega (arith, lt, high) in subst P e p) ])
+
+pub some_below : (P : ℕ → Type 0) → ((k : ℕ) → Decided (P k)) → (n : ℕ) → Decided ((k : ℕ) × (k < n) × P k)
+some_below P f n = elim (below_or P f n) [ inl t ↦ inl (t.0, t.1, t.2) | inr none ↦ inr (λ h. none h.0 h.1 h.2) ]
 
 -- ---- orders
 
