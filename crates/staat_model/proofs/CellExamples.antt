@@ -1,7 +1,6 @@
 -- Two of the eight open cells of the axes: their signs and their representatives.
 use Rattle.std.proofs.Common.{◌≡◌, ◌≢◌, ◌⊎◌, Bool, true, false, List, [], ◌∷◌, All, Contains, ap, sym, subst, refl, ◌∙◌, inl, inr, ℤ, pos, neg_ℤ, lit<, rules}
 use Rattle.std.specs.Prelude.{◌&&◌, ◌||◌, not}
-use Rattle.std.specs.List.Sorted.{IsStrictlySortedBy}
 use Rattle.std.proofs.lemmas.Bool.{false≢true, or_cases}
 use Rattle.std.specs.List.{list_all}
 use Rattle.std.specs.declared.cmp.Ordering.{Ordering}
@@ -16,7 +15,7 @@ use Rattle.staat_model.specs.declared.tree.Kind.TheVariants.{Point, Edge, Open}
 use Rattle.staat_model.specs.Cells.{signs_of, signs_cmp, kind_of, IsBorder, IsEnd, IsEdgeSum, IsBorderEdge, IsRepresentative}
 use Rattle.staat_model.specs.Planes.{axes}
 use Rattle.staat_model.proofs.Examples.{axis_vertices, by_test}
-use Rattle.staat_vec.proofs.Unique.{Contains-cases, Contains-nothing}
+use Rattle.staat_model.proofs.EndLemmas.{pair_lists}
 
 abbrev v : ℤ → ℤ → ℤ → V3
 v = vector
@@ -73,31 +72,24 @@ no_other s u w x = not (borders (signs_of axes x) s) || (is_equal (vector_cmp x 
 edge_sum : (s : List Sign) (u w : V3) → vector_cmp u w ≡ Less → Contains six u → Contains six w
     → IsBorder (signs_of axes u) s → IsBorder (signs_of axes w) s → list_all (no_other s u w) six ≡ true
     → IsEdgeSum axes s (plus u w)
-unfolding IsStrictlySortedBy
 edge_sum s u w less u_in w_in u_on w_on test = record {
   u = u;
   v = w;
-  ends = record {
-    ascending = ((less, tt), (tt, tt));
-    each = λ x h. elim (Contains-cases u (w ∷ []) x h) [
-      | inl e ↦ subst (IsEnd axes s) (sym e) (end u u_in u_on)
-      | inr later ↦ elim (Contains-cases w [] x later) [ inl e ↦ subst (IsEnd axes s) (sym e) (end w w_in w_on) | inr none ↦ absurd (Contains-nothing x none) ]
-    ];
-    all = λ x h. All-contains (λ y. IsBorder (signs_of axes y) s → Contains (u ∷ w ∷ []) y) six x only (subst (λ (xs : List V3). Contains xs x) axis_vertices h.vertex) h.border;
-  };
+  ends = pair_lists (IsEnd axes s) u w less (end u u_in u_on) (end w w_in w_on)
+      (λ x h. All-contains (λ y. IsBorder (signs_of axes y) s → (y ≡ u) ⊎ (y ≡ w)) six x only (subst (λ (xs : List V3). Contains xs x) axis_vertices h.vertex) h.border);
   is = refl;
 }
   where
     end : (x : V3) → Contains six x → IsBorder (signs_of axes x) s → IsEnd axes s x
     end x h on = record { vertex = subst (λ (xs : List V3). Contains xs x) (sym axis_vertices) h; border = on }
 
-    one_of : (x : V3) → no_other s u w x ≡ true → IsBorder (signs_of axes x) s → Contains (u ∷ w ∷ []) x
+    one_of : (x : V3) → no_other s u w x ≡ true → IsBorder (signs_of axes x) s → (x ≡ u) ⊎ (x ≡ w)
     one_of x h on =
         let passes : (is_equal (vector_cmp x u) || is_equal (vector_cmp x w)) ≡ true = sym (ap (λ b. not b || (is_equal (vector_cmp x u) || is_equal (vector_cmp x w))) (border_test (signs_of axes x) s on)) ∙ h in
-        elim (or_cases _ _ passes) [ inl e ↦ (0, lit< tt, sym (vector_equal x u e)) | inr e ↦ (1, lit< tt, sym (vector_equal x w e)) ]
+        elim (or_cases _ _ passes) [ inl e ↦ inl (vector_equal x u e) | inr e ↦ inr (vector_equal x w e) ]
 
-    only : All (λ x. IsBorder (signs_of axes x) s → Contains (u ∷ w ∷ []) x) six
-    only = by_test (no_other s u w) (λ x. IsBorder (signs_of axes x) s → Contains (u ∷ w ∷ []) x) one_of six test
+    only : All (λ x. IsBorder (signs_of axes x) s → (x ≡ u) ⊎ (x ≡ w)) six
+    only = by_test (no_other s u w) (λ x. IsBorder (signs_of axes x) s → (x ≡ u) ⊎ (x ≡ w)) one_of six test
 
 -- ---- the edges on the border of an open cell of the axes whose signs are all one
 

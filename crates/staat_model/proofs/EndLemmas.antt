@@ -2,8 +2,6 @@
 use Rattle.std.proofs.Common.{◌≡◌, ◌≢◌, ℕ, zero, suc, ◌+◌, ◌<◌, get_or, refl, sym, ap, subst, ◌∙◌, arith, ℤ, pos, ◌<ℤ◌, ◌⊎◌, inl, inr, ⊎_elim, List, [], ◌∷◌, Contains}
 use Rattle.std.proofs.lemmas.Int.{ints, by_lt_z}
 use Rattle.std.proofs.lemmas.List.Elements.{All-contains, Contains-append_cases}
-use Rattle.std.proofs.lemmas.Map.Keys.{sorted_from_all_adjacent}
-use Rattle.std.proofs.lemmas.Map.Views.{All-after_first}
 use Rattle.std.specs.Ordering.{ordering_reverse}
 use Rattle.std.specs.declared.cmp.Ordering.{Ordering}
 use Rattle.std.specs.declared.cmp.Ordering.TheVariants.{Less, Equal, Greater}
@@ -28,7 +26,7 @@ use Rattle.staat_model.proofs.CellLemmas.{zeros, zeros_off, zeros_on, edge_zeros
 use Rattle.staat_model.proofs.EdgeLemmas.{IsOnOne, IsAhead, IsTip, ahead, tip, cross_positive, same_tip, same_tip_low, tip_aside, not_both}
 use Rattle.staat_vec.proofs.Integers.{opposite_negative_back, zero_from_bounds_down, opposite_zero}
 use Rattle.staat_vec.proofs.VectorLaws.{plus_comm}
-use Rattle.staat_vec.proofs.Unique.{Contains-front}
+use Rattle.staat_vec.proofs.Unique.{Contains-cases, Contains-front, Contains-nothing}
 use Rattle.staat_vec.proofs.ListLaws.{Contains-there}
 use Rattle.staat_vec.proofs.Signs.{sign_zero_or, zero_sign}
 
@@ -101,12 +99,17 @@ border_sign [] v d b g (k, lt, e) = absurd (omega arith)
 border_sign (h ∷ gs) v d b g (zero, lt, e) = subst (λ z. (sign (dot z v) ≡ sign (dot z d)) ⊎ (sign (dot z v) ≡ Zero)) e b.0
 border_sign (h ∷ gs) v d b g (suc k, lt, e) = border_sign gs v d b.1 g (k, omega arith, e)
 
-sorted_pair : (u v : V3) → vector_cmp u v ≡ Less → IsStrictlySortedBy vector_cmp (u ∷ v ∷ [])
-sorted_pair u v less = sorted_from_all_adjacent vector_total (u ∷ v ∷ []) u next
-  where
-    next : (k : ℕ) → k + 1 < 2 → vector_cmp (get_or (u ∷ v ∷ []) k u) (get_or (u ∷ v ∷ []) (k + 1) u) ≡ Less
-    next zero lt = less
-    next (suc k) lt = absurd (omega arith)
+-- the two, in this order, are all that has P
+pub pair_lists : (P : V3 → Type 0) (u v : V3) → vector_cmp u v ≡ Less → P u → P v → ((w : V3) → P w → (w ≡ u) ⊎ (w ≡ v)) → Lists vector_cmp P (u ∷ v ∷ [])
+unfolding IsStrictlySortedBy
+pair_lists P u v less pu pv all = record {
+  ascending = ((less, tt), (tt, tt));
+  each = λ w c. elim (Contains-cases u (v ∷ []) w c) [
+    | inl e ↦ subst P (sym e) pu
+    | inr later ↦ elim (Contains-cases v [] w later) [ inl e ↦ subst P (sym e) pv | inr none ↦ absurd (Contains-nothing w none) ]
+  ];
+  all = λ w h. elim (all w h) [ inl e ↦ (0, omega arith, sym e) | inr e ↦ (1, omega arith, sym e) ];
+}
 
 module _ (planes : List V3) (d c : V3) (axes : HoldsAxes planes) (apart : NoneParallel planes) (one : IsOnOne planes d c) (some_c : c ≢ origin) where
   square : pos 0 <ℤ dot (cross c d) (cross c d)
@@ -123,8 +126,14 @@ module _ (planes : List V3) (d c : V3) (axes : HoldsAxes planes) (apart : NonePa
       (opposite_zero (dot (negative (cross c d)) d) (dot (cross c d) d) (negative_dot (cross c d) d) (ring (values (c ∷ d ∷ []) []) (dotE (crossE v0 v1) v1) (dotE v1 (crossE v0 v1)) tt ∙ dot_cross_right c d))
       (subst (λ z. pos 0 <ℤ z) (ring (values (c ∷ d ∷ []) []) (dotE (crossE v0 v1) (crossE v0 v1)) (dotE (negativeE (crossE v0 v1)) (negativeE (crossE v0 v1))) tt) square)
 
-  front_tip : (w : V3) → IsEnd planes (signs_of planes d) w → IsTip planes d c w
-  front_tip w end = tip planes d c w one (end_corner planes d w apart end)
+  front_tip : IsTip planes d c front.v
+  front_tip = tip planes d c front.v one front.corner
+
+  rear_tip : IsTip planes d c rear.v
+  rear_tip = tip planes d c rear.v one rear.corner
+
+  end_tip : (w : V3) → IsEnd planes (signs_of planes d) w → IsTip planes d c w
+  end_tip w end = tip planes d c w one (end_corner planes d w apart end)
 
   low_side : pos 0 <ℤ dot (negative (cross c d)) rear.v → dot (cross c d) rear.v <ℤ pos 0
   low_side h = opposite_negative_back (dot (negative (cross c d)) rear.v) (dot (cross c d) rear.v) (negative_dot (cross c d) rear.v) h
@@ -132,11 +141,11 @@ module _ (planes : List V3) (d c : V3) (axes : HoldsAxes planes) (apart : NonePa
   -- one of the two is each end
   either_end : (w : V3) → IsEnd planes (signs_of planes d) w → (w ≡ front.v) ⊎ (w ≡ rear.v)
   either_end w end =
-      let tw = front_tip w end in
+      let tw = end_tip w end in
       by_lt_z {P = (w ≡ front.v) ⊎ (w ≡ rear.v)} (pos 0) (dot (cross c d) w)
-      (λ high. inl (same_tip planes d c axes one some_c w front.v tw (tip planes d c front.v one front.corner) high front.side))
+      (λ high. inl (same_tip planes d c axes one some_c w front.v tw front_tip high front.side))
       (λ not_high. by_lt_z {P = (w ≡ front.v) ⊎ (w ≡ rear.v)} (dot (cross c d) w) (pos 0)
-      (λ low. inr (same_tip_low planes d c axes one some_c w rear.v tw (tip planes d c rear.v one rear.corner) low (low_side rear.side)))
+      (λ low. inr (same_tip_low planes d c axes one some_c w rear.v tw rear_tip low (low_side rear.side)))
       (λ not_low. absurd (tip_aside planes d c axes one some_c w tw (zero_from_bounds_down (dot (cross c d) w) not_high not_low))))
 
   -- the sum of the two lies on the edge
@@ -148,32 +157,18 @@ module _ (planes : List V3) (d c : V3) (axes : HoldsAxes planes) (apart : NonePa
       (covers_all planes front.v rear.v d (λ g g_in. at g g_in (one.only g g_in) (border_sign planes front.v d bu g g_in) (border_sign planes rear.v d bv g g_in)))
       bu bv
     where
-      tu : IsTip planes d c front.v
-      tu = tip planes d c front.v one front.corner
-
-      tv : IsTip planes d c rear.v
-      tv = tip planes d c rear.v one rear.corner
-
       at : (g : V3) → Contains planes g → (g ≡ c) ⊎ (dot g d ≢ pos 0) → (sign (dot g front.v) ≡ sign (dot g d)) ⊎ (sign (dot g front.v) ≡ Zero) → (sign (dot g rear.v) ≡ sign (dot g d)) ⊎ (sign (dot g rear.v) ≡ Zero)
           → (sign (dot g front.v) ≡ sign (dot g d)) ⊎ (sign (dot g rear.v) ≡ sign (dot g d))
       at g g_in place (inl p) q = inl p
       at g g_in place (inr z) (inl q) = inr q
-      at g g_in (inl e) (inr z) (inr y) = inl (ap sign (ap (λ v. dot v front.v) e ∙ tu.on_c) ∙ sym (ap sign (ap (λ v. dot v d) e ∙ one.on)))
-      at g g_in (inr off) (inr z) (inr y) = absurd (not_both planes d c axes one some_c front.v rear.v g tu tv front.side (low_side rear.side) off (zero_sign (dot g front.v) z) (zero_sign (dot g rear.v) y))
+      at g g_in (inl e) (inr z) (inr y) = inl (ap sign (ap (λ v. dot v front.v) e ∙ front_tip.on_c) ∙ sym (ap sign (ap (λ v. dot v d) e ∙ one.on)))
+      at g g_in (inr off) (inr z) (inr y) = absurd (not_both planes d c axes one some_c front.v rear.v g front_tip rear_tip front.side (low_side rear.side) off (zero_sign (dot g front.v) z) (zero_sign (dot g rear.v) y))
 
   front_end : IsEnd planes (signs_of planes d) front.v
   front_end = corner_end planes d front.v front.corner
 
   rear_end : IsEnd planes (signs_of planes d) rear.v
   rear_end = corner_end planes d rear.v rear.corner
-
-  pair_lists : (u v : V3) → IsEnd planes (signs_of planes d) u → IsEnd planes (signs_of planes d) v → ((w : V3) → IsEnd planes (signs_of planes d) w → (w ≡ u) ⊎ (w ≡ v)) → vector_cmp u v ≡ Less → Lists vector_cmp (IsEnd planes (signs_of planes d)) (u ∷ v ∷ [])
-  pair_lists u v eu ev all less = record { ascending = sorted_pair u v less; each = each; all = λ w end. ⊎_elim (λ e. (0, omega arith, sym e)) (λ e. (1, omega arith, sym e)) (all w end) }
-    where
-      each : (w : V3) → Contains (u ∷ v ∷ []) w → IsEnd planes (signs_of planes d) w
-      each w (zero, lt, e) = subst (λ z. IsEnd planes (signs_of planes d) z) e eu
-      each w (suc zero, lt, e) = subst (λ z. IsEnd planes (signs_of planes d) z) e ev
-      each w (suc (suc k), lt, e) = absurd (omega arith)
 
   -- the edge has a representative
   has_sum : (e : V3) × IsEdgeSum planes (signs_of planes d) e
@@ -186,21 +181,22 @@ module _ (planes : List V3) (d c : V3) (axes : HoldsAxes planes) (apart : NonePa
           clash p q h g e = omega (arith, ints)
 
       by_order : (o : Ordering) → vector_cmp front.v rear.v ≡ o → (e : V3) × IsEdgeSum planes (signs_of planes d) e
-      by_order Less p = (plus front.v rear.v, record { u = front.v; v = rear.v; ends = pair_lists front.v rear.v front_end rear_end either_end p; is = refl })
+      by_order Less p = (plus front.v rear.v, record { u = front.v; v = rear.v; ends = pair_lists (IsEnd planes (signs_of planes d)) front.v rear.v p front_end rear_end either_end; is = refl })
       by_order Equal p = absurd (different (vector_exact front.v rear.v p))
       by_order Greater p =
           let less : vector_cmp rear.v front.v ≡ Less = vector_total.antisymm rear.v front.v ∙ ap ordering_reverse p in
-          (plus rear.v front.v, record { u = rear.v; v = front.v; ends = pair_lists rear.v front.v rear_end front_end (λ w end. ⊎_elim (λ e. inr e) (λ e. inl e) (either_end w end)) less; is = refl })
+          (plus rear.v front.v, record { u = rear.v; v = front.v; ends = pair_lists (IsEnd planes (signs_of planes d)) rear.v front.v less rear_end front_end (λ w end. ⊎_elim (λ e. inr e) (λ e. inl e) (either_end w end)); is = refl })
 
   -- and any representative lies on the edge
   sum_in : (e : V3) → IsEdgeSum planes (signs_of planes d) e → signs_of planes e ≡ signs_of planes d
+  unfolding IsStrictlySortedBy
   sum_in e s = ap (signs_of planes) s.is ∙ go (either_end s.u (ends.each s.u (0, omega arith, refl))) (either_end s.v (ends.each s.v (1, omega arith, refl)))
     where
       ends : Lists vector_cmp (IsEnd planes (signs_of planes d)) (s.u ∷ s.v ∷ [])
       ends = s.ends
 
       apart_ends : s.u ≡ s.v → ⊥
-      apart_ends p = vector_not_below_itself s.v (subst (λ z. vector_cmp z s.v ≡ Less) p (All-contains (λ q. vector_cmp s.u q ≡ Less) (s.v ∷ []) s.v (All-after_first vector_cmp s.u (s.v ∷ []) ends.ascending) (0, omega arith, refl)))
+      apart_ends p = vector_not_below_itself s.v (subst (λ z. vector_cmp z s.v ≡ Less) p ends.ascending.0.0)
 
       go : (s.u ≡ front.v) ⊎ (s.u ≡ rear.v) → (s.v ≡ front.v) ⊎ (s.v ≡ rear.v) → signs_of planes (plus s.u s.v) ≡ signs_of planes d
       go (inl p) (inl q) = absurd (apart_ends (p ∙ sym q))
