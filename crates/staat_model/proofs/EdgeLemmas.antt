@@ -1,7 +1,9 @@
 -- An edge has two end vertices, and their sum lies on the edge.
-use Rattle.std.proofs.Common.{◌≡◌, ◌≢◌, ℕ, zero, suc, ◌≤◌, max, refl, sym, ap, subst, ◌∙◌, arith, ℤ, pos, negsuc, neg_ℤ, ◌+ℤ◌, ◌-ℤ◌, ◌*ℤ◌, ◌≤ℤ◌, ◌<ℤ◌, unsigned_abs, ◌⊎◌, inl, inr, ⊎_elim, List, [], ◌∷◌, All, Contains, le_trans, le_refl}
+use Rattle.std.proofs.Common.{◌≡◌, ◌≢◌, ℕ, zero, suc, ◌≤◌, get_or, refl, sym, ap, subst, ◌∙◌, arith, ℤ, pos, negsuc, neg_ℤ, ◌+ℤ◌, ◌-ℤ◌, ◌*ℤ◌, ◌≤ℤ◌, ◌<ℤ◌, unsigned_abs, ◌⊎◌, inl, inr, ⊎_elim, List, [], ◌∷◌, All, Contains}
+use Rattle.std.specs.Prelude.{sum_by}
+use Rattle.std.proofs.lemmas.List.Sums.{get_or-le-sum_by}
 use Rattle.std.proofs.lemmas.Int.{ints, by_lt_z}
-use Rattle.std.proofs.lemmas.List.Elements.{All-nil, All-cons, All-head, All-tail, All-contains}
+use Rattle.std.proofs.lemmas.List.Elements.{All-contains}
 use Rattle.staat_vec.specs.declared.vector.V3.{V3}
 use Rattle.staat_vec.specs.Vectors.{vector, dot, cross, plus, minus, times, negative, origin}
 use Rattle.staat_vec.specs.Primitives.{IsPrimitive, primitive}
@@ -12,9 +14,9 @@ use Rattle.staat_vec.proofs.Primitives.{IsPrimitive-some, primitive-is, same_pri
 use Rattle.staat_model.specs.Cones.{IsAbove}
 use Rattle.staat_model.proofs.Members.{All-from_members}
 use Rattle.staat_model.proofs.Edge.{edge_below}
-use Rattle.staat_model.proofs.CornerLemmas.{above_primitive, axes_span, dot_multiple}
+use Rattle.staat_model.proofs.CornerLemmas.{above_primitive, ahead_primitive, axes_span}
 use Rattle.staat_model.proofs.Corners.{Conditions, conditions, have_axes, is_corner, HoldsAxes, same_back, same_zero, IsOnBoth, IsSame, IsTowards, IsCornerTowards, on_both}
-use Rattle.staat_vec.proofs.Integers.{cancel_positive, mixed_product, mul-comm_ℤ, negative_nonneg_clash, negative_nonpositive, opposite_negative, opposite_zero, other_factor_zero, product_zero, products_zero, two_negatives, positive_nonpositive_mul, positive_pos, zero_or}
+use Rattle.staat_vec.proofs.Integers.{mixed_product, mul-comm_ℤ, negative_nonneg_clash, negative_nonpositive, opposite_negative, opposite_zero, other_factor_zero, product_zero, products_zero, two_negatives, positive_nonpositive_mul, zero_or}
 use Rattle.staat_vec.proofs.Integers.{opposite_zero_back, positive_from_nonneg, opposite_positive_back, zero_from_bounds, zero_nonneg, zero_nonpositive}
 use Rattle.staat_vec.proofs.Divisors.{neg-neg}
 use Rattle.staat_vec.proofs.VectorLaws.{dot_along, some_square, unscaled}
@@ -33,21 +35,16 @@ reach a q l h g = absurd g.lt
 zero_reach : (a q : ℤ) (l : ℕ) → q ≡ pos 0 → a ≡ pos 0 → pos 0 ≤ℤ (pos l *ℤ q +ℤ a)
 zero_reach a q l e f = subst (λ q. pos 0 ≤ℤ (pos l *ℤ q +ℤ a)) (sym e) (subst (λ a. pos 0 ≤ℤ (pos l *ℤ pos 0 +ℤ a)) (sym f) (omega (arith, ints)))
 
-far : (d t : V3) (cs : List V3) → All (Ahead d t) cs → (k : ℕ) × ((l : ℕ) → k ≤ l → IsAbove (plus (times l d) t) cs)
+far : (d t : V3) (cs : List V3) → All (Ahead d t) cs → (k : ℕ) × IsAbove (plus (times k d) t) cs
 unfolding Ahead
-far d t [] ahead = (0, λ l le. All-nil (λ e. pos 0 ≤ℤ dot e (plus (times l d) t)))
-far d t (e ∷ cs) ahead =
-    let (k, above) = far d t cs (All-tail (Ahead d t) e cs ahead) in
-    let size = unsigned_abs (dot e t) in (
-      max k size,
-      λ l le. All-cons (λ e. pos 0 ≤ℤ dot e (plus (times l d) t)) e cs (at_head (All-head (Ahead d t) e cs ahead) l (le_trans (omega arith) le)) (above l (le_trans (omega arith) le)),
-    )
+far d t cs ahead = (k, λ i x lt. at (get_or cs i x) (ahead i x lt) (get_or-le-sum_by (λ e. unsigned_abs (dot e t)) cs i x lt))
   where
-    at_head : ((dot e d ≡ pos 0) × (dot e t ≡ pos 0)) ⊎ (pos 0 <ℤ dot e d) → (l : ℕ) → unsigned_abs (dot e t) ≤ l → pos 0 ≤ℤ dot e (plus (times l d) t)
-    at_head (inl (p, q)) l le = nonneg_is (dot e (plus (times l d) t)) (pos l *ℤ dot e d +ℤ dot e t) (dot_along e d t l) (zero_reach (dot e t) (dot e d) l p q)
-    at_head (inr p) l le = nonneg_is (dot e (plus (times l d) t)) (pos l *ℤ dot e d +ℤ dot e t) (dot_along e d t l) (reach (dot e t) (dot e d) l le p)
+    k : ℕ
+    k = sum_by (λ e. unsigned_abs (dot e t)) cs
 
--- ---- a vertex on each side of d
+    at : (e : V3) → ((dot e d ≡ pos 0) × (dot e t ≡ pos 0)) ⊎ (pos 0 <ℤ dot e d) → unsigned_abs (dot e t) ≤ k → pos 0 ≤ℤ dot e (plus (times k d) t)
+    at e (inl (p, q)) le = nonneg_is (dot e (plus (times k d) t)) (pos k *ℤ dot e d +ℤ dot e t) (dot_along e d t k) (zero_reach (dot e t) (dot e d) k p q)
+    at e (inr p) le = nonneg_is (dot e (plus (times k d) t)) (pos k *ℤ dot e d +ℤ dot e t) (dot_along e d t k) (reach (dot e t) (dot e d) k le p)
 
 -- what t has of the vector that is far along d
 back_low : (t d : V3) (l : ℕ) → dot t d ≡ pos 0 → pos 0 <ℤ dot t t → dot (negative t) (plus (times l d) t) <ℤ pos 0
@@ -79,14 +76,13 @@ ahead planes d c t axes one in_plane across some =
     let each : All (Ahead d t) cs.cs = All-from_members (Ahead d t) cs.cs (λ e e_in. condition cs e e_in) in
     let (k, above) = far d t cs.cs each in
     let x = plus (times k d) t in
-    let (g, h, (g_in, h_in, apart, up), low) = edge_below cs.cs x (negative t) (axes_span cs.cs (have_axes d planes cs axes)) (above k (le_refl k)) (back_low t d k across some) in
+    let (g, h, (g_in, h_in, apart, up), low) = edge_below cs.cs x (negative t) (axes_span cs.cs (have_axes d planes cs axes)) above (back_low t d k across some) in
     let f = cross g h in
     let p = primitive-is f apart in
     let v = primitive f in record {
       v = v;
       corner = is_corner d v planes cs (record { g = g; h = h; g_in = g_in; h_in = h_in; independent = apart; is = refl }) (above_primitive cs.cs f v p up);
-      side = cancel_positive (pos p.factor) (dot t v) (positive_pos p.factor p.positive)
-          (positive_is (pos p.factor *ℤ dot t v) (dot t f) (sym (dot_multiple t f v p.factor p.multiple)) (opposite_positive_back (dot (negative t) f) (dot t f) (negative_dot t f) low));
+      side = ahead_primitive t f apart (opposite_positive_back (dot (negative t) f) (dot t f) (negative_dot t f) low);
     }
   where
     condition : (cs : Conditions d planes) (e : V3) → Contains cs.cs e → ((dot e d ≡ pos 0) × (dot e t ≡ pos 0)) ⊎ (pos 0 <ℤ dot e d)

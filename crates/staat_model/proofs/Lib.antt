@@ -27,6 +27,7 @@ pub mod OneReason
 pub mod PieceFacets
 pub mod Reversed
 pub mod RestrictLemmas
+pub mod SetTests
 pub mod GraphLemmas
 pub mod VertexLemmas
 pub mod CoreLemmas

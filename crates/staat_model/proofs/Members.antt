@@ -1,6 +1,8 @@
 -- Members of lists, and what holds of all of them.
-use Rattle.std.proofs.Common.{◌≡◌, List, [], ◌∷◌, ◌++◌, map, refl, All, Contains}
-use Rattle.std.proofs.lemmas.List.Elements.{All-weaker, All-contains_itself, All-cons, All-head, All-nil, All-tail}
+use Rattle.std.proofs.Common.{◌≡◌, ℕ, ◌≤◌, List, [], ◌∷◌, ◌++◌, map, refl, All, Contains}
+use Rattle.std.specs.Prelude.{sum_by}
+use Rattle.std.proofs.lemmas.List.Sums.{get_or-le-sum_by}
+use Rattle.std.proofs.lemmas.List.Elements.{All-contains, All-weaker, All-contains_itself, All-cons, All-head, All-nil, All-tail}
 
 pub both : {X : Type 0} (P Q R : X → Type 0) → ((x : X) → P x → Q x → R x) → (xs : List X) → All P xs → All Q xs → All R xs
 both P Q R f xs h g k d l = f _ (h k d l) (g k d l)
@@ -30,3 +32,7 @@ known_by f P one (x ∷ xs) (y ∷ ys) e g h =
     let front : x ≡ y = one x y heads (All-head P x xs g) (All-head P y ys h) in
     let rest : xs ≡ ys = known_by f P one xs ys tails (All-tail P x xs g) (All-tail P y ys h) in
     λ i. front i ∷ rest i
+
+-- a member's part of a sum is at most the whole
+pub member_le : {X : Type 0} (f : X → ℕ) (xs : List X) (x : X) → Contains xs x → f x ≤ sum_by f xs
+member_le f xs x c = All-contains (λ y. f y ≤ sum_by f xs) xs x (λ i d lt. get_or-le-sum_by f xs i d lt) c

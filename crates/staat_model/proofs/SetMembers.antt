@@ -8,8 +8,9 @@ use Rattle.std.proofs.lemmas.Nat.Bits.{bit_at-lt, bit_at_and, bit_at_not, bit_at
 use Rattle.std.specs.Ordering.{nat_cmp}
 use Rattle.std.specs.Cmp.{nat_cmp_total, unsigned_tied}
 use Rattle.std.specs.FinSet as set
-use Rattle.staat_model.specs.Bits.{set_of_word}
-use Rattle.staat_model.specs.SetFacts.{contains-set_of_word}
+use Rattle.staat_model.specs.Bits.{set_of_word, word_of_set}
+use Rattle.staat_model.specs.SetFacts.{contains-set_of_word, word_of_set-set_of_word}
+use Rattle.staat_model.proofs.SetWords.{same_members}
 use Rattle.staat_model.specs.declared.set.PartSet.{PartSet}
 use Rattle.staat_model.specs.Sets.{Has, IsSubset, IsNonempty, IsLeastOf, single}
 use Rattle.staat_vec.proofs.Truth.{and_zero_is_one, and_split}
@@ -46,37 +47,21 @@ pub set_of_word-zero : set_of_word 0 ≡ set.empty
 set_of_word-zero = set.same_set nat_cmp_total set.nat_cmp-IsAntisymmetric _ _ (λ q.
     contains-set_of_word 0 q ∙ ap (λ t. nat_lt q 32 && (t == 1)) (bit_at-zero q) ∙ and_zero_is_one (nat_lt q 32) ∙ sym (set.contains-empty nat_cmp q))
 
-module _ (a b : ℕ) (s o : PartSet) (sa : set_of_word a ≡ s) (so : set_of_word b ≡ o) (la : a < 2 ^ 32) (lb : b < 2 ^ 32) where
-  pub within_of_zero : bit_and a (4294967295 - b) ≡ 0 → IsSubset s o
-  within_of_zero z q h =
-      let (lt, one) = has_of a s sa q h in
-      let low : bit_at (bit_and a (4294967295 - b)) q ≡ 0 = ap (λ n. bit_at n q) z ∙ bit_at-zero q in
-      let e : min (bit_at a q) (1 - bit_at b q) ≡ 0 = sym (bit_at_and a (4294967295 - b) q ∙ ap (min (bit_at a q)) (bit_at_not w32 b q lb lt)) ∙ low in
-      let two : bit_at b q < 2 = bit_at-lt b q in
-      let is : bit_at b q ≡ 1 = omega arith in
-      of_bit b o so lb q is
+-- a word is zero exactly where its set has no members
+pub zero_none : (n : ℕ) (s : PartSet) → set_of_word n ≡ s → n ≡ 0 → (q : ℕ) → Has s q → ⊥
+zero_none n s is z q h = true≢false (sym h ∙ ap (λ t. set.contains t q) (sym is ∙ ap set_of_word z ∙ set_of_word-zero) ∙ set.contains-empty nat_cmp q)
 
-  pub zero_of_within : IsSubset s o → bit_and a (4294967295 - b) ≡ 0
-  zero_of_within h = same_from_bits _ _ (λ q. bit q ∙ sym (bit_at-zero q))
-    where
-      bit : (q : ℕ) → bit_at (bit_and a (4294967295 - b)) q ≡ 0
-      bit q = by_bit (bit_at a q) refl (bit_at-lt a q)
-        where
-          by_bit : (n : ℕ) → bit_at a q ≡ n → n < 2 → bit_at (bit_and a (4294967295 - b)) q ≡ 0
-          by_bit zero e lt = let m : bit_at (bit_and a (4294967295 - b)) q ≡ min (bit_at a q) (bit_at (4294967295 - b) q) = bit_at_and a (4294967295 - b) q in omega arith
-          by_bit (suc zero) e lt =
-              let (small, is) = has_of b o so q (h q (of_bit a s sa la q e)) in
-              let n : bit_at (4294967295 - b) q ≡ 1 - bit_at b q = bit_at_not w32 b q lb small in
-              let m : bit_at (bit_and a (4294967295 - b)) q ≡ min (bit_at a q) (bit_at (4294967295 - b) q) = bit_at_and a (4294967295 - b) q in
-              omega arith
-          by_bit (suc (suc n)) e lt = absurd (omega arith)
+pub none_zero : (n : ℕ) (s : PartSet) → set_of_word n ≡ s → n < 2 ^ 32 → ((q : ℕ) → Has s q → ⊥) → n ≡ 0
+none_zero n s is small none =
+    let empty : s ≡ set.empty = same_members s set.empty (λ q h. absurd (none q h)) (λ q h. absurd (true≢false (sym h ∙ set.contains-empty nat_cmp q))) in
+    sym (word_of_set-set_of_word n small) ∙ ap word_of_set (is ∙ empty ∙ sym set_of_word-zero) ∙ word_of_set-set_of_word 0 (omega arith)
 
 module _ (a : ℕ) (s : PartSet) (sa : set_of_word a ≡ s) (la : a < 2 ^ 32) (some : IsNonempty s) where
   pub positive : 0 < a
   positive = by_zero a refl
     where
       by_zero : (n : ℕ) → a ≡ n → 0 < a
-      by_zero zero e = let (lt, is) = has_of a s sa some.0 some.1 in let z : bit_at a some.0 ≡ 0 = ap (λ n. bit_at n some.0) e ∙ bit_at-zero some.0 in absurd (omega arith)
+      by_zero zero e = absurd (zero_none a s sa e some.0 some.1)
       by_zero (suc n) e = omega arith
 
   pub least_of : IsLeastOf s (trailing_zeros w32 a)
@@ -96,9 +81,6 @@ module _ (a : ℕ) (s : PartSet) (sa : set_of_word a ≡ s) (la : a < 2 ^ 32) (s
 
   pub least_small : trailing_zeros w32 a < 32
   least_small = (bit_at-trailing_zeros w32 a positive la).0
-
-pub zero_of_test : (n : ℕ) → nat_eq n 0 ≡ true → n ≡ 0
-zero_of_test n h = grind (arith, nat_tests)
 
 either_or : (a b : Bool) → (a ≡ true) ⊎ (b ≡ true) → (a || b) ≡ true
 either_or true b h = refl
@@ -158,32 +140,3 @@ has-single p q = (λ h. go ((has-insert set.empty p q).0 h), λ e. (has-insert s
     go : (q ≡ p) ⊎ Has set.empty q → q ≡ p
     go (inl e) = e
     go (inr h) = absurd (has-empty q h)
-
-module _ (a b : ℕ) (s o : PartSet) (sa : set_of_word a ≡ s) (so : set_of_word b ≡ o) (la : a < 2 ^ 32) (lb : b < 2 ^ 32) where
-  common : (q : ℕ) → bit_at (bit_and a b) q ≡ 1 → Has s q × Has o q
-  common q h =
-      let m : min (bit_at a q) (bit_at b q) ≡ 1 = sym (bit_at_and a b q) ∙ h in
-      let ta : bit_at a q < 2 = bit_at-lt a q in
-      let tb : bit_at b q < 2 = bit_at-lt b q in
-      let ea : bit_at a q ≡ 1 = omega arith in
-      let eb : bit_at b q ≡ 1 = omega arith in
-      (of_bit a s sa la q ea, of_bit b o so lb q eb)
-
-  pub meet_of_some : IsTrue (not (nat_eq (bit_and a b) 0)) → (q : ℕ) × Has s q × Has o q
-  meet_of_some h =
-      let pos : 0 < bit_and a b = grind (arith, nat_tests) in
-      let small : bit_and a b < 2 ^ 32 = let le : bit_and a b ≤ a = and_le_l a b in omega (arith, le, la) in
-      let t = bit_at-trailing_zeros w32 (bit_and a b) pos small in
-      let m = common (trailing_zeros w32 (bit_and a b)) t.1 in
-      (trailing_zeros w32 (bit_and a b), m.0, m.1)
-
-  pub some_of_meet : (q : ℕ) → Has s q → Has o q → IsTrue (not (nat_eq (bit_and a b) 0))
-  some_of_meet q ha hb =
-      let (lt, ea) = has_of a s sa q ha in
-      let (lt2, eb) = has_of b o so q hb in
-      let m : bit_at (bit_and a b) q ≡ min (bit_at a q) (bit_at b q) = bit_at_and a b q in
-      go (bit_and a b) refl m ea eb
-    where
-      go : (n : ℕ) → bit_and a b ≡ n → bit_at (bit_and a b) q ≡ min (bit_at a q) (bit_at b q) → bit_at a q ≡ 1 → bit_at b q ≡ 1 → IsTrue (not (nat_eq n 0))
-      go zero e m ea eb = let z : bit_at (bit_and a b) q ≡ 0 = ap (λ n. bit_at n q) e ∙ bit_at-zero q in absurd (omega arith)
-      go (suc n) e m ea eb = grind (arith, nat_tests)
