@@ -5,8 +5,8 @@ use Rattle.std.proofs.lemmas.List.Elements.{All-nil, All-cons, All-head, All-tai
 use Rattle.staat_vec.specs.declared.vector.V3.{V3}
 use Rattle.staat_vec.specs.Vectors.{dot, cross, plus, times, negative, origin, vector_cmp}
 use Rattle.staat_vec.proofs.VectorOrder.{vector_exact, vector_total}
-use Rattle.staat_vec.proofs.Ring.{Ex, at, num, ◌⊕◌, ◌⊖◌, ◌⊗◌, ring, ring_by_two}
-use Rattle.staat_vec.proofs.VecRing.{VEx, dotE, crossE, plusE, timesE, originE, values, v0, v1, v2, scale, same_vector, ring3, dot_negative, cross_self}
+use Rattle.staat_vec.proofs.Ring.{at, num, ◌⊕◌, ◌⊖◌, ◌⊗◌, ring}
+use Rattle.staat_vec.proofs.VecRing.{dotE, crossE, plusE, timesE, originE, values, v0, v1, v2, scale, ring3, dot_negative, cross_self}
 use Rattle.staat_vec.proofs.Order.{nonneg_is, nonneg_pos, nonneg_mul, pos_mul, positive_is, cancel_nonneg, positive_nonneg, turned_positive}
 use Rattle.staat_vec.proofs.Integers.{cancel_positive, positive_pos}
 use Rattle.staat_vec.proofs.VectorLaws.{times_zero_plus, unscaled}

@@ -1,6 +1,5 @@
 -- A core that holds a set of parts together at the crossings with a plane does so along each direction on the plane.
-use Rattle.std.proofs.Common.{◌≡◌, ◌≢◌, zero, suc, ◌≤◌, refl, sym, ap, subst, ◌∙◌, arith, ℤ, pos, ◌≤ℤ◌, inl, inr, ⊎_elim, List, ◌∷◌, All, Contains}
-use Rattle.std.proofs.lemmas.Int.{ints}
+use Rattle.std.proofs.Common.{◌≡◌, ◌≢◌, zero, suc, ◌≤◌, refl, sym, ap, ◌∙◌, arith, pos, inl, inr, ⊎_elim, List, ◌∷◌, All, Contains}
 use Rattle.std.specs.FinSet as set
 use Rattle.staat_vec.specs.declared.vector.V3.{V3}
 use Rattle.staat_vec.specs.Vectors.{vector, dot, cross, origin, vector_cmp}

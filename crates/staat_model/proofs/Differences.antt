@@ -1,5 +1,5 @@
 -- The differences of two lists of points: which vectors they are, and that those of solid points span space.
-use Rattle.std.proofs.Common.{◌≡◌, ◌≢◌, zero, suc, sym, ap, subst, ◌∙◌, arith, ℤ, pos, neg_ℤ, ◌-ℤ◌, ◌⊎◌, inl, inr, List, [], ◌∷◌, map, Contains}
+use Rattle.std.proofs.Common.{◌≡◌, ◌≢◌, zero, suc, sym, ap, subst, ◌∙◌, arith, ℤ, pos, neg_ℤ, ◌⊎◌, inl, inr, List, [], ◌∷◌, map, Contains}
 use Rattle.std.proofs.lemmas.Int.{ints}
 use Rattle.std.proofs.lemmas.List.Elements.{All-contains, Contains-append_cases, Contains-append_left, Contains-append_right}
 use Rattle.staat_vec.specs.declared.vector.V3.{V3}

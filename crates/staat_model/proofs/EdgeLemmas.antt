@@ -1,13 +1,13 @@
 -- An edge has two end vertices, and their sum lies on the edge.
-use Rattle.std.proofs.Common.{◌≡◌, ◌≢◌, ℕ, zero, suc, ◌≤◌, get_or, refl, sym, ap, subst, ◌∙◌, arith, ℤ, pos, negsuc, neg_ℤ, ◌+ℤ◌, ◌-ℤ◌, ◌*ℤ◌, ◌≤ℤ◌, ◌<ℤ◌, unsigned_abs, ◌⊎◌, inl, inr, ⊎_elim, List, [], ◌∷◌, All, Contains}
+use Rattle.std.proofs.Common.{◌≡◌, ◌≢◌, ℕ, suc, ◌≤◌, get_or, refl, sym, ap, subst, ◌∙◌, arith, ℤ, pos, negsuc, neg_ℤ, ◌+ℤ◌, ◌-ℤ◌, ◌*ℤ◌, ◌≤ℤ◌, ◌<ℤ◌, unsigned_abs, ◌⊎◌, inl, inr, ⊎_elim, List, [], ◌∷◌, All, Contains}
 use Rattle.std.specs.Prelude.{sum_by}
 use Rattle.std.proofs.lemmas.List.Sums.{get_or-le-sum_by}
 use Rattle.std.proofs.lemmas.Int.{ints, by_lt_z}
 use Rattle.std.proofs.lemmas.List.Elements.{All-contains}
 use Rattle.staat_vec.specs.declared.vector.V3.{V3}
-use Rattle.staat_vec.specs.Vectors.{vector, dot, cross, plus, minus, times, negative, origin}
+use Rattle.staat_vec.specs.Vectors.{dot, cross, plus, minus, times, negative, origin}
 use Rattle.staat_vec.specs.Primitives.{IsPrimitive, primitive}
-use Rattle.staat_vec.proofs.Ring.{Ex, at, num, ◌⊕◌, ◌⊖◌, ◌⊗◌, opp, ring, zero-mul_ℤ, from_zero}
+use Rattle.staat_vec.proofs.Ring.{Ex, at, num, ◌⊕◌, ◌⊖◌, ◌⊗◌, opp, ring, from_zero}
 use Rattle.staat_vec.proofs.VecRing.{VEx, crossE, cross_self, dotE, dot_scale, minusE, negativeE, negative_dot, originE, plusE, ring3, same_vector, scale, timesE, v0, v1, v2, values}
 use Rattle.staat_vec.proofs.Order.{as_positive, nonneg_is, nonneg_mul, pos_mul, positive_is, positive_nonneg}
 use Rattle.staat_vec.proofs.Primitives.{IsPrimitive-some, primitive-is, same_primitive}
@@ -16,9 +16,8 @@ use Rattle.staat_model.proofs.Members.{All-from_members}
 use Rattle.staat_model.proofs.Edge.{edge_below}
 use Rattle.staat_model.proofs.CornerLemmas.{above_primitive, ahead_primitive, axes_span}
 use Rattle.staat_model.proofs.Corners.{Conditions, conditions, have_axes, is_corner, HoldsAxes, same_back, same_zero, IsOnBoth, IsSame, IsTowards, IsCornerTowards, on_both}
-use Rattle.staat_vec.proofs.Integers.{mixed_product, mul-comm_ℤ, negative_nonneg_clash, negative_nonpositive, opposite_negative, opposite_zero, other_factor_zero, product_zero, products_zero, two_negatives, positive_nonpositive_mul, zero_or}
-use Rattle.staat_vec.proofs.Integers.{opposite_zero_back, positive_from_nonneg, opposite_positive_back, zero_from_bounds, zero_nonneg, zero_nonpositive}
-use Rattle.staat_vec.proofs.Divisors.{neg-neg}
+use Rattle.staat_vec.proofs.Integers.{mixed_product, mul-comm_ℤ, negative_nonneg_clash, negative_nonpositive, opposite_negative, other_factor_zero, product_zero, products_zero, two_negatives, positive_nonpositive_mul, zero_or}
+use Rattle.staat_vec.proofs.Integers.{positive_from_nonneg, opposite_positive_back, zero_from_bounds, zero_nonneg, zero_nonpositive}
 use Rattle.staat_vec.proofs.VectorLaws.{dot_along, some_square, unscaled}
 
 -- ---- far enough along d

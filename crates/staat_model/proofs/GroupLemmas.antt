@@ -2,7 +2,6 @@
 use Rattle.std.proofs.Common.{◌≡◌, ◌≢◌, ℕ, zero, suc, ◌≤◌, ◌<◌, refl, sym, subst, ◌∙◌, arith}
 use Rattle.std.proofs.Common.{inl, inr, List, [], ◌∷◌, All, Contains, length, pos}
 use Rattle.std.specs.FinSet as set
-use Rattle.std.specs.Ordering.{nat_cmp}
 use Rattle.staat_vec.specs.declared.vector.V3.{V3}
 use Rattle.staat_vec.specs.Vectors.{dot, origin}
 use Rattle.staat_model.specs.declared.assembly.Part.{Part}
@@ -20,9 +19,8 @@ use Rattle.staat_model.specs.Sets.{Has, IsNonempty, IsSubset, single}
 use Rattle.staat_model.proofs.CoreLemmas.{free_at_crossing_lemma, free_at_vertex_lemma}
 use Rattle.staat_model.proofs.WholeLemmas.{left_within, moves_whole_lemma, right_within}
 use Rattle.staat_model.proofs.RestrictLemmas.{nonempty_or}
-use Rattle.staat_model.proofs.SetMembers.{has-empty, has-single}
+use Rattle.staat_model.proofs.SetMembers.{has-single}
 use Rattle.staat_model.proofs.SetSizes.{len_below, many}
-use Rattle.staat_model.proofs.SetWords.{same_members}
 use Rattle.staat_vec.proofs.Unique.{Contains-front}
 use Rattle.staat_vec.proofs.ListLaws.{Contains-there}
 

@@ -1,5 +1,5 @@
 -- A direction on two planes is a positive multiple of a vertex; and the representative of a cell lies in it.
-use Rattle.std.proofs.Common.{◌≡◌, ◌≢◌, ℕ, zero, suc, ◌≤◌, refl, sym, ap, subst, ◌∙◌, arith, pos, ◌⊎◌, inl, inr, ⊎_elim, List, [], ◌∷◌, Contains}
+use Rattle.std.proofs.Common.{◌≡◌, ◌≢◌, ℕ, zero, suc, ◌≤◌, sym, ap, ◌∙◌, arith, pos, ◌⊎◌, inl, inr, ⊎_elim, List, [], ◌∷◌, Contains}
 use Rattle.std.proofs.lemmas.List.Elements.{All-contains}
 use Rattle.staat_vec.specs.declared.vector.V3.{V3}
 use Rattle.staat_vec.specs.declared.vector.Sign.{Sign}

@@ -1,10 +1,9 @@
 -- The members of a set and the bits of its word.
-use Rattle.std.proofs.Common.{◌≡◌, ℕ, zero, suc, ◌<◌, ◌≤◌, ◌-◌, ◌^◌, min, Bool, true, false, arith, ap, sym, ◌∙◌, subst, refl, inl, inr, ◌⊎◌, true≢false}
-use Rattle.std.specs.Prelude.{bit_and, nat_eq, nat_lt, ◌==◌, ◌&&◌, ◌||◌, not, IsTrue}
+use Rattle.std.proofs.Common.{◌≡◌, ℕ, zero, suc, ◌<◌, ◌≤◌, ◌^◌, Bool, true, false, arith, ap, sym, ◌∙◌, subst, refl, inl, inr, ◌⊎◌, true≢false}
+use Rattle.std.specs.Prelude.{nat_eq, nat_lt, ◌==◌, ◌&&◌, ◌||◌, not}
 use Rattle.std.specs.Int.{bit_at, w32, trailing_zeros}
 use Rattle.std.proofs.lemmas.Bool.Decides.{nat_tests}
-use Rattle.std.proofs.lemmas.Nat.{and_le_l}
-use Rattle.std.proofs.lemmas.Nat.Bits.{bit_at-lt, bit_at_and, bit_at_not, bit_at-zero, bit_at_above, bit_at-trailing_zeros, same_from_bits}
+use Rattle.std.proofs.lemmas.Nat.Bits.{bit_at-zero, bit_at_above, bit_at-trailing_zeros}
 use Rattle.std.specs.Ordering.{nat_cmp}
 use Rattle.std.specs.Cmp.{nat_cmp_total, unsigned_tied}
 use Rattle.std.specs.FinSet as set
@@ -12,7 +11,7 @@ use Rattle.staat_model.specs.Bits.{set_of_word, word_of_set}
 use Rattle.staat_model.specs.SetFacts.{contains-set_of_word, word_of_set-set_of_word}
 use Rattle.staat_model.proofs.SetWords.{same_members}
 use Rattle.staat_model.specs.declared.set.PartSet.{PartSet}
-use Rattle.staat_model.specs.Sets.{Has, IsSubset, IsNonempty, IsLeastOf, single}
+use Rattle.staat_model.specs.Sets.{Has, IsNonempty, IsLeastOf, single}
 use Rattle.staat_vec.proofs.Truth.{and_zero_is_one, and_split}
 use Rattle.std.proofs.lemmas.Bool.{or_cases}
 use Rattle.staat_vec.proofs.Naturals.{lt_or_le}

@@ -1,7 +1,7 @@
 -- A certificate that keeps its form has a verdict: the first rule that it breaks is found, or it is valid.
-use Rattle.std.proofs.Common.{◌≡◌, ◌≢◌, ◌⊎◌, ℕ, ◌+◌, ◌<◌, ◌≤◌, pos, ◌<ℤ◌, List, [], ◌∷◌, ◌++◌, length, map, All, ap, arith, sym, ◌∙◌, subst, refl, inl, inr}
+use Rattle.std.proofs.Common.{◌≡◌, ◌≢◌, ◌⊎◌, ℕ, ◌+◌, ◌<◌, ◌≤◌, pos, ◌<ℤ◌, List, [], ◌∷◌, length, map, All, arith, sym, ◌∙◌, subst, refl, inl, inr}
 use Rattle.std.specs.Prelude.{Contains, Option, None, Some, slice_get, sum_by}
-use Rattle.std.proofs.lemmas.List.Elements.{All-cons, All-contains, All-head, All-nil, All-tail}
+use Rattle.std.proofs.lemmas.List.Elements.{All-contains, All-head, All-tail}
 use Rattle.std.specs.FinSet as set
 use Rattle.staat_vec.specs.declared.vector.V3.{V3}
 use Rattle.staat_vec.specs.Vectors.{dot, negative, origin, vector_cmp}
