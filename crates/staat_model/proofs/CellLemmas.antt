@@ -19,7 +19,7 @@ use Rattle.staat_model.specs.Borders.{HasTwoEdges}
 use Rattle.staat_model.proofs.Members.{All-from_members}
 use Rattle.staat_model.proofs.Corners.{Conditions, HoldsAxes, IsSame, conditions, cross_signs, have_axes, same_back}
 use Rattle.staat_model.proofs.BorderLemmas.{borders_lemma}
-use Rattle.staat_model.proofs.GraphLemmas.{border_same}
+use Rattle.staat_model.proofs.GraphLemmas.{border_at, border_same}
 use Rattle.staat_model.proofs.FacetLemmas.{swap_zero}
 use Rattle.staat_model.proofs.CornerLemmas.{axes_span}
 use Rattle.staat_model.proofs.VertexLemmas.{same_some, holds_axes}
@@ -152,6 +152,9 @@ off_all (h ∷ gs) d none g (zero, lt, e) z =
     omega (arith, none, zeros_on (sign (dot h d)) (signs_of gs d) (ap (λ v. sign (dot v d)) e ∙ z))
 off_all (h ∷ gs) d none g (suc k, lt, e) z = off_all gs d (let c = zeros-cons (sign (dot h d)) (signs_of gs d) in omega (arith, none, c)) g (k, omega arith, e) z
 
+border_from_same : (ss ts : List Sign) → ss ≡ ts → IsBorder ss ts
+border_from_same ss ts e = subst (IsBorder ss) e (border_same ss)
+
 module _ (d m y : V3) where
   -- y is strictly on d's side of each plane that is not parallel to m
   Sided : List V3 → Type 0
@@ -165,9 +168,6 @@ module _ (d m y : V3) where
       let is = same (off g (Contains-front g gs)) in
       let rest = strict_signs gs (λ h c. sided h (Contains-there g h gs c)) (λ h c. off h (Contains-there g h gs c)) in
       ((λ i. is i ∷ rest.0 i), zeros_off (sign (dot g y)) (signs_of gs y) (λ z. some (sym is ∙ z)) ∙ rest.1)
-
-  border_from_same : (ss ts : List Sign) → ss ≡ ts → IsBorder ss ts
-  border_from_same ss ts e = subst (IsBorder ss) e (border_same ss)
 
   edge_signs : (gs : List V3) → Sided gs → NoneParallel gs → Contains gs m → dot m y ≡ pos 0 → IsBorder (signs_of gs y) (signs_of gs d) × (zeros (signs_of gs y) ≡ 1)
   unfolding Sided
@@ -185,11 +185,6 @@ module _ (d m y : V3) where
 
 pub kind_edge : (s : List Sign) → zeros s ≡ 1 → kind_of s ≡ Edge
 kind_edge s e = ap kind_by_count e
-
-same_at : (gs : List V3) (y z g : V3) → signs_of gs y ≡ signs_of gs z → Contains gs g → sign (dot g y) ≡ sign (dot g z)
-same_at [] y z g e (k, lt, p) = absurd (omega arith)
-same_at (h ∷ gs) y z g e (zero, lt, p) = let head : sign (dot h y) ≡ sign (dot h z) = cc in subst (λ v. sign (dot v y) ≡ sign (dot v z)) p head
-same_at (h ∷ gs) y z g e (suc k, lt, p) = let rest : signs_of gs y ≡ signs_of gs z = cc in same_at gs y z g rest (k, omega arith, p)
 
 module _ (planes : List V3) (d : V3) (axes : HoldsAxes planes) (apart : NoneParallel planes) (off : zeros (signs_of planes d) ≡ 0) where
   walls : Conditions d planes
@@ -251,7 +246,7 @@ module _ (planes : List V3) (d : V3) (axes : HoldsAxes planes) (apart : NonePara
         f = signs_of planes b.z;
         e_is = record { cell = record { d = b.y; nonzero = some_from b.h b.y b.y_inside; is = refl }; edge = kind_edge (signs_of planes b.y) e.one; border = e.border };
         f_is = record { cell = record { d = b.z; nonzero = some_from b.g b.z b.z_inside; is = refl }; edge = kind_edge (signs_of planes b.z) f.one; border = f.border };
-        different = λ same. e.agrees b.z b.z_inside (sym (same_at planes b.y b.z e.m same e.in_planes) ∙ e.zero_there);
+        different = λ same. e.agrees b.z b.z_inside (⊎_elim (λ p. p ∙ e.zero_there) (λ p. p) (border_at planes b.z b.y (border_from_same (signs_of planes b.z) (signs_of planes b.y) (sym same)) e.m e.in_planes));
       }
 
 -- an open cell has two edges on its border

@@ -3,7 +3,7 @@ use Rattle.std.proofs.Common.{◌≡◌, ◌⊎◌, ℕ, zero, suc, ◌<◌, ℤ
 use Rattle.std.specs.Prelude.{Contains, Some, slice_get}
 use Rattle.std.proofs.lemmas.Int.{by_lt_z, ints}
 use Rattle.std.proofs.lemmas.List.Elements.{All-cons, All-head, All-nil, All-tail}
-use Rattle.std.specs.Cmp.{IsTotalOrder}
+use Rattle.std.specs.Cmp.{IsTotalOrder, tied_itself}
 use Rattle.std.specs.FinMap.{IsAntisymmetric}
 use Rattle.std.specs.List.{AllByRecursion}
 use Rattle.std.specs.List.Sorted.{IsStrictlySortedBy}
@@ -116,21 +116,12 @@ some_below P f n = elim (below_or P f n) [ inl t ↦ inl (t.0, t.1, t.2) | inr n
 -- ---- orders
 
 module _ {X : Type 0} (cmp : X → X → Ordering) (o : IsTotalOrder cmp) (exact : IsAntisymmetric cmp) where
-  itself : (x : X) → cmp x x ≡ Equal
-  itself x = go (cmp x x) refl
-    where
-      go : (r : Ordering) → cmp x x ≡ r → cmp x x ≡ Equal
-      go Less e = let wrong : Less ≡ Greater = sym e ∙ o.antisymm x x ∙ ap ordering_reverse e in cc
-      go Equal e = e
-      go Greater e = let wrong : Greater ≡ Less = sym e ∙ o.antisymm x x ∙ ap ordering_reverse e in cc
-
   pub equal_or : (x y : X) → Decided (x ≡ y)
   equal_or x y = go (cmp x y) refl
     where
       go : (r : Ordering) → cmp x y ≡ r → Decided (x ≡ y)
-      go Less e = inr (λ h. let same : cmp x y ≡ Equal = subst (λ z. cmp x z ≡ Equal) h (itself x) in let wrong : Less ≡ Equal = sym e ∙ same in cc)
       go Equal e = inl (exact x y e)
-      go Greater e = inr (λ h. let same : cmp x y ≡ Equal = subst (λ z. cmp x z ≡ Equal) h (itself x) in let wrong : Greater ≡ Equal = sym e ∙ same in cc)
+      go r e = inr (λ h. let same : cmp x y ≡ Equal = subst (λ z. cmp x z ≡ Equal) h (tied_itself o x) in let wrong : r ≡ Equal = sym e ∙ same in cc)
 
   pub contains_or : (xs : List X) (x : X) → Decided (Contains xs x)
   contains_or [] x = inr (Contains-nothing x)

@@ -19,7 +19,7 @@ use Rattle.staat_model.specs.Planes.{vertices, crossings}
 use Rattle.staat_model.specs.Cells.{signs_of, kind_of, IsBorder, IsCell, IsEnd, IsEdgeSum}
 use Rattle.staat_vec.proofs.VectorOrder.{vector_exact, vector_total, vector_not_below_itself}
 use Rattle.staat_model.proofs.Corners.{HoldsAxes, IsSame, IsCornerTowards}
-use Rattle.staat_model.proofs.GraphLemmas.{border_towards, towards_border}
+use Rattle.staat_model.proofs.GraphLemmas.{border_at, border_towards, towards_border}
 use Rattle.staat_model.proofs.VertexLemmas.{in_vertices}
 use Rattle.staat_model.proofs.PlaneLemmas.{NoneParallel}
 use Rattle.staat_model.proofs.CellLemmas.{zeros, zeros_off, zeros_on, edge_zeros, off_all, Covers, sum_covers}
@@ -94,11 +94,6 @@ covers_all : (gs : List V3) (u v d : V3) → ((g : V3) → Contains gs g → (si
 covers_all [] u v d f = tt
 covers_all (g ∷ gs) u v d f = (f g (Contains-front g gs), covers_all gs u v d (λ h c. f h (Contains-there g h gs c)))
 
-border_sign : (gs : List V3) (v d : V3) → IsBorder (signs_of gs v) (signs_of gs d) → (g : V3) → Contains gs g → (sign (dot g v) ≡ sign (dot g d)) ⊎ (sign (dot g v) ≡ Zero)
-border_sign [] v d b g (k, lt, e) = absurd (omega arith)
-border_sign (h ∷ gs) v d b g (zero, lt, e) = subst (λ z. (sign (dot z v) ≡ sign (dot z d)) ⊎ (sign (dot z v) ≡ Zero)) e b.0
-border_sign (h ∷ gs) v d b g (suc k, lt, e) = border_sign gs v d b.1 g (k, omega arith, e)
-
 -- the two, in this order, are all that has P
 pub pair_lists : (P : V3 → Type 0) (u v : V3) → vector_cmp u v ≡ Less → P u → P v → ((w : V3) → P w → (w ≡ u) ⊎ (w ≡ v)) → Lists vector_cmp P (u ∷ v ∷ [])
 unfolding IsStrictlySortedBy
@@ -154,7 +149,7 @@ module _ (planes : List V3) (d c : V3) (axes : HoldsAxes planes) (apart : NonePa
       let bu = border_towards planes d front.v front.corner.towards in
       let bv = border_towards planes d rear.v rear.corner.towards in
       sum_covers planes front.v rear.v (signs_of planes d)
-      (covers_all planes front.v rear.v d (λ g g_in. at g g_in (one.only g g_in) (border_sign planes front.v d bu g g_in) (border_sign planes rear.v d bv g g_in)))
+      (covers_all planes front.v rear.v d (λ g g_in. at g g_in (one.only g g_in) (border_at planes front.v d bu g g_in) (border_at planes rear.v d bv g g_in)))
       bu bv
     where
       at : (g : V3) → Contains planes g → (g ≡ c) ⊎ (dot g d ≢ pos 0) → (sign (dot g front.v) ≡ sign (dot g d)) ⊎ (sign (dot g front.v) ≡ Zero) → (sign (dot g rear.v) ≡ sign (dot g d)) ⊎ (sign (dot g rear.v) ≡ Zero)

@@ -1,7 +1,7 @@
 -- Which parts block which at a direction, and on the border of its cell.
-use Rattle.std.proofs.Common.{◌≡◌, ◌≢◌, ◌↔◌, ℕ, zero, suc, refl, sym, subst, arith, ℤ, pos, negsuc, neg_ℤ, ◌≤ℤ◌, ◌<ℤ◌, ◌⊎◌, inl, inr, ⊎_elim, List, [], ◌∷◌, All, Contains}
+use Rattle.std.proofs.Common.{◌≡◌, ◌≢◌, ◌↔◌, ◌∙◌, ℕ, zero, suc, refl, sym, subst, arith, ℤ, pos, negsuc, neg_ℤ, ◌≤ℤ◌, ◌<ℤ◌, ◌⊎◌, inl, inr, ⊎_elim, List, [], ◌∷◌, All, Contains}
 use Rattle.std.specs.Prelude.{Some, slice_get}
-use Rattle.std.proofs.lemmas.Int.{ints}
+use Rattle.std.proofs.lemmas.Int.{by_lt_z, ints}
 use Rattle.std.proofs.lemmas.Option.{option_and_then_some}
 use Rattle.std.proofs.lemmas.List.Elements.{All-contains, Contains-append_left, Contains-append_right}
 use Rattle.staat_vec.specs.declared.vector.V3.{V3}
@@ -25,9 +25,9 @@ use Rattle.staat_model.proofs.Decisions.{contains_or}
 use Rattle.staat_model.proofs.Corners.{IsTowards}
 use Rattle.staat_model.proofs.PieceFacets.{meets_by_facets_lemma}
 use Rattle.staat_model.proofs.Reversed.{meets_opposite_lemma}
-use Rattle.staat_vec.proofs.Integers.{opposite_nonpositive, opposite_nonneg, opposite_nonpositive_back, zero_nonneg, zero_nonpositive}
+use Rattle.staat_vec.proofs.Integers.{negative_nonneg_clash, opposite_nonpositive, opposite_nonneg, opposite_nonpositive_back, zero_nonneg, zero_nonpositive}
 use Rattle.staat_vec.proofs.Unique.{from_place, Contains-front}
-use Rattle.staat_vec.proofs.Signs.{zero_sign}
+use Rattle.staat_vec.proofs.Signs.{negative_sign, positive_sign, sign_negative, sign_positive, zero_sign}
 use Rattle.staat_vec.proofs.ListLaws.{Contains-there}
 
 -- ---- the pieces of an assembly
@@ -57,27 +57,23 @@ axis_in parts w planes n are c = subst (λ gs. Contains gs n) (sym are.is) (Cont
 -- ---- signs and sides
 
 same_up : (a b : ℤ) → sign a ≡ sign b → pos 0 ≤ℤ b → pos 0 ≤ℤ a
-same_up (pos n) b e h = omega (arith, ints)
-same_up (negsuc n) (pos zero) e h = cc
-same_up (negsuc n) (pos (suc m)) e h = cc
-same_up (negsuc n) (negsuc m) e h = absurd h.le
+same_up a b e h = by_lt_z {P = pos 0 ≤ℤ a} a (pos 0) (λ low. absurd (negative_nonneg_clash b (sign_negative b (sym e ∙ negative_sign a low)) h)) (λ up. up)
 
 same_down : (a b : ℤ) → sign a ≡ sign b → b ≤ℤ pos 0 → a ≤ℤ pos 0
-same_down (negsuc n) b e h = omega (arith, ints)
-same_down (pos zero) b e h = omega (arith, ints)
-same_down (pos (suc n)) (pos zero) e h = cc
-same_down (pos (suc n)) (pos (suc m)) e h = absurd (omega (arith, ints))
-same_down (pos (suc n)) (negsuc m) e h = cc
+same_down a b e h = by_lt_z {P = a ≤ℤ pos 0} (pos 0) a (λ high. let clash = sign_positive b (sym e ∙ positive_sign a high) in absurd (omega (arith, ints, h, clash))) (λ down. down)
 
--- on the border of d's cell no plane has v on another side than d
+-- on the border of d's cell each plane has v on d's side, or on it
+pub border_at : (gs : List V3) (v d : V3) → IsBorder (signs_of gs v) (signs_of gs d) → (g : V3) → Contains gs g → (sign (dot g v) ≡ sign (dot g d)) ⊎ (sign (dot g v) ≡ Zero)
+border_at [] v d b g (k, lt, e) = absurd (omega arith)
+border_at (h ∷ gs) v d b g (zero, lt, e) = subst (λ z. (sign (dot z v) ≡ sign (dot z d)) ⊎ (sign (dot z v) ≡ Zero)) e b.0
+border_at (h ∷ gs) v d b g (suc k, lt, e) = border_at gs v d b.1 g (k, omega arith, e)
+
+-- so no plane has v on another side than d
 pub towards_border : (gs : List V3) (d v : V3) → IsBorder (signs_of gs v) (signs_of gs d) → (g : V3) → Contains gs g → IsTowards d v g
-towards_border [] d v b g (k, lt, e) = absurd (omega arith)
-towards_border (h ∷ gs) d v b g (suc k, lt, e) = towards_border gs d v b.1 g (k, omega arith, e)
-towards_border (h ∷ gs) d v b g (zero, lt, e) = subst (IsTowards d v) e (at_head b.0)
-  where
-    at_head : (sign (dot h v) ≡ sign (dot h d)) ⊎ (sign (dot h v) ≡ Zero) → IsTowards d v h
-    at_head (inl same) = record { up = same_up (dot h v) (dot h d) same; down = same_down (dot h v) (dot h d) same }
-    at_head (inr none) = let e = zero_sign (dot h v) none in record { up = λ u. zero_nonneg (dot h v) e; down = λ u. zero_nonpositive (dot h v) e }
+towards_border gs d v b g c = elim (border_at gs v d b g c) [
+  | inl same ↦ record { up = same_up (dot g v) (dot g d) same; down = same_down (dot g v) (dot g d) same }
+  | inr none ↦ (let e = zero_sign (dot g v) none in record { up = λ u. zero_nonneg (dot g v) e; down = λ u. zero_nonpositive (dot g v) e })
+]
 
 sign_towards : (a b : ℤ) → (pos 0 ≤ℤ b → pos 0 ≤ℤ a) → (b ≤ℤ pos 0 → a ≤ℤ pos 0) → (sign a ≡ sign b) ⊎ (sign a ≡ Zero)
 sign_towards (pos zero) b up down = inr refl
