@@ -34,7 +34,7 @@ use Rattle.staat_model.proofs.Members.{All-from_members}
 use Rattle.staat_model.proofs.Orders.{arc_exact, arc_total}
 use Rattle.staat_model.proofs.PieceFacets.{meets_by_facets_lemma}
 use Rattle.staat_model.proofs.Places.{one_at_place, place_within}
-use Rattle.staat_model.proofs.PlanLemmas.{has_leaf, leaf_has, no_leaf, piece_within}
+use Rattle.staat_model.proofs.PlanLemmas.{has_leaf, leaf_has, no_leaf, piece_within, place_cases}
 use Rattle.staat_model.proofs.PlaneLemmas.{planes_apart}
 use Rattle.staat_model.proofs.SetBits.{has-below}
 use Rattle.staat_model.proofs.SetMembers.{has-insert, has-single}
@@ -65,11 +65,6 @@ splits_hold parts (walled_leaf p) w walls good = tt
 splits_hold parts (walled_split d seps moved rest) w walls good =
     let free = good.2 in
     (split_holds parts (walled_parts moved) (walled_parts rest) d seps free.moves walls.0, splits_hold parts moved (walled_parts moved) walls.1 good.3, splits_hold parts rest (walled_parts rest) walls.2 good.4)
-
-place_cases : {X : Type 0} (xs ys : List X) (k : ℕ) (x : X) → slice_get (xs ++ ys) k ≡ Some x → (slice_get xs k ≡ Some x) ⊎ ((i : ℕ) × (k ≡ length xs + i) × (slice_get ys i ≡ Some x))
-place_cases [] ys k x e = inr (k, omega arith, e)
-place_cases (y ∷ xs) ys zero x e = inl e
-place_cases (y ∷ xs) ys (suc k) x e = ⊎_elim (λ h. inl h) (λ (i, n, h). inr (i, omega (arith, n), h)) (place_cases xs ys k x e)
 
 leaves_once : (parts : List Part) (t : WalledPlan) (w : PartSet) → IsGood parts w (unwalled t) → (k m p : ℕ) → IsLeafAt (nodes_of t) k p → IsLeafAt (nodes_of t) m p → k ≡ m
 leaves_once parts (walled_leaf q) w good zero zero p a b = refl
