@@ -1,5 +1,5 @@
 -- A refusal that keeps its rules is right: its set is stuck, and no plan takes all parts apart.
-use Rattle.std.proofs.Common.{◌≡◌, ℕ, sym, subst, ◌⊎◌, inl, inr, List, [], ◌∷◌, map, length, All, Contains}
+use Rattle.std.proofs.Common.{◌≡◌, ◌⊎◌, ℕ, sym, subst, inl, inr, ⊎_elim, List, [], ◌∷◌, map, length, All, Contains}
 use Rattle.std.specs.FinSet as set
 use Rattle.std.proofs.lemmas.List.Elements.{All-contains}
 use Rattle.staat_vec.specs.declared.vector.V3.{V3}
@@ -34,14 +34,8 @@ reached_all : (w : PartSet) (P : ℕ → Type 0) (step : Arc → ℕ × ℕ) (ar
     → (reached : PartSet) → ((p : ℕ) → Has reached p → P p) → ReachesAll w reached (map step arcs) → (p : ℕ) → Has w p → P p
 reached_all w P step [] pass reached known r p h = known p (subst (λ s. Has s p) (sym r) h)
 reached_all w P step (arc ∷ arcs) pass reached known (from, to, new, rest) p h =
-    reached_all w P step arcs (λ other c. pass other (Contains-there arc other arcs c)) (set.insert reached (step arc).1) known_next rest p h
-  where
-    known_next : (q : ℕ) → Has (set.insert reached (step arc).1) q → P q
-    known_next q has = pick ((has-insert reached (step arc).1 q).0 has)
-      where
-        pick : (q ≡ (step arc).1) ⊎ Has reached q → P q
-        pick (inl e) = subst P (sym e) (pass arc (Contains-front arc arcs) (known (step arc).0 from))
-        pick (inr old) = known q old
+    reached_all w P step arcs (λ other c. pass other (Contains-there arc other arcs c)) (set.insert reached (step arc).1)
+    (λ q has. ⊎_elim (λ e. subst P (sym e) (pass arc (Contains-front arc arcs) (known (step arc).0 from))) (known q) ((has-insert reached (step arc).1 q).0 has)) rest p h
 
 module _ (parts : List Part) (is : IsAssembly parts) (w s : PartSet) (v : V3) (side : IsSide w s) (free : IsFree parts s (set.difference w s) v) (witness : Witness) (holds : IsWitness parts w witness)
     (outs : All (IsBlocking parts v) witness.outs) (ins : All (IsBlocking parts v) witness.ins) where
@@ -56,11 +50,7 @@ module _ (parts : List Part) (is : IsAssembly parts) (w s : PartSet) (v : V3) (s
 
   -- no arc leads out of the side
   stays : (arc : Arc) → IsBlocking parts v arc → Has w arc.b → Has s arc.a → Has s arc.b
-  stays arc b in_w in_s = go (member_or s arc.b)
-    where
-      go : Has s arc.b ⊎ (Has s arc.b → ⊥) → Has s arc.b
-      go (inl h) = h
-      go (inr n) = absurd (free.clear arc in_s ((has-difference w s arc.b).1 (in_w, n)) (meets arc b))
+  stays arc b in_w in_s = ⊎_elim (λ h. h) (λ n. absurd (free.clear arc in_s ((has-difference w s arc.b).1 (in_w, n)) (meets arc b))) (member_or s arc.b)
 
   all_in : Has s holds.root → (p : ℕ) → Has w p → Has s p
   all_in at_root =

@@ -24,17 +24,9 @@ has_bit bits q h =
     (grind (arith, nat_tests), grind (arith, nat_tests))
 
 pub bit_has : (bits q : ℕ) → bits < 2 ^ 32 → bit_at bits q ≡ 1 → Has (set_of_word bits) q
-bit_has bits q small b = contains-set_of_word bits q ∙ go (inside (nat_lt q 32) refl)
-  where
-    inside : (t : Bool) → nat_lt q 32 ≡ t → nat_lt q 32 ≡ true
-    inside true e = e
-    inside false e =
-        let le : 32 ≤ q = grind (arith, nat_tests) in
-        let z : bit_at bits q ≡ 0 = bit_at_above bits 32 q small le in
-        absurd (omega arith)
-
-    go : nat_lt q 32 ≡ true → (nat_lt q 32 && (bit_at bits q == 1)) ≡ true
-    go e = ap (λ t. t && (bit_at bits q == 1)) e ∙ grind (arith, nat_tests)
+bit_has bits q small b =
+    let low : q < 32 = elim (lt_or_le q 32) [ inl lt ↦ lt | inr le ↦ absurd (let z = bit_at_above bits 32 q small le in omega (arith, z, b)) ] in
+    contains-set_of_word bits q ∙ grind (arith, nat_tests)
 
 pub has_of : (bits : ℕ) (s : PartSet) → set_of_word bits ≡ s → (q : ℕ) → Has s q → (q < 32) × (bit_at bits q ≡ 1)
 has_of bits s e q h = has_bit bits q (subst (λ t. Has t q) (sym e) h)
@@ -57,26 +49,15 @@ none_zero n s is small none =
 
 module _ (a : ℕ) (s : PartSet) (sa : set_of_word a ≡ s) (la : a < 2 ^ 32) (some : IsNonempty s) where
   pub positive : 0 < a
-  positive = by_zero a refl
-    where
-      by_zero : (n : ℕ) → a ≡ n → 0 < a
-      by_zero zero e = absurd (zero_none a s sa e some.0 some.1)
-      by_zero (suc n) e = omega arith
+  positive = elim (lt_or_le 0 a) [ inl lt ↦ lt | inr le ↦ absurd (zero_none a s sa (omega (arith, le)) some.0 some.1) ]
 
   pub least_of : IsLeastOf s (trailing_zeros w32 a)
   least_of =
       let (lt, one, none) = bit_at-trailing_zeros w32 a positive la in
       record {
         has = of_bit a s sa la (trailing_zeros w32 a) one;
-        least = λ q h. let (small, is) = has_of a s sa q h in go q (trailing_zeros w32 a) is (none q);
+        least = λ q h. let (small, is) = has_of a s sa q h in elim (lt_or_le q (trailing_zeros w32 a)) [ inl less ↦ absurd (let z = none q less in omega (arith, is, z)) | inr le ↦ le ];
       }
-    where
-      go : (q t : ℕ) → bit_at a q ≡ 1 → (q < t → bit_at a q ≡ 0) → t ≤ q
-      go q t one zero' = by_case (lt_or_le q t)
-        where
-          by_case : (q < t) ⊎ (t ≤ q) → t ≤ q
-          by_case (inl lt) = let z = zero' lt in absurd (omega arith)
-          by_case (inr le) = le
 
   pub least_small : trailing_zeros w32 a < 32
   least_small = (bit_at-trailing_zeros w32 a positive la).0
