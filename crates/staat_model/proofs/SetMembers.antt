@@ -1,5 +1,5 @@
 -- The members of a set and the bits of its word.
-use Rattle.std.proofs.Common.{◌≡◌, ℕ, zero, suc, ◌<◌, ◌≤◌, ◌^◌, Bool, true, false, arith, ap, sym, ◌∙◌, subst, refl, inl, inr, ◌⊎◌, true≢false}
+use Rattle.std.proofs.Common.{◌≡◌, ℕ, zero, suc, ◌<◌, ◌≤◌, ◌^◌, Bool, true, false, arith, ap, sym, ◌∙◌, subst, refl, inl, inr, ◌⊎◌, true≢false, ⊎_elim, eq-eqb, eqb-true}
 use Rattle.std.specs.Prelude.{nat_eq, nat_lt, ◌==◌, ◌&&◌, ◌||◌, not}
 use Rattle.std.specs.Int.{bit_at, w32, trailing_zeros}
 use Rattle.std.proofs.lemmas.Bool.Decides.{nat_tests}
@@ -12,7 +12,7 @@ use Rattle.staat_model.specs.SetFacts.{contains-set_of_word, word_of_set-set_of_
 use Rattle.staat_model.proofs.SetWords.{same_members}
 use Rattle.staat_model.specs.declared.set.PartSet.{PartSet}
 use Rattle.staat_model.specs.Sets.{Has, IsNonempty, IsLeastOf, single}
-use Rattle.staat_vec.proofs.Truth.{and_zero_is_one, and_split}
+use Rattle.staat_vec.proofs.Truth.{and_zero_is_one, and_split, not_true_clash}
 use Rattle.std.proofs.lemmas.Bool.{or_cases}
 use Rattle.staat_vec.proofs.Naturals.{lt_or_le}
 
@@ -73,21 +73,16 @@ has-union s t q = (
   λ h. set.contains-union nat_cmp_total s t q ∙ either_or (set.contains s q) (set.contains t q) h,
 )
 
-and_not : (a b : Bool) → (a && not b) ≡ true → (a ≡ true) × (b ≡ true → ⊥)
-and_not true true h = absurd (true≢false (sym h))
-and_not true false h = (refl, λ e. true≢false (sym e))
-and_not false b h = absurd (true≢false (sym h))
-
-not_and : (a b : Bool) → a ≡ true → (b ≡ true → ⊥) → (a && not b) ≡ true
-not_and true true h n = absurd (n refl)
-not_and true false h n = refl
-not_and false b h n = absurd (true≢false (sym h))
+not_from : (b : Bool) → (b ≡ true → ⊥) → not b ≡ true
+not_from true n = absurd (n refl)
+not_from false n = refl
 
 pub has-difference : (s t : PartSet) (q : ℕ) → (Has (set.difference s t) q → Has s q × (Has t q → ⊥)) × (Has s q × (Has t q → ⊥) → Has (set.difference s t) q)
-has-difference s t q = (
-  λ h. and_not (set.contains s q) (set.contains t q) (sym (set.contains-difference nat_cmp_total s t q) ∙ h),
-  λ h. set.contains-difference nat_cmp_total s t q ∙ not_and (set.contains s q) (set.contains t q) h.0 h.1,
-)
+has-difference s t q =
+    let e = set.contains-difference nat_cmp_total s t q in (
+      λ h. let both = and_split (set.contains s q) (not (set.contains t q)) (sym e ∙ h) in (both.0, not_true_clash (set.contains t q) both.1),
+      λ h. e ∙ (λ i. h.0 i && not_from (set.contains t q) h.1 i),
+    )
 
 pub has-intersection : (s t : PartSet) (q : ℕ) → (Has (set.intersection s t) q → Has s q × Has t q) × (Has s q × Has t q → Has (set.intersection s t) q)
 has-intersection s t q = (
@@ -95,28 +90,16 @@ has-intersection s t q = (
   λ h. set.contains-intersection nat_cmp_total s t q ∙ (λ i. h.0 i && h.1 i),
 )
 
-eq_or : (q p : ℕ) (b : Bool) → (nat_eq q p || b) ≡ true → (q ≡ p) ⊎ (b ≡ true)
-eq_or q p b h = go (or_cases (nat_eq q p) b h)
-  where
-    go : (nat_eq q p ≡ true) ⊎ (b ≡ true) → (q ≡ p) ⊎ (b ≡ true)
-    go (inl e) = let same : q ≡ p = grind (arith, nat_tests) in inl same
-    go (inr e) = inr e
-
-or_eq : (q p : ℕ) (b : Bool) → (q ≡ p) ⊎ (b ≡ true) → (nat_eq q p || b) ≡ true
-or_eq q p b (inl e) = let same : nat_eq q p ≡ true = grind (arith, nat_tests) in either_or (nat_eq q p) b (inl same)
-or_eq q p b (inr e) = either_or (nat_eq q p) b (inr e)
-
 pub has-insert : (s : PartSet) (p q : ℕ) → (Has (set.insert s p) q → (q ≡ p) ⊎ Has s q) × ((q ≡ p) ⊎ Has s q → Has (set.insert s p) q)
 has-insert s p q =
     let e : set.contains (set.insert s p) q ≡ (nat_eq q p || set.contains s q) = set.contains-insert nat_cmp_total s p q ∙ ap (λ t. t || set.contains s q) (unsigned_tied q p) in
-    (λ h. eq_or q p (set.contains s q) (sym e ∙ h), λ h. e ∙ or_eq q p (set.contains s q) h)
+    (
+      λ h. ⊎_elim (λ is. inl (eqb-true q p is)) (λ old. inr old) (or_cases (nat_eq q p) (set.contains s q) (sym e ∙ h)),
+      λ h. e ∙ either_or (nat_eq q p) (set.contains s q) (⊎_elim (λ is. inl (eq-eqb q p is)) (λ old. inr old) h),
+    )
 
 pub has-empty : (q : ℕ) → Has set.empty q → ⊥
 has-empty q h = true≢false (sym h ∙ set.contains-empty nat_cmp q)
 
 pub has-single : (p q : ℕ) → (Has (single p) q → q ≡ p) × (q ≡ p → Has (single p) q)
-has-single p q = (λ h. go ((has-insert set.empty p q).0 h), λ e. (has-insert set.empty p q).1 (inl e))
-  where
-    go : (q ≡ p) ⊎ Has set.empty q → q ≡ p
-    go (inl e) = e
-    go (inr h) = absurd (has-empty q h)
+has-single p q = (λ h. ⊎_elim (λ e. e) (λ none. absurd (has-empty q none)) ((has-insert set.empty p q).0 h), λ e. (has-insert set.empty p q).1 (inl e))
