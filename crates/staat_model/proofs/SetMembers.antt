@@ -92,8 +92,7 @@ has-intersection s t q = (
 
 pub has-insert : (s : PartSet) (p q : ℕ) → (Has (set.insert s p) q → (q ≡ p) ⊎ Has s q) × ((q ≡ p) ⊎ Has s q → Has (set.insert s p) q)
 has-insert s p q =
-    let e : set.contains (set.insert s p) q ≡ (nat_eq q p || set.contains s q) = set.contains-insert nat_cmp_total s p q ∙ ap (λ t. t || set.contains s q) (unsigned_tied q p) in
-    (
+    let e : set.contains (set.insert s p) q ≡ (nat_eq q p || set.contains s q) = set.contains-insert nat_cmp_total s p q ∙ ap (λ t. t || set.contains s q) (unsigned_tied q p) in (
       λ h. ⊎_elim (λ is. inl (eqb-true q p is)) (λ old. inr old) (or_cases (nat_eq q p) (set.contains s q) (sym e ∙ h)),
       λ h. e ∙ either_or (nat_eq q p) (set.contains s q) (⊎_elim (λ is. inl (eq-eqb q p is)) (λ old. inr old) h),
     )
