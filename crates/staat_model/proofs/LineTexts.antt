@@ -23,24 +23,21 @@ use Rattle.staat_model.proofs.SetMembers.{has-empty, has-insert}
 use Rattle.staat_model.proofs.SetWords.{same_members}
 use Rattle.staat_vec.proofs.Truth.{and_split}
 
--- there is one way to cut a word from what follows
-pub one_cut : (xs ys p q : List ℕ) → ArePlain xs → ArePlain ys → IsParted p → IsParted q → xs ++ p ≡ ys ++ q → (xs ≡ ys) × (p ≡ q)
-one_cut [] [] p q a b c d e = (refl, e)
-one_cut [] (y ∷ ys) [] q a b c d e = cc
-one_cut [] (y ∷ ys) (n ∷ p) q a b c d e =
-    let same : n ≡ y = cc in
-    let high : 32 < y = All-head (λ b. 32 < b) y ys b in
-    absurd (omega (arith, c))
-one_cut (x ∷ xs) [] p [] a b c d e = cc
-one_cut (x ∷ xs) [] p (n ∷ q) a b c d e =
-    let same : x ≡ n = cc in
-    let high : 32 < x = All-head (λ b. 32 < b) x xs a in
-    absurd (omega (arith, d))
-one_cut (x ∷ xs) (y ∷ ys) p q a b c d e =
+-- where P holds of each byte in front, and of none with which what follows begins, there is one way to cut
+pub cut_once : (P : ℕ → Type 0) (E : List ℕ → Type 0) → ((b : ℕ) (p : List ℕ) → E (b ∷ p) → P b → ⊥)
+    → (xs ys p q : List ℕ) → All P xs → All P ys → E p → E q → xs ++ p ≡ ys ++ q → (xs ≡ ys) × (p ≡ q)
+cut_once P E clash [] [] p q a b c d e = (refl, e)
+cut_once P E clash [] (y ∷ ys) p q a b c d e = absurd (clash y (ys ++ q) (subst E e c) (All-head P y ys b))
+cut_once P E clash (x ∷ xs) [] p q a b c d e = absurd (clash x (xs ++ p) (subst E (sym e) d) (All-head P x xs a))
+cut_once P E clash (x ∷ xs) (y ∷ ys) p q a b c d e =
     let first : x ≡ y = cc in
     let others : xs ++ p ≡ ys ++ q = cc in
-    let rest = one_cut xs ys p q (All-tail (λ b. 32 < b) x xs a) (All-tail (λ b. 32 < b) y ys b) c d others in
+    let rest = cut_once P E clash xs ys p q (All-tail P x xs a) (All-tail P y ys b) c d others in
     (λ i. first i ∷ rest.0 i, rest.1)
+
+-- there is one way to cut a word from what follows
+pub one_cut : (xs ys p q : List ℕ) → ArePlain xs → ArePlain ys → IsParted p → IsParted q → xs ++ p ≡ ys ++ q → (xs ≡ ys) × (p ≡ q)
+one_cut = cut_once (λ b. 32 < b) IsParted (λ b p low high. omega (arith, low, high))
 
 pub parted_spaced : (zs : List ℤ) → IsParted (spaced zs)
 parted_spaced [] = omega arith

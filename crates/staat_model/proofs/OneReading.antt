@@ -8,7 +8,7 @@ use Rattle.staat_model.specs.declared.line.Line.{Line}
 use Rattle.staat_model.specs.Lines.{IsInBounds, line_text}
 use Rattle.staat_model.specs.Texts.{lines_of, text_of, IsTextOf, IsWellFormed, BeginsText, HasNoFeed, IsLine, joined, IsBadAfter, IsFirstBadLine, Reading, whole, bad_line, too_short, IsReading}
 use Rattle.staat_model.proofs.CertificateLines.{lines_end, one_by_lines}
-use Rattle.staat_model.proofs.LineTexts.{line_front, line_is, line_length, line_whole, one_line}
+use Rattle.staat_model.proofs.LineTexts.{cut_once, line_front, line_is, line_length, line_whole, one_line, tails_of}
 use Rattle.staat_model.proofs.Members.{all_back, all_front}
 use Rattle.staat_vec.proofs.ListLaws.{long_not_nil}
 
@@ -19,14 +19,12 @@ text ls = flat_map line_text ls
 
 -- the bytes before the first line feed are the only ones
 pub first_line : (xs ys p q : List ℕ) → HasNoFeed xs → HasNoFeed ys → xs ++ 10 ∷ p ≡ ys ++ 10 ∷ q → (xs ≡ ys) × (p ≡ q)
-first_line [] [] p q a b e = let rest : p ≡ q = cc in (refl, rest)
-first_line [] (y ∷ ys) p q a b e = absurd (All-head (λ b. b ≢ 10) y ys b (let same : 10 ≡ y = cc in sym same))
-first_line (x ∷ xs) [] p q a b e = absurd (All-head (λ b. b ≢ 10) x xs a (let same : x ≡ 10 = cc in same))
-first_line (x ∷ xs) (y ∷ ys) p q a b e =
-    let first : x ≡ y = cc in
-    let others : xs ++ 10 ∷ p ≡ ys ++ 10 ∷ q = cc in
-    let rest = first_line xs ys p q (All-tail (λ b. b ≢ 10) x xs a) (All-tail (λ b. b ≢ 10) y ys b) others in
-    (λ i. first i ∷ rest.0 i, rest.1)
+first_line xs ys p q a b e =
+    let cuts = cut_once (λ b. b ≢ 10) (λ l. (t : List ℕ) × (l ≡ 10 ∷ t)) (λ b t feed other. other (let same : b ≡ 10 = first_of feed.1 in same)) xs ys (10 ∷ p) (10 ∷ q) a b (p, refl) (q, refl) e in
+    (cuts.0, tails_of 10 p q cuts.1)
+  where
+    first_of : {b : ℕ} {t u : List ℕ} → b ∷ t ≡ 10 ∷ u → b ≡ 10
+    first_of h = cc
 
 pub with_feed : (front p : List ℕ) → (front ++ 10 ∷ []) ++ p ≡ front ++ 10 ∷ p
 with_feed front p = append_assoc front (10 ∷ []) p
