@@ -14,7 +14,7 @@ use Rattle.staat_vec.proofs.VectorOrder.{vector_exact}
 use Rattle.staat_model.specs.declared.tree.Kind.TheVariants.{Point, Edge, Open}
 use Rattle.staat_model.specs.Cells.{signs_of, signs_cmp, kind_of, IsBorder, IsEnd, IsEdgeSum, IsBorderEdge, IsRepresentative}
 use Rattle.staat_model.specs.Planes.{axes}
-use Rattle.staat_model.proofs.Examples.{axis_vertices, by_test}
+use Rattle.staat_model.proofs.Examples.{axis_vertices, by_test, six}
 use Rattle.staat_model.proofs.EndLemmas.{pair_lists}
 
 abbrev v : ℤ → ℤ → ℤ → V3
@@ -49,9 +49,6 @@ border_test (g ∷ f) (t ∷ s) h = λ i. one_borders g t h.0 i && border_test f
 border_test f s h = absurd h
 
 -- ---- edges of the axes
-
-abbrev six : List V3
-six = v (pos 0) (pos 0) (pos 1) ∷ v (pos 0) (pos 0) m1 ∷ v (pos 0) m1 (pos 0) ∷ v (pos 0) (pos 1) (pos 0) ∷ v (pos 1) (pos 0) (pos 0) ∷ v m1 (pos 0) (pos 0) ∷ []
 
 abbrev is_equal : Ordering → Bool
 is_equal Equal = true

@@ -23,7 +23,8 @@ use Rattle.staat_model.specs.Walls.{IsShown}
 use Rattle.staat_model.specs.Planes.{axes, vertices}
 use Rattle.staat_model.specs.Certificates.{walled_leaf}
 use Rattle.staat_model.specs.Lines.{IsInBounds}
-use Rattle.staat_model.specs.Texts.{IsNodeInOrder, IsReading, lines_of, text_of, whole}
+use Rattle.staat_limits.specs.Versions.{IsVersion}
+use Rattle.staat_model.specs.Texts.{IsNodeInOrder, IsReading, IsWellFormed, lines_of, text_of, whole}
 use Rattle.staat_model.proofs.WallLaws.{wall_keeps_apart}
 use Rattle.staat_vec.proofs.Truth.{and_split}
 
@@ -52,7 +53,10 @@ unfolding canon
 left_alone = refl
 
 -- the vertices of the three axes, in pair order
-pub axis_vertices : vertices axes ≡ v (pos 0) (pos 0) (pos 1) ∷ v (pos 0) (pos 0) (m 1) ∷ v (pos 0) (m 1) (pos 0) ∷ v (pos 0) (pos 1) (pos 0) ∷ v (pos 1) (pos 0) (pos 0) ∷ v (m 1) (pos 0) (pos 0) ∷ []
+abbrev pub six : List V3
+six = v (pos 0) (pos 0) (pos 1) ∷ v (pos 0) (pos 0) (m 1) ∷ v (pos 0) (m 1) (pos 0) ∷ v (pos 0) (pos 1) (pos 0) ∷ v (pos 1) (pos 0) (pos 0) ∷ v (m 1) (pos 0) (pos 0) ∷ []
+
+pub axis_vertices : vertices axes ≡ six
 unfolding primitive content
 axis_vertices = refl
 
@@ -160,23 +164,23 @@ never_above = wall_keeps_apart cube neighbour (v (pos 0) (pos 0) (pos 1)) (v (po
 
 -- ---- the smallest certificate
 
-abbrev smallest : Certificate
-smallest = record { version = 1; parts = 1; body = Plan (Leaf 0 ∷ []) }
+abbrev pub smallest : ℕ → Certificate
+smallest version = record { version = version; parts = 1; body = Plan (Leaf 0 ∷ []) }
 
-smallest_lines : lines_of smallest ≡ line.Head 1 ∷ line.Parts 1 ∷ line.Plan ∷ line.Leaf 0 ∷ line.End ∷ []
+smallest_lines : lines_of (smallest 1) ≡ line.Head 1 ∷ line.Parts 1 ∷ line.Plan ∷ line.Leaf 0 ∷ line.End ∷ []
 smallest_lines = refl
 
-smallest_text : text_of smallest ≡ codes "STAAT 1\nparts 1\nplan\nleaf 0\nend\n"
+smallest_text : text_of (smallest 1) ≡ codes "STAAT 1\nparts 1\nplan\nleaf 0\nend\n"
 smallest_text = rw (decimal_digit 1 (lit< tt), decimal_digit 0 (lit< tt)) refl
 
-smallest_read : IsReading (codes "STAAT 1\nparts 1\nplan\nleaf 0\nend\n") (whole smallest)
-smallest_read = record {
-  form = record {
-    lines = All-from_recursion IsInBounds (lines_of smallest) ((lit≤ tt, lit≤ tt), ((lit≤ tt, lit≤ tt), (tt, (lit< tt, (tt, tt)))));
-    body = record { tree = walled_leaf 0; is = refl; most = lit≤ tt; each = All-from_recursion IsNodeInOrder (Leaf 0 ∷ []) (tt, tt) };
-  };
-  is = sym smallest_text;
+pub smallest_form : (version : ℕ) → IsVersion version → IsWellFormed (smallest version)
+smallest_form version is = record {
+  lines = All-from_recursion IsInBounds (lines_of (smallest version)) (is, ((lit≤ tt, lit≤ tt), (tt, (lit< tt, (tt, tt)))));
+  body = record { tree = walled_leaf 0; is = refl; most = lit≤ tt; each = All-from_recursion IsNodeInOrder (Leaf 0 ∷ []) (tt, tt) };
 }
+
+smallest_read : IsReading (codes "STAAT 1\nparts 1\nplan\nleaf 0\nend\n") (whole (smallest 1))
+smallest_read = record { form = smallest_form 1 (lit≤ tt, lit≤ tt); is = sym smallest_text }
 
 -- the plan that takes the two cubes apart, and its lines
 abbrev two_cubes : Certificate
