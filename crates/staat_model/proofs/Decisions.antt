@@ -2,7 +2,7 @@
 use Rattle.std.proofs.Common.{◌≡◌, ◌⊎◌, ℕ, zero, suc, ◌<◌, ℤ, ◌≤ℤ◌, ◌<ℤ◌, List, [], ◌∷◌, All, arith, ap, sym, ◌∙◌, subst, refl, inl, inr, ⊎_elim}
 use Rattle.std.specs.Prelude.{Contains, Some, slice_get}
 use Rattle.std.proofs.lemmas.Int.{by_lt_z, ints}
-use Rattle.std.proofs.lemmas.List.Elements.{All-cons, All-head, All-nil, All-tail}
+use Rattle.std.proofs.lemmas.List.Elements.{All-cons, All-contains, All-from_recursion, All-head, All-nil, All-tail}
 use Rattle.std.specs.Cmp.{IsTotalOrder, tied_itself}
 use Rattle.std.specs.FinMap.{IsAntisymmetric}
 use Rattle.std.specs.List.{AllByRecursion}
@@ -12,6 +12,7 @@ use Rattle.std.specs.declared.cmp.Ordering.{Ordering}
 use Rattle.std.specs.declared.cmp.Ordering.TheVariants.{Less, Equal, Greater}
 use Rattle.staat_vec.specs.Lists.{FailsFirst, IsFirst, Lists}
 use Rattle.staat_vec.proofs.Unique.{Contains-cases, Contains-front, Contains-later, Contains-nothing}
+use Rattle.staat_model.proofs.Members.{joined}
 use Rattle.staat_vec.proofs.ListLaws.{All-at}
 
 abbrev pub Decided : Type 0 → Type 0
@@ -88,13 +89,13 @@ kept {X} P f (x ∷ xs) = go (f x) (kept P f xs)
         → (ys : List X) × ((y : X) → Contains ys y → Contains (x ∷ xs) y × P y) × ((y : X) → Contains (x ∷ xs) y → P y → Contains ys y)
     go (inl p) (ys, from, all) = (
       x ∷ ys,
-      (λ y c. elim (Contains-cases x ys y c) [ inl e ↦ (subst (Contains (x ∷ xs)) (sym e) (Contains-front x xs), subst P (sym e) p) | inr later ↦ (Contains-later x xs y (from y later).0, (from y later).1) ]),
-      λ y c q. elim (Contains-cases x xs y c) [ inl e ↦ subst (Contains (x ∷ ys)) (sym e) (Contains-front x ys) | inr later ↦ Contains-later x ys y (all y later q) ],
+      (λ y c. elim (Contains-cases x ys y c) [ inl e ↦ (joined x xs y (inl e), subst P (sym e) p) | inr later ↦ (Contains-later x xs y (from y later).0, (from y later).1) ]),
+      λ y c q. joined x ys y (⊎_elim (λ e. inl e) (λ later. inr (all y later q)) (Contains-cases x xs y c)),
     )
     go (inr n) (ys, from, all) = (
       ys,
       (λ y c. (Contains-later x xs y (from y c).0, (from y c).1)),
-      λ y c q. elim (Contains-cases x xs y c) [ inl e ↦ absurd (n (subst P e q)) | inr later ↦ all y later q ],
+      λ y c q. ⊎_elim (λ e. absurd (n (subst P e q))) (λ later. all y later q) (Contains-cases x xs y c),
     )
 
 -- ---- numbers
@@ -125,10 +126,7 @@ module _ {X : Type 0} (cmp : X → X → Ordering) (o : IsTotalOrder cmp) (exact
 
   pub contains_or : (xs : List X) (x : X) → Decided (Contains xs x)
   contains_or [] x = inr (Contains-nothing x)
-  contains_or (y ∷ xs) x = elim (equal_or x y) [
-    | inl e ↦ inl (subst (Contains (y ∷ xs)) (sym e) (Contains-front y xs))
-    | inr ne ↦ carried (Contains-later y xs x) (λ c. elim (Contains-cases y xs x c) [ inl e ↦ absurd (ne e) | inr later ↦ later ]) (contains_or xs x)
-  ]
+  contains_or (y ∷ xs) x = carried (joined y xs x) (Contains-cases y xs x) (either_or (equal_or x y) (contains_or xs x))
 
   pub record LeastIn (P : X → Type 0) (xs : List X) : Type 0 where
     pub x : X
@@ -175,47 +173,36 @@ module _ {X : Type 0} (cmp : X → X → Ordering) (o : IsTotalOrder cmp) (exact
   by_recursion P [] f = tt
   by_recursion P (x ∷ xs) f = (f x (Contains-front x xs), by_recursion P xs (λ y c. f y (Contains-later x xs y c)))
 
-  from_recursion : (P : X → Type 0) (xs : List X) → AllByRecursion P xs → (x : X) → Contains xs x → P x
-  from_recursion P [] all x c = absurd (Contains-nothing x c)
-  from_recursion P (y ∷ xs) all x c = elim (Contains-cases y xs x c) [ inl e ↦ subst P (sym e) all.0 | inr later ↦ from_recursion P xs all.1 x later ]
-
-  record Inserted (x : X) (ys : List X) : Type 0 where
-    zs : List X
-    ascending : IsStrictlySortedBy cmp zs
-    from : (z : X) → Contains zs z → (z ≡ x) ⊎ Contains ys z
-    new : Contains zs x
-    old : (z : X) → Contains ys z → Contains zs z
-
-  inserted : (x : X) (ys : List X) → IsStrictlySortedBy cmp ys → Inserted x ys
+  -- one more member in its place
+  inserted : (x : X) (ys : List X) → IsStrictlySortedBy cmp ys → (zs : List X) × Lists cmp (λ z. (z ≡ x) ⊎ Contains ys z) zs
   unfolding IsStrictlySortedBy
-  inserted x [] sorted = record { zs = x ∷ []; ascending = (tt, tt); from = λ z c. Contains-cases x [] z c; new = Contains-front x []; old = λ z c. absurd (Contains-nothing z c) }
+  inserted x [] sorted = (x ∷ [], record { ascending = (tt, tt); each = Contains-cases x []; all = joined x [] })
   inserted x (y ∷ ys) sorted = go (cmp x y) refl (inserted x ys sorted.1)
     where
-      go : (r : Ordering) → cmp x y ≡ r → Inserted x ys → Inserted x (y ∷ ys)
-      go Less e t = record {
-        zs = x ∷ y ∷ ys;
-        ascending = ((e, by_recursion (λ z. cmp x z ≡ Less) ys (λ z c. o.trans x y z e (from_recursion (λ u. cmp y u ≡ Less) ys sorted.0 z c))), sorted);
-        from = λ z c. Contains-cases x (y ∷ ys) z c;
-        new = Contains-front x (y ∷ ys);
-        old = λ z c. Contains-later x (y ∷ ys) z c;
-      }
-      go Equal e t = record { zs = y ∷ ys; ascending = sorted; from = λ z c. inr c; new = subst (Contains (y ∷ ys)) (sym (exact x y e)) (Contains-front y ys); old = λ z c. c }
-      go Greater e t = record {
-        zs = y ∷ t.zs;
+      behind : (z : X) → Contains ys z → cmp y z ≡ Less
+      behind z c = All-contains (λ u. cmp y u ≡ Less) ys z (All-from_recursion (λ u. cmp y u ≡ Less) ys sorted.0) c
+
+      go : (r : Ordering) → cmp x y ≡ r → (zs : List X) × Lists cmp (λ z. (z ≡ x) ⊎ Contains ys z) zs → (zs : List X) × Lists cmp (λ z. (z ≡ x) ⊎ Contains (y ∷ ys) z) zs
+      go Less e t = (x ∷ y ∷ ys, record {
+        ascending = ((e, by_recursion (λ z. cmp x z ≡ Less) ys (λ z c. o.trans x y z e (behind z c))), sorted);
+        each = Contains-cases x (y ∷ ys);
+        all = joined x (y ∷ ys);
+      })
+      go Equal e t = (y ∷ ys, record { ascending = sorted; each = λ z c. inr c; all = λ z h. ⊎_elim (λ is. joined y ys z (inl (is ∙ exact x y e))) (λ c. c) h })
+      go Greater e (zs, t) = (y ∷ zs, record {
         ascending = (
-          by_recursion (λ z. cmp y z ≡ Less) t.zs (λ z c. elim (t.from z c) [
-            | inl same ↦ subst (λ u. cmp y u ≡ Less) (sym same) (o.antisymm y x ∙ ap ordering_reverse e)
-            | inr in_ys ↦ from_recursion (λ u. cmp y u ≡ Less) ys sorted.0 z in_ys
-          ]),
+          by_recursion (λ z. cmp y z ≡ Less) zs (λ z c. ⊎_elim (λ same. subst (λ u. cmp y u ≡ Less) (sym same) (o.antisymm y x ∙ ap ordering_reverse e)) (behind z) (t.each z c)),
           t.ascending,
         );
-        from = λ z c. elim (Contains-cases y t.zs z c) [
-          | inl same ↦ inr (subst (Contains (y ∷ ys)) (sym same) (Contains-front y ys))
-          | inr later ↦ (elim (t.from z later) [ inl is ↦ inl is | inr in_ys ↦ inr (Contains-later y ys z in_ys) ])
+        each = λ z c. elim (Contains-cases y zs z c) [
+          | inl same ↦ inr (joined y ys z (inl same))
+          | inr later ↦ ⊎_elim (λ is. inl is) (λ old. inr (Contains-later y ys z old)) (t.each z later)
         ];
-        new = Contains-later y t.zs x t.new;
-        old = λ z c. elim (Contains-cases y ys z c) [ inl same ↦ subst (Contains (y ∷ t.zs)) (sym same) (Contains-front y t.zs) | inr later ↦ Contains-later y t.zs z (t.old z later) ];
-      }
+        all = λ z h. elim h [
+          | inl is ↦ Contains-later y zs z (t.all z (inl is))
+          | inr c ↦ joined y zs z (⊎_elim (λ same. inl same) (λ later. inr (t.all z (inr later))) (Contains-cases y ys z c))
+        ];
+      })
 
   -- the members of a list in order
   pub sorted : (xs : List X) → (ys : List X) × Lists cmp (Contains xs) ys
@@ -224,10 +211,10 @@ module _ {X : Type 0} (cmp : X → X → Ordering) (o : IsTotalOrder cmp) (exact
   sorted (x ∷ xs) =
       let rest = sorted xs in
       let t = inserted x rest.0 rest.1.ascending in (
-        t.zs,
+        t.0,
         record {
-          ascending = t.ascending;
-          each = λ z c. elim (t.from z c) [ inl e ↦ subst (Contains (x ∷ xs)) (sym e) (Contains-front x xs) | inr in_rest ↦ Contains-later x xs z (rest.1.each z in_rest) ];
-          all = λ z c. elim (Contains-cases x xs z c) [ inl e ↦ subst (Contains t.zs) (sym e) t.new | inr later ↦ t.old z (rest.1.all z later) ];
+          ascending = t.1.ascending;
+          each = λ z c. joined x xs z (⊎_elim (λ e. inl e) (λ old. inr (rest.1.each z old)) (t.1.each z c));
+          all = λ z c. t.1.all z (⊎_elim (λ e. inl e) (λ later. inr (rest.1.all z later)) (Contains-cases x xs z c));
         },
       )

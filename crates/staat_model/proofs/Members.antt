@@ -1,11 +1,17 @@
 -- Members of lists, and what holds of all of them.
-use Rattle.std.proofs.Common.{◌≡◌, ℕ, ◌≤◌, List, [], ◌∷◌, ◌++◌, map, refl, All, Contains}
+use Rattle.std.proofs.Common.{◌≡◌, ℕ, ◌≤◌, List, [], ◌∷◌, ◌++◌, map, refl, sym, subst, ◌⊎◌, inl, inr, All, Contains}
+use Rattle.staat_vec.proofs.Unique.{Contains-front, Contains-later}
 use Rattle.std.specs.Prelude.{sum_by}
 use Rattle.std.proofs.lemmas.List.Sums.{get_or-le-sum_by}
 use Rattle.std.proofs.lemmas.List.Elements.{All-contains, All-weaker, All-contains_itself, All-cons, All-head, All-nil, All-tail}
 
 pub both : {X : Type 0} (P Q R : X → Type 0) → ((x : X) → P x → Q x → R x) → (xs : List X) → All P xs → All Q xs → All R xs
 both P Q R f xs h g k d l = f _ (h k d l) (g k d l)
+
+-- the first and the others are members
+pub joined : {X : Type 0} (x : X) (xs : List X) (z : X) → (z ≡ x) ⊎ Contains xs z → Contains (x ∷ xs) z
+joined x xs z (inl e) = subst (Contains (x ∷ xs)) (sym e) (Contains-front x xs)
+joined x xs z (inr later) = Contains-later x xs z later
 
 -- what holds of each member holds of all
 pub All-from_members : {X : Type 0} (P : X → Type 0) (xs : List X) → ((x : X) → Contains xs x → P x) → All P xs
