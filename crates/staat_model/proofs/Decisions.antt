@@ -2,7 +2,7 @@
 use Rattle.std.proofs.Common.{◌≡◌, ◌⊎◌, ℕ, zero, suc, ◌<◌, ℤ, ◌≤ℤ◌, ◌<ℤ◌, List, [], ◌∷◌, All, arith, ap, sym, ◌∙◌, subst, refl, inl, inr, ⊎_elim}
 use Rattle.std.specs.Prelude.{Contains, Some, slice_get}
 use Rattle.std.proofs.lemmas.Int.{by_lt_z, ints}
-use Rattle.std.proofs.lemmas.List.Elements.{All-cons, All-contains, All-from_recursion, All-head, All-nil, All-tail}
+use Rattle.std.proofs.lemmas.List.Elements.{All-cons, All-contains, All-from_recursion, All-head, All-nil, All-tail, recursion_from_All}
 use Rattle.std.specs.Cmp.{IsTotalOrder, tied_itself}
 use Rattle.std.specs.FinMap.{IsAntisymmetric}
 use Rattle.std.specs.List.{AllByRecursion}
@@ -12,7 +12,7 @@ use Rattle.std.specs.declared.cmp.Ordering.{Ordering}
 use Rattle.std.specs.declared.cmp.Ordering.TheVariants.{Less, Equal, Greater}
 use Rattle.staat_vec.specs.Lists.{FailsFirst, IsFirst, Lists}
 use Rattle.staat_vec.proofs.Unique.{Contains-cases, Contains-front, Contains-later, Contains-nothing}
-use Rattle.staat_model.proofs.Members.{joined}
+use Rattle.staat_model.proofs.Members.{All-from_members, joined}
 use Rattle.staat_vec.proofs.ListLaws.{All-at}
 
 abbrev pub Decided : Type 0 → Type 0
@@ -170,8 +170,7 @@ module _ {X : Type 0} (cmp : X → X → Ordering) (o : IsTotalOrder cmp) (exact
       go (inl p) (inr none) = inl (record { x = x; listed = Contains-front x xs; has = p; least = λ y c q. elim (Contains-cases x xs y c) [ inl e ↦ inl e | inr later ↦ absurd (none y later q) ] })
 
   by_recursion : (P : X → Type 0) (xs : List X) → ((x : X) → Contains xs x → P x) → AllByRecursion P xs
-  by_recursion P [] f = tt
-  by_recursion P (x ∷ xs) f = (f x (Contains-front x xs), by_recursion P xs (λ y c. f y (Contains-later x xs y c)))
+  by_recursion P xs f = recursion_from_All P xs (All-from_members P xs f)
 
   -- one more member in its place
   inserted : (x : X) (ys : List X) → IsStrictlySortedBy cmp ys → (zs : List X) × Lists cmp (λ z. (z ≡ x) ⊎ Contains ys z) zs
