@@ -19,9 +19,8 @@ use Rattle.staat_model.specs.Plans.{IsStuck}
 use Rattle.staat_model.specs.Removal.{MeetsAlong}
 use Rattle.staat_model.proofs.Corners.{HoldsAxes, IsCornerTowards, IsOnBoth, IsTowards, corner_towards, on_both}
 use Rattle.staat_model.proofs.FacetLemmas.{across_crosses}
-use Rattle.staat_model.proofs.GraphLemmas.{facet_towards, piece_in, positive_back}
+use Rattle.staat_model.proofs.GraphLemmas.{meets_where}
 use Rattle.staat_model.proofs.Decisions.{Decided, equal_or}
-use Rattle.staat_model.proofs.PieceFacets.{meets_by_facets_lemma}
 use Rattle.staat_model.proofs.VertexLemmas.{in_vertices}
 use Rattle.staat_vec.proofs.Integers.{zero_from_bounds, zero_nonneg, zero_nonpositive}
 use Rattle.staat_vec.proofs.Unique.{Contains-front}
@@ -33,19 +32,7 @@ use Rattle.staat_vec.proofs.VectorLaws.{parallel_cross}
 pub meets_towards : (parts : List Part) (core : List Arc) (planes : List V3) (d v : V3) (arc : Arc) → All IsPart parts → HasCorePlanes parts core planes → ((m : V3) → Contains planes m → IsTowards d v m)
     → Contains core arc → MeetsAlong parts v arc → MeetsAlong parts d arc
 meets_towards parts core planes d v arc each has towards listed m =
-    let is_p = piece_in parts arc.a arc.i m.p each m.p_is in
-    let is_q = piece_in parts arc.b arc.j m.q each m.q_is in
-    let at_v = (meets_by_facets_lemma m.p m.q v is_p is_q).0 m.holds in
-    record {
-      p = m.p;
-      q = m.q;
-      p_is = m.p_is;
-      q_is = m.q_is;
-      holds = (meets_by_facets_lemma m.p m.q d is_p is_q).1 (λ n f.
-          let plane : IsCorePlane parts core (canon n) = record { arc = arc; facet = n; listed = listed; is = refl; holds = record { p = m.p; q = m.q; p_is = m.p_is; q_is = m.q_is; holds = f } } in
-          let t = facet_towards d v n (towards (canon n) (has.has_facets (canon n) plane)) in
-          positive_back (dot n d) (dot n v) t.down (at_v n f));
-    }
+    meets_where parts d v arc each (λ n h. towards (canon n) (has.has_facets (canon n) (record { arc = arc; facet = n; listed = listed; is = refl; holds = h }))) m
 
 core_axes : (parts : List Part) (core : List Arc) (planes : List V3) → HasCorePlanes parts core planes → HoldsAxes planes
 core_axes parts core planes has = record {

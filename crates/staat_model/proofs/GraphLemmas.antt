@@ -17,7 +17,9 @@ use Rattle.staat_model.specs.declared.set.PartSet.{PartSet}
 use Rattle.staat_model.specs.declared.certificate.Arc.{Arc}
 use Rattle.staat_model.specs.Pieces.{IsPiece}
 use Rattle.staat_model.specs.Sets.{Has}
-use Rattle.staat_model.specs.Assemblies.{IsAssembly, IsPart, piece_at}
+use Rattle.staat_model.specs.Assemblies.{HoldsAt, IsAssembly, IsPart, piece_at}
+use Rattle.staat_model.specs.Facets.{IsFacet}
+use Rattle.staat_model.specs.Meeting.{Meets}
 use Rattle.staat_model.specs.Removal.{MeetsAlong, Blocks}
 use Rattle.staat_model.specs.Planes.{ArePlanes, IsFacetPlane, axes}
 use Rattle.staat_model.specs.Cells.{signs_of, IsBorder}
@@ -40,6 +42,18 @@ piece_in parts a i p each e =
 
 pub piece_is : (parts : List Part) (a i : ℕ) (p : List V3) → IsAssembly parts → piece_at parts a i ≡ Some p → IsPiece p
 piece_is parts a i p is e = piece_in parts a i p is.each e
+
+-- what follows of pieces from what holds of them follows at an arc
+pub at_pieces : (parts : List Part) (arc : Arc) (R S : List V3 → List V3 → Type 0) → All IsPart parts
+    → ((p q : List V3) → piece_at parts arc.a arc.i ≡ Some p → piece_at parts arc.b arc.j ≡ Some q → IsPiece p → IsPiece q → R p q → S p q)
+    → HoldsAt parts arc R → HoldsAt parts arc S
+at_pieces parts arc R S each f h = record {
+  p = h.p;
+  q = h.q;
+  p_is = h.p_is;
+  q_is = h.q_is;
+  holds = f h.p h.q h.p_is h.q_is (piece_in parts arc.a arc.i h.p each h.p_is) (piece_in parts arc.b arc.j h.q each h.q_is) h.holds;
+}
 
 -- ---- the planes of a set hold each facet's
 
@@ -111,22 +125,19 @@ positive_back (pos zero) b f h = absurd (let low : b ≤ℤ pos 0 = f (omega (ar
 positive_back (pos (suc n)) b f h = omega (arith, ints)
 positive_back (negsuc n) b f h = absurd (let low : b ≤ℤ pos 0 = f (omega (arith, ints)) in omega (arith, ints))
 
+-- what meets along v meets along d, if no facet's plane has v on another side than d
+pub meets_where : (parts : List Part) (d v : V3) (arc : Arc) → All IsPart parts → ((n : V3) → HoldsAt parts arc (λ p q. IsFacet p q n) → IsTowards d v (canon n)) → MeetsAlong parts v arc → MeetsAlong parts d arc
+meets_where parts d v arc each towards m =
+    at_pieces parts arc (λ p q. Meets p q v) (λ p q. Meets p q d) each
+    (λ p q p_is q_is is_p is_q meets. (meets_by_facets_lemma p q d is_p is_q).1 (λ n f.
+        let t = facet_towards d v n (towards n (record { p = p; q = q; p_is = p_is; q_is = q_is; holds = f })) in
+        positive_back (dot n d) (dot n v) t.down ((meets_by_facets_lemma p q v is_p is_q).0 meets n f))) m
+
 pub arc_from_border : (parts : List Part) (w : PartSet) (planes : List V3) (d v : V3) (arc : Arc) → IsAssembly parts → ArePlanes parts w planes → IsBorder (signs_of planes v) (signs_of planes d)
     → Has w arc.a → Has w arc.b → arc.a ≢ arc.b → MeetsAlong parts v arc → MeetsAlong parts d arc
 arc_from_border parts w planes d v arc is are border a_in b_in apart m =
-    let is_p = piece_is parts arc.a arc.i m.p is m.p_is in
-    let is_q = piece_is parts arc.b arc.j m.q is m.q_is in
-    let at_v = (meets_by_facets_lemma m.p m.q v is_p is_q).0 m.holds in
-    record {
-      p = m.p;
-      q = m.q;
-      p_is = m.p_is;
-      q_is = m.q_is;
-      holds = (meets_by_facets_lemma m.p m.q d is_p is_q).1 (λ n f.
-          let wall : IsFacetPlane parts w (canon n) = record { arc = arc; facet = n; a_in = a_in; b_in = b_in; different = apart; is = refl; holds = record { p = m.p; q = m.q; p_is = m.p_is; q_is = m.q_is; holds = f } } in
-          let t = facet_towards d v n (towards_border planes d v border (canon n) (plane_in parts w planes (canon n) are wall)) in
-          positive_back (dot n d) (dot n v) t.down (at_v n f));
-    }
+    meets_where parts d v arc is.each
+    (λ n h. towards_border planes d v border (canon n) (plane_in parts w planes (canon n) are (record { arc = arc; facet = n; a_in = a_in; b_in = b_in; different = apart; is = refl; holds = h }))) m
 
 -- what blocks on the border of a cell blocks in the cell
 pub border_blocks_lemma : (parts : List Part) (w : PartSet) (planes : List V3) (d v : V3) → IsAssembly parts → ArePlanes parts w planes → IsBorder (signs_of planes v) (signs_of planes d)

@@ -1,11 +1,11 @@
 -- The certificate of an outcome is valid.
-use Rattle.std.proofs.Common.{◌≡◌, ◌≢◌, ◌⊎◌, ℕ, zero, suc, ◌+◌, ◌<◌, arith, refl, sym, ap, subst, inl, inr, ⊎_elim, List, [], ◌∷◌, ◌++◌, length, map, All, Contains}
+use Rattle.std.proofs.Common.{◌≡◌, ◌≢◌, ◌⊎◌, pos, ◌<ℤ◌, ℕ, zero, suc, ◌+◌, ◌<◌, arith, refl, sym, ap, subst, inl, inr, ⊎_elim, List, [], ◌∷◌, ◌++◌, length, map, All, Contains}
 use Rattle.std.specs.Prelude.{Some, slice_get}
 use Rattle.std.specs.FinSet as set
 use Rattle.std.proofs.lemmas.List.Elements.{All-cons, All-contains, All-head, All-nil, All-tail, All-weaker}
 use Rattle.staat_vec.specs.declared.vector.V3.{V3}
 use Rattle.staat_vec.specs.Lists.{Lists}
-use Rattle.staat_vec.specs.Vectors.{origin, vector_cmp}
+use Rattle.staat_vec.specs.Vectors.{dot, origin, vector_cmp}
 use Rattle.staat_vec.proofs.Primitives.{IsPrimitive-some}
 use Rattle.staat_vec.proofs.Unique.{sorted_once}
 use Rattle.staat_model.specs.declared.assembly.Part.{Part}
@@ -20,6 +20,8 @@ use Rattle.staat_model.specs.declared.certificate.Body.{Body}
 use Rattle.staat_model.specs.declared.certificate.Body.TheVariants as body
 use Rattle.staat_model.specs.declared.certificate.Certificate.{Certificate}
 use Rattle.staat_model.specs.Assemblies.{HoldsAt, IsAssembly}
+use Rattle.staat_model.specs.Facets.{IsFacet}
+use Rattle.staat_model.specs.Meeting.{Meets}
 use Rattle.staat_model.specs.Bridges.{IsTree}
 use Rattle.staat_model.specs.Certificates.{WalledPlan, walled_leaf, walled_split, nodes_of, unwalled, walled_parts, arc_cmp, outward, inward, AreAllLeaves, HasLine, IsAcross, IsArcWithin, IsBlocked, IsBlocking, IsLeafAt, IsListed, IsStuckSet, IsValidPlan, IsValidRefusal, IsWall, IsWitness, PlanHolds, ReachesAll, RefusalHolds, SplitHolds, SplitsHold}
 use Rattle.staat_model.specs.Certify.{AreLeastWalls, ArePlanNodes, HasLeastWalls, IsBodyOf, IsCertificateOf, IsFacetAway, IsLeastArc, IsRefusalOf, IsWitnessAt, NamesWitness}
@@ -28,7 +30,7 @@ use Rattle.staat_model.specs.Plans.{IsGood, Plan}
 use Rattle.staat_model.specs.Removal.{Blocks, MeetsAlong}
 use Rattle.staat_model.specs.Sets.{Has, IsSubset, below, single}
 use Rattle.staat_model.proofs.Differences.{from_map}
-use Rattle.staat_model.proofs.GraphLemmas.{piece_is}
+use Rattle.staat_model.proofs.GraphLemmas.{at_pieces}
 use Rattle.staat_model.proofs.ListedVertices.{all_listed}
 use Rattle.staat_model.proofs.Members.{All-from_members}
 use Rattle.staat_model.proofs.Orders.{arc_exact, arc_total}
@@ -104,13 +106,7 @@ there_are : (parts : List Part) (d : V3) (arc : Arc) → MeetsAlong parts d arc 
 there_are parts d arc m = (piece_within parts arc.a arc.i m.p m.p_is, piece_within parts arc.b arc.j m.q m.q_is)
 
 blocking : (parts : List Part) (d : V3) (arc : Arc) → IsAssembly parts → MeetsAlong parts d arc → IsBlocking parts d arc
-blocking parts d arc is m = record {
-  p = m.p;
-  q = m.q;
-  p_is = m.p_is;
-  q_is = m.q_is;
-  holds = (meets_by_facets_lemma m.p m.q d (piece_is parts arc.a arc.i m.p is m.p_is) (piece_is parts arc.b arc.j m.q is m.q_is)).0 m.holds;
-}
+blocking parts d arc is m = at_pieces parts arc (λ p q. Meets p q d) (λ p q. (n : V3) → IsFacet p q n → pos 0 <ℤ dot n d) is.each (λ p q p_is q_is is_p is_q meets. (meets_by_facets_lemma p q d is_p is_q).0 meets) m
 
 more_within : (w reached : PartSet) (p : ℕ) → IsSubset reached w → Has w p → IsSubset (set.insert reached p) w
 more_within w reached p within in_w q h = ⊎_elim (λ e. subst (Has w) (sym e) in_w) (λ old. within q old) ((has-insert reached p q).0 h)
