@@ -17,7 +17,7 @@ use Rattle.staat_model.specs.Outcomes.{Serves}
 use Rattle.staat_model.specs.Planes.{axes}
 use Rattle.staat_model.specs.Plans.{IsStuck}
 use Rattle.staat_model.specs.Removal.{MeetsAlong}
-use Rattle.staat_model.proofs.Corners.{HoldsAxes, IsCornerTowards, IsOnBoth, IsTowards, corner_towards, on_both}
+use Rattle.staat_model.proofs.Corners.{IsCornerTowards, axes_held, IsOnBoth, IsTowards, corner_towards, on_both}
 use Rattle.staat_model.proofs.FacetLemmas.{across_crosses}
 use Rattle.staat_model.proofs.GraphLemmas.{meets_where}
 use Rattle.staat_model.proofs.Decisions.{Decided, equal_or}
@@ -34,19 +34,12 @@ pub meets_towards : (parts : List Part) (core : List Arc) (planes : List V3) (d 
 meets_towards parts core planes d v arc each has towards listed m =
     meets_where parts d v arc each (λ n h. towards (canon n) (has.has_facets (canon n) (record { arc = arc; facet = n; listed = listed; is = refl; holds = h }))) m
 
-core_axes : (parts : List Part) (core : List Arc) (planes : List V3) → HasCorePlanes parts core planes → HoldsAxes planes
-core_axes parts core planes has = record {
-  x = has.has_axes (vector (pos 1) (pos 0) (pos 0)) (0, omega arith, refl);
-  y = has.has_axes (vector (pos 0) (pos 1) (pos 0)) (1, omega arith, refl);
-  z = has.has_axes (vector (pos 0) (pos 0) (pos 1)) (2, omega arith, refl);
-}
-
 -- what is free along some direction is free along a vertex, whatever the sides are
 pub free_at_vertex_lemma : (parts : List Part) (core : List Arc) (planes : List V3) (s r : PartSet) (d : V3)
     → All IsPart parts → HasCorePlanes parts core planes → d ≢ origin
     → IsFreeInCore parts core s r d → IsFreeAtVertex parts core planes s r
 free_at_vertex_lemma parts core planes s r d each has some free =
-    let (v, c) = corner_towards planes d (core_axes parts core planes has) some in
+    let (v, c) = corner_towards planes d (axes_held planes has.has_axes) some in
     let on = on_both v c.g c.h c.independent c.is in record {
       v = v;
       vertex = record {
@@ -80,19 +73,12 @@ crossing_on g d v planes some on c = go (equal_or vector_cmp vector_total vector
     go (inl p) (inr n) = crossing_at g planes v c.h o.primitive on o.on_h c.h_in n
     go (inl p) (inl q) = absurd (c.independent (parallel_cross g c.g c.h some p q))
 
-with_plane : (g : V3) (planes : List V3) → HoldsAxes planes → HoldsAxes (g ∷ planes)
-with_plane g planes axes = record {
-  x = Contains-there g (vector (pos 1) (pos 0) (pos 0)) planes axes.x;
-  y = Contains-there g (vector (pos 0) (pos 1) (pos 0)) planes axes.y;
-  z = Contains-there g (vector (pos 0) (pos 0) (pos 1)) planes axes.z;
-}
-
 -- what is free along some direction on the plane of g is free along a crossing of it
 pub free_at_crossing_lemma : (parts : List Part) (core : List Arc) (planes : List V3) (g : V3) (s r : PartSet) (d : V3)
     → All IsPart parts → HasCorePlanes parts core planes → g ≢ origin → d ≢ origin → dot g d ≡ pos 0
     → IsFreeInCore parts core s r d → IsFreeAtCrossing parts core planes g s r
 free_at_crossing_lemma parts core planes g s r d each has g_some some on free =
-    let (v, c) = corner_towards (g ∷ planes) d (with_plane g planes (core_axes parts core planes has)) some in
+    let (v, c) = corner_towards (g ∷ planes) d (axes_held (g ∷ planes) (λ axis c. Contains-there g axis planes (has.has_axes axis c))) some in
     let t = c.towards g (Contains-front g planes) in
     let on_v : dot g v ≡ pos 0 = zero_from_bounds (dot g v) (t.up (zero_nonneg (dot g d) on)) (t.down (zero_nonpositive (dot g d) on)) in record {
       v = v;

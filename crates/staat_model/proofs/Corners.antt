@@ -1,5 +1,5 @@
 -- Some crossing of planes that hold the axes lies on the border of the cell of each direction.
-use Rattle.std.proofs.Common.{◌≡◌, ◌≢◌, ◌∙◌, ap, sym, refl, subst, pos, ◌≤ℤ◌, ◌⊎◌, inl, inr, List, [], ◌∷◌, ◌++◌, map, Contains}
+use Rattle.std.proofs.Common.{◌≡◌, ◌≢◌, ◌∙◌, ap, arith, sym, refl, subst, pos, ◌≤ℤ◌, ◌⊎◌, inl, inr, List, [], ◌∷◌, ◌++◌, map, Contains}
 use Rattle.std.proofs.lemmas.Int.{by_lt_z}
 use Rattle.std.proofs.lemmas.List.Elements.{All-contains, Contains-append_cases, Contains-append_left, Contains-append_right}
 use Rattle.staat_vec.specs.declared.vector.V3.{V3}
@@ -7,6 +7,7 @@ use Rattle.staat_vec.specs.Vectors.{vector, dot, cross, negative, origin}
 use Rattle.staat_vec.specs.Primitives.{IsPrimitive, primitive}
 use Rattle.staat_vec.proofs.VecRing.{crossE, negativeE, values, v0, v1, ring3, negative_dot, dot_cross_left, dot_cross_right, dot_negative}
 use Rattle.staat_vec.proofs.Primitives.{IsPrimitive-negative, primitive-is, primitive-negative}
+use Rattle.staat_model.specs.Planes.{axes}
 use Rattle.staat_model.specs.Cones.{IsAbove, HasAxes, HasEither, IsCrossing}
 use Rattle.staat_model.proofs.CornerLemmas.{across_primitive, corner_lemma}
 use Rattle.staat_model.proofs.Decisions.{kept, le_or}
@@ -109,6 +110,9 @@ pub record HoldsAxes (gs : List V3) : Type 0 where
   pub x : Contains gs (vector (pos 1) (pos 0) (pos 0))
   pub y : Contains gs (vector (pos 0) (pos 1) (pos 0))
   pub z : Contains gs (vector (pos 0) (pos 0) (pos 1))
+
+pub axes_held : (gs : List V3) → ((axis : V3) → Contains axes axis → Contains gs axis) → HoldsAxes gs
+axes_held gs f = record { x = f _ (0, omega arith, refl); y = f _ (1, omega arith, refl); z = f _ (2, omega arith, refl) }
 
 either : (d axis : V3) (gs : List V3) (c : Conditions d gs) → Contains gs axis → HasEither c.cs axis
 either d axis gs c in_gs =

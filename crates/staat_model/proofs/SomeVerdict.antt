@@ -234,13 +234,8 @@ root_of parts w is = elim (below_or (Has w) (member_or w) (length parts)) [
 ]
 
 sets_or : (s t : PartSet) → Decided (s ≡ t)
-sets_or s t = elim (subset_or s t) [
-  | inr not ↦ inr (λ e. not (λ q h. subst (λ (z : PartSet). Has z q) e h))
-  | inl f ↦ (elim (subset_or t s) [
-    | inr not ↦ inr (λ e. not (λ q h. subst (λ (z : PartSet). Has z q) (sym e) h))
-    | inl g ↦ inl (same_members s t f g)
-  ])
-]
+sets_or s t = carried (λ h. same_members s t h.0 h.1) (λ e. ((λ q h. subst (λ (z : PartSet). Has z q) e h), λ q h. subst (λ (z : PartSet). Has z q) (sym e) h))
+    (both_or (subset_or s t) (subset_or t s))
 
 reaches_or : (w reached : PartSet) (pairs : List (ℕ × ℕ)) → Decided (ReachesAll w reached pairs)
 reaches_or w reached [] = sets_or reached w

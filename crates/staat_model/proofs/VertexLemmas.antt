@@ -17,7 +17,7 @@ use Rattle.staat_model.specs.Plans.{IsStuck}
 use Rattle.staat_model.specs.Planes.{ArePlanes, axes, vertices, crossings}
 use Rattle.staat_model.specs.Cells.{signs_of, IsBorder}
 use Rattle.staat_model.specs.Borders.{HasBorderVertex, HasFreeVertex}
-use Rattle.staat_model.proofs.Corners.{HoldsAxes, IsSame, corner_towards, on_both}
+use Rattle.staat_model.proofs.Corners.{HoldsAxes, IsSame, axes_held, corner_towards, on_both}
 use Rattle.staat_model.proofs.RestrictLemmas.{rest_apart, rest_within}
 use Rattle.staat_model.proofs.GraphLemmas.{axis_in, border_towards, arc_from_border}
 use Rattle.staat_vec.proofs.Unique.{Contains-front}
@@ -50,11 +50,7 @@ in_vertices (m ∷ gs) g h v (suc k, lt, e) (suc j, lt2, e2) some same = Contain
 -- ---- a vertex on the border
 
 pub holds_axes : (parts : List Part) (w : PartSet) (planes : List V3) → ArePlanes parts w planes → HoldsAxes planes
-holds_axes parts w planes are = record {
-  x = axis_in parts w planes (vector (pos 1) (pos 0) (pos 0)) are (0, omega arith, refl);
-  y = axis_in parts w planes (vector (pos 0) (pos 1) (pos 0)) are (1, omega arith, refl);
-  z = axis_in parts w planes (vector (pos 0) (pos 0) (pos 1)) are (2, omega arith, refl);
-}
+holds_axes parts w planes are = axes_held planes (λ axis c. axis_in parts w planes axis are c)
 
 pub same_some : (v f : V3) → IsSame v f → f ≢ origin → v ≢ origin
 same_some v f (inl p) some e = some (sym p ∙ e)
