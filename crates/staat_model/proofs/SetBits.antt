@@ -14,7 +14,7 @@ use Rattle.staat_model.specs.Bits.{members_below, set_of_word}
 use Rattle.staat_model.specs.SetFacts.{contains-members_below, contains-set_of_word}
 use Rattle.staat_model.specs.Sets.{Has, below, single}
 use Rattle.staat_vec.proofs.Naturals.{lt_or_le, same_or}
-use Rattle.staat_model.proofs.SetMembers.{bit_has, has-single, has_bit}
+use Rattle.staat_model.proofs.SetMembers.{bit_has, bit_has_low, has-difference, has-single, has_bit}
 use Rattle.staat_model.proofs.SetWords.{same_members}
 
 same : (s t : set.FinSet nat_cmp) → ((q : ℕ) → set.contains s q ≡ set.contains t q) → s ≡ t
@@ -36,24 +36,22 @@ contains-word bits p lt =
     let inside : nat_lt p 32 ≡ true = grind (arith, nat_tests) in
     ap (λ n. nat_eq n 1) low ∙ sym (contains-set_of_word bits p ∙ ap (λ t. t && (bit_at bits p == 1)) inside)
 
-apart : (l : Bool) (a b : ℕ) → a < 2 → b < 2 → (l && (min a (1 - b) == 1)) ≡ ((l && (a == 1)) && not (l && (b == 1)))
-apart l a b la lb = grind (arith, nat_tests)
-
-clear_below : (a b q : ℕ) → b < 2 ^ 32 → (nat_lt q 32 && (bit_at (bit_and a (4294967295 - b)) q == 1)) ≡ (nat_lt q 32 && (min (bit_at a q) (1 - bit_at b q) == 1))
-clear_below a b q small = by_test (nat_lt q 32) refl
-  where
-    by_test : (t : Bool) → nat_lt q 32 ≡ t → (t && (bit_at (bit_and a (4294967295 - b)) q == 1)) ≡ (t && (min (bit_at a q) (1 - bit_at b q) == 1))
-    by_test true is =
-        let lt : q < 32 = grind (arith, nat_tests) in
-        ap (λ n. n == 1) (bit_at_and a (4294967295 - b) q ∙ ap (min (bit_at a q)) (bit_at_not w32 b q small lt))
-    by_test false is = refl
-
 pub set_of_word-without : (a b : ℕ) → b < 2 ^ 32 → set_of_word (bit_and a (4294967295 - b)) ≡ set.difference (set_of_word a) (set_of_word b)
-set_of_word-without a b small = same _ _ (λ q.
-    contains-set_of_word (bit_and a (4294967295 - b)) q
-    ∙ clear_below a b q small
-    ∙ apart (nat_lt q 32) (bit_at a q) (bit_at b q) (bit_at-lt a q) (bit_at-lt b q)
-    ∙ sym (set.contains-difference nat_cmp_total (set_of_word a) (set_of_word b) q ∙ (λ i. contains-set_of_word a q i && not (contains-set_of_word b q i))))
+set_of_word-without a b small = same_members (set_of_word (bit_and a (4294967295 - b))) (set.difference (set_of_word a) (set_of_word b))
+    (λ q h.
+        let (lt, one) = has_bit (bit_and a (4294967295 - b)) q h in
+        let m = left q lt in
+        (has-difference (set_of_word a) (set_of_word b) q).1 (bit_has_low a q lt (omega (arith, m, one, bit_at-lt a q)), λ in_b. let other = (has_bit b q in_b).1 in omega (arith, m, one, other)))
+    (λ q h.
+        let t = (has-difference (set_of_word a) (set_of_word b) q).0 h in
+        let (lt, one) = has_bit a q t.0 in
+        bit_has_low (bit_and a (4294967295 - b)) q lt (elim (same_or (bit_at b q) 1) [
+          | inl in_b ↦ absurd (t.1 (bit_has_low b q lt in_b))
+          | inr out ↦ omega (arith, left q lt, one, out, bit_at-lt b q)
+        ]))
+  where
+    left : (q : ℕ) → q < 32 → bit_at (bit_and a (4294967295 - b)) q ≡ min (bit_at a q) (1 - bit_at b q)
+    left q lt = bit_at_and a (4294967295 - b) q ∙ ap (min (bit_at a q)) (bit_at_not w32 b q small lt)
 
 -- a power of two has one bit
 pub set_of_word-pow : (p : ℕ) → p < 32 → set_of_word (1 * 2 ^ p % 4294967296) ≡ single p

@@ -23,10 +23,11 @@ has_bit bits q h =
     let b : (bit_at bits q == 1) ≡ true = t.1 in
     (grind (arith, nat_tests), grind (arith, nat_tests))
 
+pub bit_has_low : (bits q : ℕ) → q < 32 → bit_at bits q ≡ 1 → Has (set_of_word bits) q
+bit_has_low bits q low b = contains-set_of_word bits q ∙ grind (arith, nat_tests)
+
 pub bit_has : (bits q : ℕ) → bits < 2 ^ 32 → bit_at bits q ≡ 1 → Has (set_of_word bits) q
-bit_has bits q small b =
-    let low : q < 32 = elim (lt_or_le q 32) [ inl lt ↦ lt | inr le ↦ absurd (let z = bit_at_above bits 32 q small le in omega (arith, z, b)) ] in
-    contains-set_of_word bits q ∙ grind (arith, nat_tests)
+bit_has bits q small b = bit_has_low bits q (elim (lt_or_le q 32) [ inl lt ↦ lt | inr le ↦ absurd (let z = bit_at_above bits 32 q small le in omega (arith, z, b)) ]) b
 
 pub has_of : (bits : ℕ) (s : PartSet) → set_of_word bits ≡ s → (q : ℕ) → Has s q → (q < 32) × (bit_at bits q ≡ 1)
 has_of bits s e q h = has_bit bits q (subst (λ t. Has t q) (sym e) h)
