@@ -7,7 +7,7 @@ use lib.IntN.{+ℤ_invr}
 use Rattle.staat_vec.specs.declared.vector.V3.{V3}
 use Rattle.staat_vec.specs.Vectors.{dot, plus, times, origin}
 use Rattle.staat_vec.proofs.Ring.{Ex, at, num, ◌⊕◌, ◌⊖◌, ◌⊗◌, opp, ring, zero-mul_ℤ}
-use Rattle.staat_vec.proofs.VecRing.{VEx, dotE, plusE, timesE, originE, values, v0, v1, v2, v3, scale, same_vector, ring3}
+use Rattle.staat_vec.proofs.VecRing.{VEx, dotE, plusE, timesE, originE, values, v0, v1, v2, v3, scale, ring3}
 use Rattle.staat_vec.proofs.Order.{as_nat, as_negative, coefficient_nonneg, negative_is, nonneg_is, nonneg_pos}
 use Rattle.staat_model.specs.Meeting.{mix}
 use Rattle.staat_model.specs.Cones.{IsAbove, IsCombined}

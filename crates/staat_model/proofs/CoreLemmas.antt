@@ -2,7 +2,7 @@
 use Rattle.std.proofs.Common.{◌≡◌, ◌≢◌, zero, suc, ◌≤◌, refl, sym, ap, ◌∙◌, arith, pos, inl, inr, ⊎_elim, List, ◌∷◌, All, Contains}
 use Rattle.std.specs.FinSet as set
 use Rattle.staat_vec.specs.declared.vector.V3.{V3}
-use Rattle.staat_vec.specs.Vectors.{vector, dot, cross, origin, vector_cmp}
+use Rattle.staat_vec.specs.Vectors.{dot, cross, origin, vector_cmp}
 use Rattle.staat_vec.proofs.VectorOrder.{vector_exact, vector_total}
 use Rattle.staat_vec.specs.Primitives.{IsPrimitive, primitive, canon}
 use Rattle.staat_vec.proofs.VecRing.{cross_self, cross_turned}
@@ -11,10 +11,9 @@ use Rattle.staat_model.specs.declared.assembly.Part.{Part}
 use Rattle.staat_model.specs.declared.set.PartSet.{PartSet}
 use Rattle.staat_model.specs.declared.certificate.Arc.{Arc}
 use Rattle.staat_model.specs.Assemblies.{IsPart}
-use Rattle.staat_model.specs.Cores.{HasCorePlanes, HoldsAtCrossings, HoldsAtVertices, HoldsTogether, IsCorePlane}
+use Rattle.staat_model.specs.Cores.{HasCorePlanes, HoldsAtCrossings, HoldsAtVertices, HoldsTogether}
 use Rattle.staat_model.specs.Cores.{IsCrossingOn, IsFreeAtCrossing, IsFreeAtVertex, IsFreeInCore}
 use Rattle.staat_model.specs.Outcomes.{Serves}
-use Rattle.staat_model.specs.Planes.{axes}
 use Rattle.staat_model.specs.Plans.{IsStuck}
 use Rattle.staat_model.specs.Removal.{MeetsAlong}
 use Rattle.staat_model.proofs.Corners.{IsCornerTowards, axes_held, IsOnBoth, IsTowards, corner_towards, on_both}

@@ -182,26 +182,32 @@ module _ {X : Type 0} (cmp : X → X → Ordering) (o : IsTotalOrder cmp) (exact
       behind z c = All-contains (λ u. cmp y u ≡ Less) ys z (All-from_recursion (λ u. cmp y u ≡ Less) ys sorted.0) c
 
       go : (r : Ordering) → cmp x y ≡ r → (zs : List X) × Lists cmp (λ z. (z ≡ x) ⊎ Contains ys z) zs → (zs : List X) × Lists cmp (λ z. (z ≡ x) ⊎ Contains (y ∷ ys) z) zs
-      go Less e t = (x ∷ y ∷ ys, record {
-        ascending = ((e, by_recursion (λ z. cmp x z ≡ Less) ys (λ z c. o.trans x y z e (behind z c))), sorted);
-        each = Contains-cases x (y ∷ ys);
-        all = joined x (y ∷ ys);
-      })
+      go Less e t = (
+        x ∷ y ∷ ys,
+        record {
+          ascending = ((e, by_recursion (λ z. cmp x z ≡ Less) ys (λ z c. o.trans x y z e (behind z c))), sorted);
+          each = Contains-cases x (y ∷ ys);
+          all = joined x (y ∷ ys);
+        },
+      )
       go Equal e t = (y ∷ ys, record { ascending = sorted; each = λ z c. inr c; all = λ z h. ⊎_elim (λ is. joined y ys z (inl (is ∙ exact x y e))) (λ c. c) h })
-      go Greater e (zs, t) = (y ∷ zs, record {
-        ascending = (
-          by_recursion (λ z. cmp y z ≡ Less) zs (λ z c. ⊎_elim (λ same. subst (λ u. cmp y u ≡ Less) (sym same) (o.antisymm y x ∙ ap ordering_reverse e)) (behind z) (t.each z c)),
-          t.ascending,
-        );
-        each = λ z c. elim (Contains-cases y zs z c) [
-          | inl same ↦ inr (joined y ys z (inl same))
-          | inr later ↦ ⊎_elim (λ is. inl is) (λ old. inr (Contains-later y ys z old)) (t.each z later)
-        ];
-        all = λ z h. elim h [
-          | inl is ↦ Contains-later y zs z (t.all z (inl is))
-          | inr c ↦ joined y zs z (⊎_elim (λ same. inl same) (λ later. inr (t.all z (inr later))) (Contains-cases y ys z c))
-        ];
-      })
+      go Greater e (zs, t) = (
+        y ∷ zs,
+        record {
+          ascending = (
+            by_recursion (λ z. cmp y z ≡ Less) zs (λ z c. ⊎_elim (λ same. subst (λ u. cmp y u ≡ Less) (sym same) (o.antisymm y x ∙ ap ordering_reverse e)) (behind z) (t.each z c)),
+            t.ascending,
+          );
+          each = λ z c. elim (Contains-cases y zs z c) [
+            | inl same ↦ inr (joined y ys z (inl same))
+            | inr later ↦ ⊎_elim (λ is. inl is) (λ old. inr (Contains-later y ys z old)) (t.each z later)
+          ];
+          all = λ z h. elim h [
+            | inl is ↦ Contains-later y zs z (t.all z (inl is))
+            | inr c ↦ joined y zs z (⊎_elim (λ same. inl same) (λ later. inr (t.all z (inr later))) (Contains-cases y ys z c))
+          ];
+        },
+      )
 
   -- the members of a list in order
   pub sorted : (xs : List X) → (ys : List X) × Lists cmp (Contains xs) ys

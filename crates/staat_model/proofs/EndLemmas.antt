@@ -16,7 +16,7 @@ use Rattle.staat_vec.proofs.Ring.{ring}
 use Rattle.staat_model.specs.declared.tree.Kind.TheVariants.{Edge}
 use Rattle.staat_vec.specs.Lists.{Lists}
 use Rattle.staat_model.specs.Planes.{vertices, crossings}
-use Rattle.staat_model.specs.Cells.{signs_of, kind_of, IsBorder, IsCell, IsEnd, IsEdgeSum}
+use Rattle.staat_model.specs.Cells.{signs_of, kind_of, IsCell, IsEnd, IsEdgeSum}
 use Rattle.staat_vec.proofs.VectorOrder.{vector_exact, vector_total, vector_not_below_itself}
 use Rattle.staat_model.proofs.Corners.{HoldsAxes, IsSame, IsCornerTowards}
 use Rattle.staat_model.proofs.GraphLemmas.{border_at, border_towards, towards_border}

@@ -130,8 +130,8 @@ pub meets_where : (parts : List Part) (d v : V3) (arc : Arc) → All IsPart part
 meets_where parts d v arc each towards m =
     at_pieces parts arc (λ p q. Meets p q v) (λ p q. Meets p q d) each
     (λ p q p_is q_is is_p is_q meets. (meets_by_facets_lemma p q d is_p is_q).1 (λ n f.
-        let t = facet_towards d v n (towards n (record { p = p; q = q; p_is = p_is; q_is = q_is; holds = f })) in
-        positive_back (dot n d) (dot n v) t.down ((meets_by_facets_lemma p q v is_p is_q).0 meets n f))) m
+    let t = facet_towards d v n (towards n (record { p = p; q = q; p_is = p_is; q_is = q_is; holds = f })) in
+    positive_back (dot n d) (dot n v) t.down ((meets_by_facets_lemma p q v is_p is_q).0 meets n f))) m
 
 pub arc_from_border : (parts : List Part) (w : PartSet) (planes : List V3) (d v : V3) (arc : Arc) → IsAssembly parts → ArePlanes parts w planes → IsBorder (signs_of planes v) (signs_of planes d)
     → Has w arc.a → Has w arc.b → arc.a ≢ arc.b → MeetsAlong parts v arc → MeetsAlong parts d arc

@@ -1,11 +1,10 @@
 -- Sums of each number times its vector, and squares of vectors.
-use Rattle.std.proofs.Common.{◌≡◌, ℕ, ◌*◌, ap, ◌∙◌, ℤ, pos, ◌+ℤ◌, ◌*ℤ◌, ◌≤ℤ◌, ◌<ℤ◌, ◌⊎◌, inl, inr, List, [], ◌∷◌, map, arith}
-use Rattle.std.proofs.lemmas.Int.{ints}
+use Rattle.std.proofs.Common.{◌≡◌, ℕ, ◌*◌, ap, ◌∙◌, ℤ, pos, ◌+ℤ◌, ◌*ℤ◌, ◌≤ℤ◌, ◌<ℤ◌, ◌⊎◌, inl, inr, List, [], ◌∷◌, map}
 use Rattle.std.proofs.lemmas.List.Elements.{All-head, All-tail}
 use Rattle.staat_vec.specs.declared.vector.V3.{V3}
 use Rattle.staat_vec.specs.Vectors.{dot, plus, times, origin, vector_cmp}
 use Rattle.staat_vec.proofs.Ring.{at, num, ◌⊕◌, ◌⊗◌, ring}
-use Rattle.staat_vec.proofs.VecRing.{dotE, plusE, timesE, originE, values, v0, v1, v2, scale, same_vector, ring3}
+use Rattle.staat_vec.proofs.VecRing.{dotE, plusE, timesE, originE, values, v0, v1, v2, scale, ring3}
 use Rattle.staat_vec.proofs.Order.{nonneg_is, nonneg_mul, nonneg_pos, nonneg_sum}
 use Rattle.staat_vec.proofs.VectorLaws.{some_square}
 use Rattle.staat_vec.proofs.VectorOrder.{vector_exact, vector_total}

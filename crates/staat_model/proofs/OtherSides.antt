@@ -1,5 +1,5 @@
 -- The rest of a set, seen as the side that moves the other way.
-use Rattle.std.proofs.Common.{List, ap, sym, ◌∙◌, inl, inr, subst, ⊎_elim, ℕ}
+use Rattle.std.proofs.Common.{List, ap, sym, ◌∙◌, subst, ⊎_elim, ℕ}
 use Rattle.std.specs.FinSet as set
 use Rattle.staat_vec.specs.declared.vector.V3.{V3}
 use Rattle.staat_vec.specs.Vectors.{negative}

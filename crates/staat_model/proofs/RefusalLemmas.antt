@@ -1,5 +1,5 @@
 -- A refusal that keeps its rules is right: its set is stuck, and no plan takes all parts apart.
-use Rattle.std.proofs.Common.{◌≡◌, ◌⊎◌, ℕ, pos, ◌<ℤ◌, sym, subst, inl, inr, ⊎_elim, List, [], ◌∷◌, map, length, All, Contains}
+use Rattle.std.proofs.Common.{◌⊎◌, ℕ, pos, ◌<ℤ◌, sym, subst, inl, inr, ⊎_elim, List, [], ◌∷◌, map, length, All, Contains}
 use Rattle.std.specs.FinSet as set
 use Rattle.std.proofs.lemmas.List.Elements.{All-contains}
 use Rattle.staat_vec.specs.declared.vector.V3.{V3}

@@ -1,7 +1,7 @@
 -- What the operations on words do to the sets that they stand for.
 use Rattle.std.proofs.Math.Nat.{mod-eq_of_lt, mod-one, pow-le-pow_right}
-use Rattle.std.proofs.Common.{◌≢◌, one-mul, ◌≡◌, ℕ, zero, suc, ◌+◌, ◌<◌, ◌≤◌, ◌-◌, ◌*◌, ◌/◌, ◌%◌, ◌^◌, max, min, Bool, true, arith, ap, sym, subst, inl, inr, ◌∙◌}
-use Rattle.std.specs.Prelude.{bit_and, bit_or, if◌then◌else◌, nat_eq, nat_lt, ◌==◌, ◌&&◌, ◌||◌, ◌↔◌, not, false, refl}
+use Rattle.std.proofs.Common.{one-mul, ◌≡◌, ℕ, zero, suc, ◌+◌, ◌<◌, ◌≤◌, ◌-◌, ◌*◌, ◌/◌, ◌%◌, ◌^◌, max, min, Bool, true, arith, ap, sym, subst, inl, inr, ◌∙◌}
+use Rattle.std.specs.Prelude.{bit_and, bit_or, if◌then◌else◌, nat_eq, nat_lt, ◌==◌, ◌&&◌, ◌||◌, ◌↔◌, false, refl}
 use Rattle.std.specs.Int.{bit_at, w32}
 use Rattle.std.proofs.lemmas.Bool.Decides.{nat_tests}
 use Rattle.std.proofs.lemmas.Nat.{and_mask, pow_below, pow_pos, mod-pow-add, ones_cat}
@@ -39,16 +39,16 @@ contains-word bits p lt =
 pub set_of_word-without : (a b : ℕ) → b < 2 ^ 32 → set_of_word (bit_and a (4294967295 - b)) ≡ set.difference (set_of_word a) (set_of_word b)
 set_of_word-without a b small = same_members (set_of_word (bit_and a (4294967295 - b))) (set.difference (set_of_word a) (set_of_word b))
     (λ q h.
-        let (lt, one) = has_bit (bit_and a (4294967295 - b)) q h in
-        let m = left q lt in
-        (has-difference (set_of_word a) (set_of_word b) q).1 (bit_has_low a q lt (omega (arith, m, one, bit_at-lt a q)), λ in_b. let other = (has_bit b q in_b).1 in omega (arith, m, one, other)))
+    let (lt, one) = has_bit (bit_and a (4294967295 - b)) q h in
+    let m = left q lt in
+    (has-difference (set_of_word a) (set_of_word b) q).1 (bit_has_low a q lt (omega (arith, m, one, bit_at-lt a q)), λ in_b. let other = (has_bit b q in_b).1 in omega (arith, m, one, other)))
     (λ q h.
-        let t = (has-difference (set_of_word a) (set_of_word b) q).0 h in
-        let (lt, one) = has_bit a q t.0 in
-        bit_has_low (bit_and a (4294967295 - b)) q lt (elim (same_or (bit_at b q) 1) [
-          | inl in_b ↦ absurd (t.1 (bit_has_low b q lt in_b))
-          | inr out ↦ omega (arith, left q lt, one, out, bit_at-lt b q)
-        ]))
+    let t = (has-difference (set_of_word a) (set_of_word b) q).0 h in
+    let (lt, one) = has_bit a q t.0 in
+    bit_has_low (bit_and a (4294967295 - b)) q lt (elim (same_or (bit_at b q) 1) [
+      | inl in_b ↦ absurd (t.1 (bit_has_low b q lt in_b))
+      | inr out ↦ omega (arith, left q lt, one, out, bit_at-lt b q)
+    ]))
   where
     left : (q : ℕ) → q < 32 → bit_at (bit_and a (4294967295 - b)) q ≡ min (bit_at a q) (1 - bit_at b q)
     left q lt = bit_at_and a (4294967295 - b) q ∙ ap (min (bit_at a q)) (bit_at_not w32 b q small lt)

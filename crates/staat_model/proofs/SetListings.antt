@@ -1,5 +1,5 @@
 -- The set of the numbers in a list has these members.
-use Rattle.std.proofs.Common.{◌≡◌, ◌⊎◌, ◌↔◌, inl, inr, ⊎_elim, ℕ, List, [], ◌∷◌, Contains}
+use Rattle.std.proofs.Common.{◌↔◌, inl, inr, ⊎_elim, ℕ, List, [], ◌∷◌, Contains}
 use Rattle.staat_vec.proofs.Unique.{Contains-cases, Contains-nothing}
 use Rattle.staat_model.specs.SetLists.{set_of}
 use Rattle.staat_model.specs.Sets.{Has}

@@ -1,5 +1,5 @@
 -- The members of a set and the bits of its word.
-use Rattle.std.proofs.Common.{◌≡◌, ℕ, zero, suc, ◌<◌, ◌≤◌, ◌^◌, Bool, true, false, arith, ap, sym, ◌∙◌, subst, refl, inl, inr, ◌⊎◌, true≢false, ⊎_elim, eq-eqb, eqb-true}
+use Rattle.std.proofs.Common.{◌≡◌, ℕ, ◌<◌, ◌^◌, Bool, true, false, arith, ap, sym, ◌∙◌, subst, refl, inl, inr, ◌⊎◌, true≢false, ⊎_elim, eq-eqb, eqb-true}
 use Rattle.std.specs.Prelude.{nat_eq, nat_lt, ◌==◌, ◌&&◌, ◌||◌, not}
 use Rattle.std.specs.Int.{bit_at, w32, trailing_zeros}
 use Rattle.std.proofs.lemmas.Bool.Decides.{nat_tests}

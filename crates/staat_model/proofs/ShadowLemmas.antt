@@ -1,5 +1,5 @@
 -- A plane between two pieces that a direction does not lead through, and pieces whose shadows lie apart.
-use Rattle.std.proofs.Common.{◌≡◌, ◌≢◌, zero, suc, ap, sym, ◌∙◌, arith, ℤ, pos, ◌-ℤ◌, ◌≤ℤ◌}
+use Rattle.std.proofs.Common.{◌≡◌, ◌≢◌, ap, sym, ◌∙◌, arith, ℤ, pos, ◌-ℤ◌, ◌≤ℤ◌}
 use Rattle.std.proofs.Common.{◌⊎◌, inl, inr, List, All, Contains}
 use Rattle.std.proofs.lemmas.Int.{ints}
 use Rattle.std.proofs.lemmas.List.Elements.{All-contains}

@@ -8,16 +8,12 @@ use Rattle.staat_vec.specs.declared.vector.V3.{V3}
 use Rattle.staat_vec.specs.Vectors.{origin, vector_cmp}
 use Rattle.staat_vec.specs.Primitives.{IsCanon}
 use Rattle.staat_model.specs.declared.certificate.Dir.{Dir}
-use Rattle.staat_model.specs.declared.certificate.Node.TheVariants.{Leaf}
-use Rattle.staat_model.specs.declared.certificate.Body.TheVariants.{Plan}
-use Rattle.staat_model.specs.declared.certificate.Certificate.{Certificate}
 use Rattle.staat_model.specs.declared.certificate.Witness.{Witness}
-use Rattle.staat_model.specs.Certificates.{HasLine, IsListed, walled_leaf}
+use Rattle.staat_model.specs.Certificates.{HasLine, IsListed}
 use Rattle.staat_model.specs.Certify.{IsDirection}
 use Rattle.staat_limits.specs.Versions.{IsVersion}
-use Rattle.staat_model.specs.Lines.{IsInBounds}
 use Rattle.staat_model.specs.Planes.{axes, vertices}
-use Rattle.staat_model.specs.Texts.{IsNodeInOrder, IsReading, IsRefusalInOrder, IsWitnessInOrder, lines_of, text_of, whole}
+use Rattle.staat_model.specs.Texts.{IsReading, IsRefusalInOrder, IsWitnessInOrder, text_of, whole}
 use Rattle.staat_model.proofs.Examples.{v, m, axis_vertices, six, smallest, smallest_form}
 
 -- one of each two opposite vertices of the axes, ascending, each with the first witness

@@ -1,9 +1,9 @@
 -- A vertex of the planes lies on the border of each cell, and a side that is free along some direction is free along a vertex.
-use Rattle.std.proofs.Common.{◌≡◌, ◌≢◌, ◌≤◌, zero, suc, refl, sym, ap, subst, ◌∙◌, arith, pos, inl, inr, List, [], ◌∷◌, Contains}
+use Rattle.std.proofs.Common.{◌≡◌, ◌≢◌, ◌≤◌, zero, suc, sym, ap, subst, ◌∙◌, arith, inl, inr, List, [], ◌∷◌, Contains}
 use Rattle.std.specs.FinSet as set
 use Rattle.std.proofs.lemmas.List.Elements.{Contains-append_left, Contains-append_right}
 use Rattle.staat_vec.specs.declared.vector.V3.{V3}
-use Rattle.staat_vec.specs.Vectors.{vector, cross, negative, origin}
+use Rattle.staat_vec.specs.Vectors.{cross, negative, origin}
 use Rattle.staat_vec.specs.Primitives.{primitive}
 use Rattle.staat_vec.proofs.VecRing.{cross_self, cross_turned}
 use Rattle.staat_vec.proofs.Primitives.{IsPrimitive-some, primitive-negative}
@@ -20,8 +20,6 @@ use Rattle.staat_model.specs.Borders.{HasBorderVertex, HasFreeVertex}
 use Rattle.staat_model.proofs.Corners.{HoldsAxes, IsSame, axes_held, corner_towards, on_both}
 use Rattle.staat_model.proofs.RestrictLemmas.{rest_apart, rest_within}
 use Rattle.staat_model.proofs.GraphLemmas.{axis_in, border_towards, arc_from_border}
-use Rattle.staat_vec.proofs.Unique.{Contains-front}
-use Rattle.staat_vec.proofs.ListLaws.{Contains-there}
 
 -- ---- the list of vertices holds each crossing and its negative
 

@@ -1,7 +1,5 @@
-use Rattle.std.proofs.Common.{subst, sym, ◌∙◌}
+use Rattle.std.proofs.Common.{◌∙◌}
 use Rattle.std.specs.FinSet as set
-use Rattle.staat_model.specs.Sets.{Has}
-use Rattle.staat_model.specs.declared.set.PartSet.{PartSet}
 use Rattle.staat_model.proofs.SetBits.{set_of_word-and}
 use Rattle.staat_model.proofs.SetMembers.{has-intersection}
 use Rattle.staat_model.proofs.set.PartSet.both.Goals as goal

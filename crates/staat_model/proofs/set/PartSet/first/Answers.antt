@@ -1,7 +1,5 @@
-use Rattle.std.proofs.Common.{ap, subst, sym, ◌∙◌}
+use Rattle.std.proofs.Common.{ap, ◌∙◌}
 use Rattle.staat_model.specs.Bits.{set_of_word}
-use Rattle.staat_model.specs.Sets.{Has}
-use Rattle.staat_model.specs.declared.set.PartSet.{PartSet}
 use Rattle.staat_model.proofs.SetBits.{first_bits, has-below, set_of_word-ones}
 use Rattle.staat_model.proofs.set.PartSet.first.Goals as goal
 

@@ -1,6 +1,4 @@
 use Rattle.staat_model.proofs.SetMembers.{has-single}
-use Rattle.std.proofs.Common.{subst, sym}
-use Rattle.staat_model.specs.Sets.{Has}
 use Rattle.staat_model.proofs.SetBits.{set_of_word-pow}
 use Rattle.staat_model.proofs.set.PartSet.single.Goals as goal
 

@@ -1,6 +1,4 @@
 use Rattle.staat_model.proofs.SetMembers.{has-union}
-use Rattle.std.proofs.Common.{subst, sym}
-use Rattle.staat_model.specs.Sets.{Has}
 use Rattle.std.proofs.Common.{◌∙◌}
 use Rattle.std.specs.FinSet as set
 use Rattle.staat_model.proofs.SetBits.{set_of_word-or}
