@@ -128,47 +128,6 @@ module _ {X : Type 0} (cmp : X → X → Ordering) (o : IsTotalOrder cmp) (exact
   contains_or [] x = inr (Contains-nothing x)
   contains_or (y ∷ xs) x = carried (joined y xs x) (Contains-cases y xs x) (either_or (equal_or x y) (contains_or xs x))
 
-  pub record LeastIn (P : X → Type 0) (xs : List X) : Type 0 where
-    pub x : X
-    pub listed : Contains xs x
-    pub has : P x
-    pub least : (y : X) → Contains xs y → P y → (y ≡ x) ⊎ (cmp x y ≡ Less)
-
-  -- the least of a list with a property
-  pub least_or : (P : X → Type 0) → ((x : X) → Decided (P x)) → (xs : List X) → LeastIn P xs ⊎ ((y : X) → Contains xs y → P y → ⊥)
-  least_or P f [] = inr (λ y c p. Contains-nothing y c)
-  least_or P f (x ∷ xs) = go (f x) (least_or P f xs)
-    where
-      later_one : (t : LeastIn P xs) → (P x → (x ≡ t.x) ⊎ (cmp t.x x ≡ Less)) → LeastIn P (x ∷ xs)
-      later_one t front = record {
-        x = t.x;
-        listed = Contains-later x xs t.x t.listed;
-        has = t.has;
-        least = λ y c p. elim (Contains-cases x xs y c) [
-          | inl e ↦ subst (λ z. (z ≡ t.x) ⊎ (cmp t.x z ≡ Less)) (sym e) (front (subst P e p))
-          | inr later ↦ t.least y later p
-        ];
-      }
-
-      with_both : P x → (t : LeastIn P xs) → (r : Ordering) → cmp x t.x ≡ r → LeastIn P (x ∷ xs)
-      with_both p t Less e = record {
-        x = x;
-        listed = Contains-front x xs;
-        has = p;
-        least = λ y c q. elim (Contains-cases x xs y c) [
-          | inl same ↦ inl same
-          | inr later ↦ inr (elim (t.least y later q) [ inl same ↦ subst (λ z. cmp x z ≡ Less) (sym same) e | inr lt ↦ o.trans x t.x y e lt ])
-        ];
-      }
-      with_both p t Equal e = later_one t (λ q. inl (exact x t.x e))
-      with_both p t Greater e = later_one t (λ q. inr (o.antisymm t.x x ∙ ap ordering_reverse e))
-
-      go : Decided (P x) → LeastIn P xs ⊎ ((y : X) → Contains xs y → P y → ⊥) → LeastIn P (x ∷ xs) ⊎ ((y : X) → Contains (x ∷ xs) y → P y → ⊥)
-      go (inr n) (inl t) = inl (later_one t (λ p. absurd (n p)))
-      go (inr n) (inr none) = inr (λ y c p. elim (Contains-cases x xs y c) [ inl e ↦ n (subst P e p) | inr later ↦ none y later p ])
-      go (inl p) (inl t) = inl (with_both p t (cmp x t.x) refl)
-      go (inl p) (inr none) = inl (record { x = x; listed = Contains-front x xs; has = p; least = λ y c q. elim (Contains-cases x xs y c) [ inl e ↦ inl e | inr later ↦ absurd (none y later q) ] })
-
   by_recursion : (P : X → Type 0) (xs : List X) → ((x : X) → Contains xs x → P x) → AllByRecursion P xs
   by_recursion P xs f = recursion_from_All P xs (All-from_members P xs f)
 
@@ -223,3 +182,27 @@ module _ {X : Type 0} (cmp : X → X → Ordering) (o : IsTotalOrder cmp) (exact
           all = λ z c. t.1.all z (⊎_elim (λ e. inl e) (λ later. inr (rest.1.all z later)) (Contains-cases x xs z c));
         },
       )
+
+  pub record LeastIn (P : X → Type 0) (xs : List X) : Type 0 where
+    pub x : X
+    pub listed : Contains xs x
+    pub has : P x
+    pub least : (y : X) → Contains xs y → P y → (y ≡ x) ⊎ (cmp x y ≡ Less)
+
+  -- the least of a list with a property: the first of these in order
+  pub least_or : (P : X → Type 0) → ((x : X) → Decided (P x)) → (xs : List X) → LeastIn P xs ⊎ ((y : X) → Contains xs y → P y → ⊥)
+  unfolding IsStrictlySortedBy
+  least_or P f xs = let (ys, from, all) = kept P f xs in let (zs, t) = sorted ys in by_list ys from all zs t
+    where
+      by_list : (ys : List X) → ((y : X) → Contains ys y → Contains xs y × P y) → ((y : X) → Contains xs y → P y → Contains ys y)
+          → (zs : List X) → Lists cmp (Contains ys) zs → LeastIn P xs ⊎ ((y : X) → Contains xs y → P y → ⊥)
+      by_list ys from all [] t = inr (λ y c p. Contains-nothing y (t.all y (all y c p)))
+      by_list ys from all (z ∷ zs) t =
+          let here = from z (t.each z (Contains-front z zs)) in
+          inl (record {
+            x = z;
+            listed = here.0;
+            has = here.1;
+            least = λ y c p. ⊎_elim (λ e. inl e) (λ later. inr (All-contains (λ u. cmp z u ≡ Less) zs y (All-from_recursion (λ u. cmp z u ≡ Less) zs t.ascending.0) later))
+                (Contains-cases z zs y (t.all y (all y c p)));
+          })

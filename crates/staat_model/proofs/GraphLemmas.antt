@@ -121,9 +121,7 @@ facet_towards d v n t = go (canon-either n)
 -- ---- the graph on the border of a cell
 
 pub positive_back : (a b : ℤ) → (a ≤ℤ pos 0 → b ≤ℤ pos 0) → pos 0 <ℤ b → pos 0 <ℤ a
-positive_back (pos zero) b f h = absurd (let low : b ≤ℤ pos 0 = f (omega (arith, ints)) in omega (arith, ints))
-positive_back (pos (suc n)) b f h = omega (arith, ints)
-positive_back (negsuc n) b f h = absurd (let low : b ≤ℤ pos 0 = f (omega (arith, ints)) in omega (arith, ints))
+positive_back a b f h = by_lt_z {P = pos 0 <ℤ a} (pos 0) a (λ up. up) (λ low. let down = f low in absurd (omega (arith, ints, down, h)))
 
 -- what meets along v meets along d, if no facet's plane has v on another side than d
 pub meets_where : (parts : List Part) (d v : V3) (arc : Arc) → All IsPart parts → ((n : V3) → HoldsAt parts arc (λ p q. IsFacet p q n) → IsTowards d v (canon n)) → MeetsAlong parts v arc → MeetsAlong parts d arc
