@@ -1,7 +1,8 @@
 -- A certificate is known by its lines, and its last line stands nowhere else.
 use Rattle.std.proofs.Common.{◌≡◌, ℕ, suc, List, [], ◌∷◌, ◌++◌, map, get_or, All, ap, sym, refl, ◌∙◌, append_assoc}
 use Rattle.std.specs.Prelude.{flat_map}
-use Rattle.std.proofs.lemmas.List.Elements.{All-append, All-cons, All-head, All-map, All-nil, All-tail}
+use Rattle.std.proofs.lemmas.List.Elements.{All-append, All-cons, All-map, All-nil}
+use Rattle.staat_model.proofs.Members.{cut_once}
 use Rattle.staat_model.specs.declared.certificate.Arc.{Arc}
 use Rattle.staat_model.specs.declared.certificate.Sep.{Sep}
 use Rattle.staat_model.specs.declared.certificate.Dir.{Dir}
@@ -188,20 +189,20 @@ front_of c = line.Head c.version ∷ line.Parts c.parts ∷ lines_of_body c.body
 front_goes_on : (c : Certificate) → All GoesOn (front_of c)
 front_goes_on c = All-cons GoesOn (line.Head c.version) (line.Parts c.parts ∷ lines_of_body c.body) tt (All-cons GoesOn (line.Parts c.parts) (lines_of_body c.body) tt (body_goes_on c.body))
 
-nothing_after : (fs gs : List Line) (r : Line) (rest : List Line) → All GoesOn gs → gs ++ line.End ∷ [] ≡ (fs ++ line.End ∷ []) ++ r ∷ rest → ⊥
-nothing_after [] [] r rest h e = cc
-nothing_after [] (g ∷ gs) r rest h e = let same : g ≡ line.End = cc in end_goes g (All-head GoesOn g gs h) same
-  where
-    end_goes : (l : Line) → GoesOn l → l ≡ line.End → ⊥
-    end_goes line.End k q = k
-    end_goes l k q = cc
-nothing_after (f ∷ fs) [] r rest h e = let tail : [] ≡ (fs ++ line.End ∷ []) ++ r ∷ rest = cc in none fs tail
-  where
-    none : (xs : List Line) → [] ≡ (xs ++ line.End ∷ []) ++ r ∷ rest → ⊥
-    none [] q = cc
-    none (x ∷ xs) q = cc
-nothing_after (f ∷ fs) (g ∷ gs) r rest h e = let tail : gs ++ line.End ∷ [] ≡ (fs ++ line.End ∷ []) ++ r ∷ rest = cc in nothing_after fs gs r rest (All-tail GoesOn g gs h) tail
+end_goes : (l : Line) → GoesOn l → l ≡ line.End → ⊥
+end_goes line.End k q = k
+end_goes l k q = cc
 
 -- no certificate's lines go on after another's
 pub lines_end : (c d : Certificate) (r : Line) (rest : List Line) → lines_of d ≡ lines_of c ++ r ∷ rest → ⊥
-lines_end c d r rest e = nothing_after (front_of c) (front_of d) r rest (front_goes_on d) e
+lines_end c d r rest e =
+    let cuts = cut_once GoesOn (λ ls. (t : List Line) × (ls ≡ line.End ∷ t)) (λ l t ends goes. end_goes l goes (let is : l ≡ line.End = first_of ends.1 in is))
+    (front_of d) (front_of c) (line.End ∷ []) (line.End ∷ r ∷ rest) (front_goes_on d) (front_goes_on c) ([], refl) (r ∷ rest, refl)
+    (e ∙ append_assoc (front_of c) (line.End ∷ []) (r ∷ rest)) in
+    nothing cuts.1
+  where
+    first_of : {l : Line} {t u : List Line} → l ∷ t ≡ line.End ∷ u → l ≡ line.End
+    first_of h = cc
+
+    nothing : line.End ∷ [] ≡ line.End ∷ r ∷ rest → ⊥
+    nothing h = cc

@@ -69,8 +69,6 @@ node_nonempty parts t (inr stuck) = elim (nonempty_or t) [
 
 -- two nodes that are apart have two parts
 two_parts : (parts : List Part) (nodes : List PartSet) → AreNodes parts nodes → 2 ≤ set.len (union_of nodes)
-two_parts parts [] are = let two : 2 ≤ length {A = PartSet} [] = are.two in absurd (omega (arith, two))
-two_parts parts (s ∷ []) are = let two : 2 ≤ length (s ∷ []) = are.two in absurd (omega (arith, two))
 two_parts parts (s ∷ t ∷ rest) are =
     let nodes : List PartSet = s ∷ t ∷ rest in
     let s_in : Contains nodes s = Contains-front s (t ∷ rest) in
@@ -83,6 +81,7 @@ two_parts parts (s ∷ t ∷ rest) are =
     apart.0 t (Contains-front t rest) p p_in (subst (Has t) same q_in) in
     let more : 1 < set.len (union_of nodes) = many (union_of nodes) p (within_union nodes s s_in p p_in) other in
     omega (arith, more)
+two_parts parts nodes are = let two = are.two in absurd (omega (arith, two))
 
 pub nodes_stuck_lemma : (parts : List Part) (core : List Arc) (nodes : List PartSet) (planes : List V3)
     → All IsPart parts → AreNodes parts nodes → HasCorePlanes parts core planes

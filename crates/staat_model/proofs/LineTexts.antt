@@ -18,22 +18,11 @@ use Rattle.staat_model.specs.Lines.{members, members_from, vector_numbers, word_
 use Rattle.staat_model.specs.Sets.{Has, IsSubset, below}
 use Rattle.staat_model.specs.Texts.{HasNoFeed, IsLine}
 use Rattle.staat_model.proofs.Decimals.{IsSmall, natural_length, signed_length, signed_plain, signed_same}
+use Rattle.staat_model.proofs.Members.{cut_once}
 use Rattle.staat_model.proofs.SetBits.{has-below}
 use Rattle.staat_model.proofs.SetMembers.{has-empty, has-insert}
 use Rattle.staat_model.proofs.SetWords.{same_members}
 use Rattle.staat_vec.proofs.Truth.{and_split}
-
--- where P holds of each byte in front, and of none with which what follows begins, there is one way to cut
-pub cut_once : (P : ℕ → Type 0) (E : List ℕ → Type 0) → ((b : ℕ) (p : List ℕ) → E (b ∷ p) → P b → ⊥)
-    → (xs ys p q : List ℕ) → All P xs → All P ys → E p → E q → xs ++ p ≡ ys ++ q → (xs ≡ ys) × (p ≡ q)
-cut_once P E clash [] [] p q a b c d e = (refl, e)
-cut_once P E clash [] (y ∷ ys) p q a b c d e = absurd (clash y (ys ++ q) (subst E e c) (All-head P y ys b))
-cut_once P E clash (x ∷ xs) [] p q a b c d e = absurd (clash x (xs ++ p) (subst E (sym e) d) (All-head P x xs a))
-cut_once P E clash (x ∷ xs) (y ∷ ys) p q a b c d e =
-    let first : x ≡ y = cc in
-    let others : xs ++ p ≡ ys ++ q = cc in
-    let rest = cut_once P E clash xs ys p q (All-tail P x xs a) (All-tail P y ys b) c d others in
-    (λ i. first i ∷ rest.0 i, rest.1)
 
 -- there is one way to cut a word from what follows
 pub one_cut : (xs ys p q : List ℕ) → ArePlain xs → ArePlain ys → IsParted p → IsParted q → xs ++ p ≡ ys ++ q → (xs ≡ ys) × (p ≡ q)

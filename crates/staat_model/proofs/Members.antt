@@ -42,3 +42,15 @@ known_by f P one (x ∷ xs) (y ∷ ys) e g h =
 -- a member's part of a sum is at most the whole
 pub member_le : {X : Type 0} (f : X → ℕ) (xs : List X) (x : X) → Contains xs x → f x ≤ sum_by f xs
 member_le f xs x c = All-contains (λ y. f y ≤ sum_by f xs) xs x (λ i d lt. get_or-le-sum_by f xs i d lt) c
+
+-- where P holds of all members in front, and not of one with which what follows begins, there is one way to cut
+pub cut_once : {X : Type 0} (P : X → Type 0) (E : List X → Type 0) → ((x : X) (p : List X) → E (x ∷ p) → P x → ⊥)
+    → (xs ys p q : List X) → All P xs → All P ys → E p → E q → xs ++ p ≡ ys ++ q → (xs ≡ ys) × (p ≡ q)
+cut_once P E clash [] [] p q a b c d e = (refl, e)
+cut_once P E clash [] (y ∷ ys) p q a b c d e = absurd (clash y (ys ++ q) (subst E e c) (All-head P y ys b))
+cut_once P E clash (x ∷ xs) [] p q a b c d e = absurd (clash x (xs ++ p) (subst E (sym e) d) (All-head P x xs a))
+cut_once P E clash (x ∷ xs) (y ∷ ys) p q a b c d e =
+    let first : x ≡ y = cc in
+    let others : xs ++ p ≡ ys ++ q = cc in
+    let rest = cut_once P E clash xs ys p q (All-tail P x xs a) (All-tail P y ys b) c d others in
+    (λ i. first i ∷ rest.0 i, rest.1)

@@ -8,8 +8,8 @@ use Rattle.staat_model.specs.declared.line.Line.{Line}
 use Rattle.staat_model.specs.Lines.{IsInBounds, line_text}
 use Rattle.staat_model.specs.Texts.{lines_of, text_of, IsTextOf, IsWellFormed, BeginsText, HasNoFeed, IsLine, joined, IsBadAfter, IsFirstBadLine, Reading, whole, bad_line, too_short, IsReading}
 use Rattle.staat_model.proofs.CertificateLines.{lines_end, one_by_lines}
-use Rattle.staat_model.proofs.LineTexts.{cut_once, line_front, line_is, line_length, line_whole, one_line, tails_of}
-use Rattle.staat_model.proofs.Members.{all_back, all_front}
+use Rattle.staat_model.proofs.LineTexts.{line_front, line_is, line_length, line_whole, one_line, tails_of}
+use Rattle.staat_model.proofs.Members.{all_back, all_front, cut_once}
 use Rattle.staat_vec.proofs.ListLaws.{long_not_nil}
 
 abbrev pub text : List Line → List ℕ

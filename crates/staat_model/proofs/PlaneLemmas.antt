@@ -44,13 +44,10 @@ sorted_apart (g ∷ gs) normal s = (
 
 -- ---- the axes
 
-one_unit : (d : ℕ) → Prim.Native.Nat.◌∣◌ d 1 → d ≡ 1
-one_unit d h = eq-one_of_dvd-one h
-
 pub axis_normal : (g : V3) → Contains axes g → IsNormal g
-axis_normal g (zero, lt, e) = subst IsNormal e (record { primitive = λ d p q r. one_unit d p; canonical = omega (arith, ints) })
-axis_normal g (suc zero, lt, e) = subst IsNormal e (record { primitive = λ d p q r. one_unit d q; canonical = omega (arith, ints) })
-axis_normal g (suc (suc zero), lt, e) = subst IsNormal e (record { primitive = λ d p q r. one_unit d r; canonical = omega (arith, ints) })
+axis_normal g (zero, lt, e) = subst IsNormal e (record { primitive = λ d p q r. eq-one_of_dvd-one p; canonical = omega (arith, ints) })
+axis_normal g (suc zero, lt, e) = subst IsNormal e (record { primitive = λ d p q r. eq-one_of_dvd-one q; canonical = omega (arith, ints) })
+axis_normal g (suc (suc zero), lt, e) = subst IsNormal e (record { primitive = λ d p q r. eq-one_of_dvd-one r; canonical = omega (arith, ints) })
 axis_normal g (suc (suc (suc k)), lt, e) = absurd (omega arith)
 
 one_zero : ◌≡◌ {A = ℤ} (pos 1) (pos 0) → ⊥
