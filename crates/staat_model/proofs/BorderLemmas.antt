@@ -12,13 +12,13 @@ use Rattle.staat_vec.proofs.Integers.{cancel_positive, positive_pos}
 use Rattle.staat_vec.proofs.VectorLaws.{times_zero_plus, unscaled}
 use Rattle.staat_model.specs.Meeting.{mix}
 use Rattle.staat_model.specs.Cones.{IsAbove, IsSpanning, IsCombined, IsOnBorder, HasTwoBorders}
-use Rattle.staat_model.proofs.Members.{All-from_members, all_back, all_front, both}
+use Rattle.staat_model.proofs.Members.{All-from_members, all_back, all_front, both, joined}
 use Rattle.staat_model.proofs.Mixes.{mix_above, dot_step}
 use Rattle.staat_model.proofs.Alternative.{IsSeparated, alternative, combine_lemma}
 use Rattle.staat_model.proofs.Tilt.{dot_pair}
 use Rattle.staat_model.proofs.Decisions.{equal_or, first_or}
 use Rattle.staat_model.proofs.Edge.{perpendicular}
-use Rattle.staat_vec.proofs.Unique.{Contains-nothing, Contains-front, IsFirst-in}
+use Rattle.staat_vec.proofs.Unique.{Contains-cases, Contains-nothing, Contains-front, IsFirst-in}
 use Rattle.staat_vec.proofs.ListLaws.{Contains-there}
 
 -- some x breaks g alone among the kept, and nothing of the rest
@@ -56,10 +56,6 @@ prune ks (g ∷ rs) needed = go (alternative (ks ++ rs) g) (prune ks rs (All-wea
         (All-weaker (Needed ks (g ∷ rs)) (Needed (g ∷ ks) rs)
         (λ k n. (n.0, n.1, All-cons (λ m. (m ≡ k) ⊎ (pos 0 ≤ℤ dot m n.0)) g ks (inr (All-head (λ v. pos 0 ≤ℤ dot v n.0) g rs n.3)) n.2, All-tail (λ v. pos 0 ≤ℤ dot v n.0) g rs n.3)) ks needed)
 
-    out : (x : V3) → Contains (g ∷ ks) x → Contains ks x ⊎ Contains (g ∷ rs) x
-    out x (zero, le, e) = inr (0, omega arith, e)
-    out x (suc k, le, e) = inl (k, omega arith, e)
-
     go : IsCombined (ks ++ rs) g ⊎ IsSeparated (ks ++ rs) g → Pruned ks rs → (All (Needed (g ∷ ks) rs) (g ∷ ks) → Pruned (g ∷ ks) rs) → Pruned ks (g ∷ rs)
     go (inl c) (ls, need, rules, from) other = (ls, need, (λ x up. insert_above ks rs g x (follows (ks ++ rs) g x c (rules x up)) (rules x up)), λ x h. ⊎_elim (λ a. inl a) (λ b. inr (Contains-there g x rs b)) (from x h))
     go (inr s) without other =
@@ -67,7 +63,7 @@ prune ks (g ∷ rs) needed = go (alternative (ks ++ rs) g) (prune ks rs (All-wea
           ls,
           need,
           (λ x up. let w = rules x up in insert_above ks rs g x (All-head (λ v. pos 0 ≤ℤ dot v x) g (ks ++ rs) w) (All-tail (λ v. pos 0 ≤ℤ dot v x) g (ks ++ rs) w)),
-          λ x h. ⊎_elim (out x) (λ b. inr (Contains-there g x rs b)) (from x h),
+          λ x h. ⊎_elim (λ c. ⊎_elim (λ e. inr (joined g rs x (inl e))) (λ later. inl later) (Contains-cases g ks x c)) (λ b. inr (Contains-there g x rs b)) (from x h),
         )
 
 find_other : (g : V3) (ks : List V3) → ((h : V3) × Contains ks h × (h ≢ g)) ⊎ All (λ m. m ≡ g) ks

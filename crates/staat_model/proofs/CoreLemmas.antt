@@ -96,20 +96,11 @@ core_holds_lemma parts core w planes d each has at_vertices some = λ s side fre
     let at = free_at_vertex_lemma parts core planes s (set.difference w s) d each has some free in
     at_vertices at.v at.vertex s side at.free
 
--- what is free of the rest is free as far as the core tells
-held_serves_not : (parts : List Part) (core : List Arc) (w : PartSet) (d : V3) → HoldsTogether parts core w d
-    → Serves parts w d → ⊥
-held_serves_not parts core w d held serves =
-    let free = serves.free in
-    held serves.side serves.is_side (λ arc listed a_in b_in m. free.clear arc a_in b_in m)
-
 pub core_stuck_lemma : (parts : List Part) (core : List Arc) (w : PartSet) (planes : List V3) → All IsPart parts
     → 2 ≤ set.len w → HasCorePlanes parts core planes → HoldsAtVertices parts core w planes → IsStuck parts w
 core_stuck_lemma parts core w planes each two has at_vertices = record {
   two = two;
-  held = λ s d side free.
-      held_serves_not parts core w d (core_holds_lemma parts core w planes d each has at_vertices free.moves)
-      (record { side = s; is_side = side; free = free });
+  held = λ s d side free. core_holds_lemma parts core w planes d each has at_vertices free.moves s side (λ arc listed. free.clear arc);
 }
 
 pub core_on_plane_lemma : (parts : List Part) (core : List Arc) (w : PartSet) (planes : List V3) (g d : V3)
@@ -124,6 +115,4 @@ pub core_none_lemma : (parts : List Part) (core : List Arc) (w : PartSet) (plane
     → dot g d ≡ pos 0 → Serves parts w d → ⊥
 core_none_lemma parts core w planes g d each has g_some at_crossings on serves =
     let free = serves.free in
-    held_serves_not parts core w d
-    (core_on_plane_lemma parts core w planes g d each has g_some at_crossings free.moves on)
-    serves
+    core_on_plane_lemma parts core w planes g d each has g_some at_crossings free.moves on serves.side serves.is_side (λ arc listed. free.clear arc)

@@ -1,5 +1,5 @@
 -- The definitions at small examples.
-use Rattle.std.proofs.Common.{◌≡◌, ◌≢◌, ℕ, zero, suc, ◌+◌, ◌≤◌, ◌≤ℤ◌, Bool, true, List, [], ◌∷◌, map, length, All, ap, sym, subst, refl, rules, ℤ, pos, neg_ℤ, unsigned_abs, codes, lit<, lit≤, T, leb-true}
+use Rattle.std.proofs.Common.{◌≡◌, ◌≢◌, ℕ, zero, suc, ◌+◌, ◌≤◌, ◌≤ℤ◌, Bool, true, List, [], ◌∷◌, map, length, All, Contains, ap, sym, subst, refl, rules, ℤ, pos, neg_ℤ, unsigned_abs, codes, lit<, lit≤, T, leb-true}
 use Rattle.std.specs.Prelude.{Some, ◌&&◌, nat_le}
 use Rattle.std.specs.List.Sorted.{IsStrictlySortedBy}
 use Rattle.std.specs.List.{list_all}
@@ -9,7 +9,7 @@ use Rattle.std.proofs.lemmas.List.Elements.{All-from_recursion, All-weaker}
 use Rattle.std.proofs.lemmas.List.Sums.{AllPass-from_list_all}
 use Rattle.staat_vec.specs.declared.vector.V3.{V3}
 use Rattle.staat_vec.specs.declared.vector.TheConstants.{POINT}
-use Rattle.staat_vec.specs.Vectors.{IsWithin, vector, plus, minus, dot, vector_cmp}
+use Rattle.staat_vec.specs.Vectors.{IsWithin, det, dot, minus, plus, vector, vector_cmp}
 use Rattle.staat_vec.specs.Primitives.{primitive, content, canon}
 use Rattle.staat_model.specs.declared.certificate.Node.TheVariants.{Leaf, Split}
 use Rattle.staat_model.specs.declared.certificate.Body.TheVariants.{Plan}
@@ -86,18 +86,13 @@ meets_ahead = record {
   meeting = record { a = ones; b = ones; a_weights = ones_are cube refl; b_weights = ones_are neighbour refl; same_sum = refl; same_place = refl };
 }
 
+-- four points in no plane make points solid
+corner_solid : (ps : List V3) (a b c e : V3) → Contains ps a → Contains ps b → Contains ps c → Contains ps e → det (minus b a) (minus c a) (minus e a) ≢ pos 0 → IsSolid ps
+corner_solid ps a b c e a_in b_in c_in e_in apart = record { a = a; b = b; c = c; e = e; a_in = a_in; b_in = b_in; c_in = c_in; e_in = e_in; apart = apart }
+
 pub cube_solid : IsSolid cube
-cube_solid = record {
-  a = v (pos 0) (pos 0) (pos 0);
-  b = v (pos 2) (pos 0) (pos 0);
-  c = v (pos 0) (pos 2) (pos 0);
-  e = v (pos 0) (pos 0) (pos 2);
-  a_in = (0, lit< tt, refl);
-  b_in = (4, lit< tt, refl);
-  c_in = (2, lit< tt, refl);
-  e_in = (1, lit< tt, refl);
-  apart = λ h. cc;
-}
+cube_solid = corner_solid cube (v (pos 0) (pos 0) (pos 0)) (v (pos 2) (pos 0) (pos 0)) (v (pos 0) (pos 2) (pos 0)) (v (pos 0) (pos 0) (pos 2))
+    (0, lit< tt, refl) (4, lit< tt, refl) (2, lit< tt, refl) (1, lit< tt, refl) (λ h. cc)
 
 -- whether the point keeps within the bound
 abbrev keeps_within : ℕ → V3 → Bool
@@ -115,17 +110,8 @@ unfolding IsStrictlySortedBy
 neighbour_ascends = search rules
 
 neighbour_solid : IsSolid neighbour
-neighbour_solid = record {
-  a = v (pos 2) (pos 0) (pos 0);
-  b = v (pos 4) (pos 0) (pos 0);
-  c = v (pos 2) (pos 2) (pos 0);
-  e = v (pos 2) (pos 0) (pos 2);
-  a_in = (0, lit< tt, refl);
-  b_in = (4, lit< tt, refl);
-  c_in = (2, lit< tt, refl);
-  e_in = (1, lit< tt, refl);
-  apart = λ h. cc;
-}
+neighbour_solid = corner_solid neighbour (v (pos 2) (pos 0) (pos 0)) (v (pos 4) (pos 0) (pos 0)) (v (pos 2) (pos 2) (pos 0)) (v (pos 2) (pos 0) (pos 2))
+    (0, lit< tt, refl) (4, lit< tt, refl) (2, lit< tt, refl) (1, lit< tt, refl) (λ h. cc)
 
 pub cube_piece : IsPiece cube
 cube_piece = record { ascending = cube_ascends; at_least = lit≤ tt; at_most = lit≤ tt; within = by_test (keeps_within POINT) (IsWithin POINT) (within_by_test POINT) cube refl; solid = cube_solid }

@@ -91,7 +91,7 @@ nodes_stuck_lemma parts core nodes planes sound are has at_vertices = record {
   held = λ s d side free.
       let held = nodes_hold_lemma parts core nodes planes d sound has at_vertices free.moves in
       let whole = free_keeps_whole parts nodes s d are.each free in
-      held s side whole (λ arc listed a_in b_in m. free.clear arc a_in b_in m);
+      held s side whole (λ arc listed. free.clear arc);
 }
 
 -- ---- on a plane
@@ -111,4 +111,4 @@ nodes_none_lemma parts core nodes planes g d sound are has g_some at_crossings o
     let free = serves.free in
     let whole = free_keeps_whole parts nodes serves.side d are.each free in
     let held = nodes_on_plane_lemma parts core nodes planes g d sound has g_some at_crossings free.moves on in
-    held serves.side serves.is_side whole (λ arc listed a_in b_in m. free.clear arc a_in b_in m)
+    held serves.side serves.is_side whole (λ arc listed. free.clear arc)

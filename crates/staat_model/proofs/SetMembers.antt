@@ -74,7 +74,7 @@ has-union s t q = (
   λ h. set.contains-union nat_cmp_total s t q ∙ either_or (set.contains s q) (set.contains t q) h,
 )
 
-not_from : (b : Bool) → (b ≡ true → ⊥) → not b ≡ true
+pub not_from : (b : Bool) → (b ≡ true → ⊥) → not b ≡ true
 not_from true n = absurd (n refl)
 not_from false n = refl
 
