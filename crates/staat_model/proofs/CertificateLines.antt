@@ -1,8 +1,8 @@
 -- A certificate is known by its lines, and its last line stands nowhere else.
-use Rattle.std.proofs.Common.{◌≡◌, ℕ, suc, List, [], ◌∷◌, ◌++◌, map, get_or, All, ap, sym, refl, ◌∙◌, append_assoc}
+use Rattle.std.proofs.Common.{◌≡◌, ◌≢◌, ℕ, suc, List, [], ◌∷◌, ◌++◌, map, get_or, All, ap, sym, refl, ◌∙◌, append_assoc}
 use Rattle.std.specs.Prelude.{flat_map}
 use Rattle.std.proofs.lemmas.List.Elements.{All-append, All-cons, All-map, All-nil}
-use Rattle.staat_model.proofs.Members.{cut_once}
+use Rattle.staat_model.proofs.Members.{cut_once, known_by}
 use Rattle.staat_model.specs.declared.certificate.Arc.{Arc}
 use Rattle.staat_model.specs.declared.certificate.Sep.{Sep}
 use Rattle.staat_model.specs.declared.certificate.Dir.{Dir}
@@ -16,82 +16,54 @@ use Rattle.staat_model.specs.declared.line.Line.{Line}
 use Rattle.staat_model.specs.declared.line.Line.TheVariants as line
 use Rattle.staat_model.specs.Texts.{lines_of_node, lines_of_witness, lines_of_witnesses, lines_of_body, lines_of}
 
--- ---- what lines say
-
--- the walls in front
-abbrev seps_in : List Line → List Sep
-seps_in [] = []
-seps_in (line.Sep sep ∷ ls) = sep ∷ seps_in ls
-seps_in (l ∷ ls) = []
-
-abbrev nodes_in : List Line → List Node
-nodes_in [] = []
-nodes_in (line.Leaf p ∷ ls) = Leaf p ∷ nodes_in ls
-nodes_in (line.Split d ∷ ls) = Split d (seps_in ls) ∷ nodes_in ls
-nodes_in (l ∷ ls) = nodes_in ls
-
--- the arcs outwards in front
-abbrev outs_in : List Line → List Arc
-outs_in [] = []
-outs_in (line.Out arc ∷ ls) = arc ∷ outs_in ls
-outs_in (l ∷ ls) = []
-
--- the arcs back, in front or after arcs outwards
-abbrev ins_in : List Line → List Arc
-ins_in [] = []
-ins_in (line.Out arc ∷ ls) = ins_in ls
-ins_in (line.In arc ∷ ls) = arc ∷ ins_in ls
-ins_in (l ∷ ls) = []
-
-abbrev witnesses_in : List Line → List Witness
-witnesses_in [] = []
-witnesses_in (line.Witness k ∷ ls) = record { outs = outs_in ls; ins = ins_in ls } ∷ witnesses_in ls
-witnesses_in (l ∷ ls) = witnesses_in ls
-
-abbrev dirs_in : List Line → List Dir
-dirs_in [] = []
-dirs_in (line.Dir dir ∷ ls) = dir ∷ dirs_in ls
-dirs_in (l ∷ ls) = dirs_in ls
-
-abbrev body_in : List Line → Body
-body_in [] = body.Plan []
-body_in (line.Stuck w ∷ ls) = body.Stuck w (witnesses_in ls) (dirs_in ls)
-body_in (l ∷ ls) = body.Plan (nodes_in ls)
-
-abbrev certificate_in : List Line → Certificate
-certificate_in (line.Head v ∷ line.Parts n ∷ ls) = record { version = v; parts = n; body = body_in ls }
-certificate_in ls = record { version = 0; parts = 0; body = body.Plan [] }
-
 -- ---- lines of one kind
 
--- a reading that takes them up, in front of lines that say nothing to it
-again : {X : Type 0} (read : List Line → List X) (line_of : X → Line) → ((x : X) (ls : List Line) → read (line_of x ∷ ls) ≡ x ∷ read ls)
-    → (xs : List X) (ls : List Line) → read ls ≡ [] → read (map line_of xs ++ ls) ≡ xs
-again read line_of step [] ls e = e
-again read line_of step (x ∷ xs) ls e = step x (map line_of xs ++ ls) ∙ ap (λ l. x ∷ l) (again read line_of step xs ls e)
+-- which kind of line may stand more than once in a row
+abbrev kind : Line → ℕ
+kind (line.Sep sep) = 1
+kind (line.Out arc) = 2
+kind (line.In arc) = 3
+kind (line.Dir dir) = 4
+kind l = 0
 
--- a reading that passes over them
-past : {X R : Type 0} (read : List Line → R) (line_of : X → Line) → ((x : X) (ls : List Line) → read (line_of x ∷ ls) ≡ read ls)
-    → (xs : List X) (ls : List Line) → read (map line_of xs ++ ls) ≡ read ls
-past read line_of step [] ls = refl
-past read line_of step (x ∷ xs) ls = step x (map line_of xs ++ ls) ∙ past read line_of step xs ls
+-- no line of this kind stands in front
+abbrev Ends : ℕ → List Line → Type 0
+Ends k [] = Unit {0}
+Ends k (l ∷ ls) = kind l ≢ k
+
+tails_of : {l m : Line} {p q : List Line} → l ∷ p ≡ m ∷ q → p ≡ q
+tails_of e = cc
+
+-- there is one way to cut the lines of a kind from what follows
+kind_cut : {X : Type 0} (k : ℕ) (line_of : X → Line) → ((x y : X) → line_of x ≡ line_of y → x ≡ y) → ((x : X) → kind (line_of x) ≡ k)
+    → (xs ys : List X) (p q : List Line) → Ends k p → Ends k q → map line_of xs ++ p ≡ map line_of ys ++ q → (xs ≡ ys) × (p ≡ q)
+kind_cut k line_of one is xs ys p q c d e =
+    let cuts = cut_once (λ l. kind l ≡ k) (Ends k) (λ l r ends same. ends same) (map line_of xs) (map line_of ys) p q (all xs) (all ys) c d e in
+    (known_by line_of (λ x. Unit {0}) (λ x y same a b. one x y same) xs ys cuts.0 (λ i x lt. tt) (λ i x lt. tt), cuts.1)
+  where
+    all : (zs : List _) → All (λ l. kind l ≡ k) (map line_of zs)
+    all zs = All-map (λ l. kind l ≡ k) line_of zs (λ i z lt. is (get_or zs i z))
 
 -- ---- plans
 
-no_seps : (nodes : List Node) → seps_in (flat_map lines_of_node nodes ++ line.End ∷ []) ≡ []
-no_seps [] = refl
-no_seps (Leaf p ∷ nodes) = refl
-no_seps (Split d seps ∷ nodes) = refl
+no_seps : (nodes : List Node) → Ends 1 (flat_map lines_of_node nodes ++ line.End ∷ [])
+no_seps [] = λ e. cc
+no_seps (Leaf p ∷ nodes) = λ e. cc
+no_seps (Split d seps ∷ nodes) = λ e. cc
 
-nodes_again : (nodes : List Node) → nodes_in (flat_map lines_of_node nodes ++ line.End ∷ []) ≡ nodes
-nodes_again [] = refl
-nodes_again (Leaf p ∷ nodes) = ap (λ l. Leaf p ∷ l) (nodes_again nodes)
-nodes_again (Split d seps ∷ nodes) =
-    let after : List Line = flat_map lines_of_node nodes ++ line.End ∷ [] in
-    let regrouped : (map line.Sep seps ++ flat_map lines_of_node nodes) ++ line.End ∷ [] ≡ map line.Sep seps ++ after = append_assoc (map line.Sep seps) (flat_map lines_of_node nodes) (line.End ∷ []) in
-    let walls : seps_in (map line.Sep seps ++ after) ≡ seps = again seps_in line.Sep (λ x ls. refl) seps after (no_seps nodes) in
-    let rest : nodes_in (map line.Sep seps ++ after) ≡ nodes = past nodes_in line.Sep (λ x ls. refl) seps after ∙ nodes_again nodes in
-    ap (λ ls. Split d (seps_in ls) ∷ nodes_in ls) regrouped ∙ (λ i. Split d (walls i) ∷ rest i)
+nodes_same : (xs ys : List Node) → flat_map lines_of_node xs ++ line.End ∷ [] ≡ flat_map lines_of_node ys ++ line.End ∷ [] → xs ≡ ys
+nodes_same [] [] e = refl
+nodes_same (Leaf p ∷ xs) (Leaf q ∷ ys) e = let same : p ≡ q = cc in λ i. Leaf (same i) ∷ nodes_same xs ys (tails_of e) i
+nodes_same (Split d seps ∷ xs) (Split d' seps' ∷ ys) e =
+    let same : d ≡ d' = cc in
+    let after : List Node → List Line = λ nodes. flat_map lines_of_node nodes ++ line.End ∷ [] in
+    let cuts = kind_cut 1 line.Sep (λ x y f. cc) (λ x. refl) seps seps' (after xs) (after ys) (no_seps xs) (no_seps ys)
+    (sym (append_assoc (map line.Sep seps) (flat_map lines_of_node xs) (line.End ∷ [])) ∙ tails_of e ∙ append_assoc (map line.Sep seps') (flat_map lines_of_node ys) (line.End ∷ [])) in
+    λ i. Split (same i) (cuts.0 i) ∷ nodes_same xs ys cuts.1 i
+nodes_same [] (Leaf q ∷ ys) e = cc
+nodes_same [] (Split d' seps' ∷ ys) e = cc
+nodes_same (Leaf p ∷ xs) ys e = cc
+nodes_same (Split d seps ∷ xs) ys e = cc
 
 -- ---- refusals
 
@@ -103,14 +75,16 @@ behind dirs = map line.Dir dirs ++ line.End ∷ []
 abbrev trees : ℕ → List Witness → List Dir → List Line
 trees k ws dirs = lines_of_witnesses k ws ++ behind dirs
 
-no_outs_first : (ins : List Arc) (ls : List Line) → outs_in ls ≡ [] → outs_in (map line.In ins ++ ls) ≡ []
-no_outs_first [] ls e = e
-no_outs_first (arc ∷ ins) ls e = refl
+no_outs : (ins : List Arc) (k : ℕ) (ws : List Witness) (dirs : List Dir) → Ends 2 (map line.In ins ++ trees k ws dirs)
+no_outs (arc ∷ ins) k ws dirs = λ e. cc
+no_outs [] k (w ∷ ws) dirs = λ e. cc
+no_outs [] k [] (dir ∷ dirs) = λ e. cc
+no_outs [] k [] [] = λ e. cc
 
-no_arcs : (k : ℕ) (ws : List Witness) (dirs : List Dir) → (outs_in (trees k ws dirs) ≡ []) × (ins_in (trees k ws dirs) ≡ [])
-no_arcs k [] [] = (refl, refl)
-no_arcs k [] (dir ∷ dirs) = (refl, refl)
-no_arcs k (w ∷ ws) dirs = (refl, refl)
+no_ins : (k : ℕ) (ws : List Witness) (dirs : List Dir) → Ends 3 (trees k ws dirs)
+no_ins k (w ∷ ws) dirs = λ e. cc
+no_ins k [] (dir ∷ dirs) = λ e. cc
+no_ins k [] [] = λ e. cc
 
 shape : (k : ℕ) (w : Witness) (ws : List Witness) (dirs : List Dir) → trees k (w ∷ ws) dirs ≡ line.Witness k ∷ (map line.Out w.outs ++ (map line.In w.ins ++ trees (suc k) ws dirs))
 shape k w ws dirs =
@@ -118,39 +92,36 @@ shape k w ws dirs =
     (append_assoc (map line.Out w.outs ++ map line.In w.ins) (lines_of_witnesses (suc k) ws) (behind dirs)
     ∙ append_assoc (map line.Out w.outs) (map line.In w.ins) (trees (suc k) ws dirs))
 
--- a reading that passes over arcs
-past_arcs : {R : Type 0} (read : List Line → R) → ((arc : Arc) (ls : List Line) → read (line.Out arc ∷ ls) ≡ read ls) → ((arc : Arc) (ls : List Line) → read (line.In arc ∷ ls) ≡ read ls)
-    → (w : Witness) (ls : List Line) → read (map line.Out w.outs ++ (map line.In w.ins ++ ls)) ≡ read ls
-past_arcs read outs ins w ls = past read line.Out outs w.outs (map line.In w.ins ++ ls) ∙ past read line.In ins w.ins ls
-
-witnesses_again : (k : ℕ) (ws : List Witness) (dirs : List Dir) → witnesses_in (trees k ws dirs) ≡ ws
-witnesses_again k [] dirs = past witnesses_in line.Dir (λ x ls. refl) dirs (line.End ∷ [])
-witnesses_again k (w ∷ ws) dirs =
-    let next : List Line = trees (suc k) ws dirs in
-    let none = no_arcs (suc k) ws dirs in
-    let outs : outs_in (map line.Out w.outs ++ (map line.In w.ins ++ next)) ≡ w.outs = again outs_in line.Out (λ x ls. refl) w.outs (map line.In w.ins ++ next) (no_outs_first w.ins next none.0) in
-    let ins : ins_in (map line.Out w.outs ++ (map line.In w.ins ++ next)) ≡ w.ins = past ins_in line.Out (λ x ls. refl) w.outs (map line.In w.ins ++ next) ∙ again ins_in line.In (λ x ls. refl) w.ins next none.1 in
-    let rest : witnesses_in (map line.Out w.outs ++ (map line.In w.ins ++ next)) ≡ ws = past_arcs witnesses_in (λ x ls. refl) (λ x ls. refl) w next ∙ witnesses_again (suc k) ws dirs in
-    ap witnesses_in (shape k w ws dirs) ∙ (λ i. record { outs = outs i; ins = ins i } ∷ rest i)
-
-dirs_again : (k : ℕ) (ws : List Witness) (dirs : List Dir) → dirs_in (trees k ws dirs) ≡ dirs
-dirs_again k [] dirs = again dirs_in line.Dir (λ x ls. refl) dirs (line.End ∷ []) refl
-dirs_again k (w ∷ ws) dirs = ap dirs_in (shape k w ws dirs) ∙ past_arcs dirs_in (λ x ls. refl) (λ x ls. refl) w (trees (suc k) ws dirs) ∙ dirs_again (suc k) ws dirs
+trees_same : (k : ℕ) (ws xs : List Witness) (dirs es : List Dir) → trees k ws dirs ≡ trees k xs es → (ws ≡ xs) × (dirs ≡ es)
+trees_same k [] [] dirs es e = (refl, (kind_cut 4 line.Dir (λ x y f. cc) (λ x. refl) dirs es (line.End ∷ []) (line.End ∷ []) (λ f. cc) (λ f. cc) e).0)
+trees_same k (w ∷ ws) (x ∷ xs) dirs es e =
+    let outs = kind_cut 2 line.Out (λ x y f. cc) (λ x. refl) w.outs x.outs (map line.In w.ins ++ trees (suc k) ws dirs) (map line.In x.ins ++ trees (suc k) xs es)
+    (no_outs w.ins (suc k) ws dirs) (no_outs x.ins (suc k) xs es) (tails_of (sym (shape k w ws dirs) ∙ e ∙ shape k x xs es)) in
+    let ins = kind_cut 3 line.In (λ x y f. cc) (λ x. refl) w.ins x.ins (trees (suc k) ws dirs) (trees (suc k) xs es) (no_ins (suc k) ws dirs) (no_ins (suc k) xs es) outs.1 in
+    let rest = trees_same (suc k) ws xs dirs es ins.1 in
+    ((λ i. record { outs = outs.0 i; ins = ins.0 i } ∷ rest.0 i), rest.1)
+trees_same k [] (x ∷ xs) [] es e = cc
+trees_same k [] (x ∷ xs) (dir ∷ dirs) es e = cc
+trees_same k (w ∷ ws) [] dirs [] e = cc
+trees_same k (w ∷ ws) [] dirs (dir ∷ es) e = cc
 
 -- ---- certificates
 
-body_again : (b : Body) → body_in (lines_of_body b ++ line.End ∷ []) ≡ b
-body_again (body.Plan nodes) = ap body.Plan (nodes_again nodes)
-body_again (body.Stuck w ws dirs) =
-    ap (λ ls. body.Stuck w (witnesses_in ls) (dirs_in ls)) (append_assoc (lines_of_witnesses 0 ws) (map line.Dir dirs) (line.End ∷ []))
-    ∙ (λ i. body.Stuck w (witnesses_again 0 ws dirs i) (dirs_again 0 ws dirs i))
-
-certificate_again : (c : Certificate) → certificate_in (lines_of c) ≡ c
-certificate_again c = λ i. record { version = c.version; parts = c.parts; body = body_again c.body i }
+body_same : (b c : Body) → lines_of_body b ++ line.End ∷ [] ≡ lines_of_body c ++ line.End ∷ [] → b ≡ c
+body_same (body.Plan xs) (body.Plan ys) e = ap body.Plan (nodes_same xs ys (tails_of e))
+body_same (body.Stuck w ws dirs) (body.Stuck v xs es) e =
+    let sets : w ≡ v = cc in
+    let same = trees_same 0 ws xs dirs es (sym (append_assoc (lines_of_witnesses 0 ws) (map line.Dir dirs) (line.End ∷ [])) ∙ tails_of e ∙ append_assoc (lines_of_witnesses 0 xs) (map line.Dir es) (line.End ∷ [])) in
+    λ i. body.Stuck (sets i) (same.0 i) (same.1 i)
+body_same b c e = cc
 
 -- a certificate is known by its lines
 pub one_by_lines : (c d : Certificate) → lines_of c ≡ lines_of d → c ≡ d
-one_by_lines c d e = sym (certificate_again c) ∙ ap certificate_in e ∙ certificate_again d
+one_by_lines c d e =
+    let versions : c.version ≡ d.version = cc in
+    let counts : c.parts ≡ d.parts = cc in
+    let bodies : c.body ≡ d.body = body_same c.body d.body (tails_of (tails_of e)) in
+    λ i. record { version = versions i; parts = counts i; body = bodies i }
 
 -- ---- the last line
 
