@@ -66,9 +66,6 @@ corner_end planes d v c = record { vertex = in_vertices planes c.g c.h v c.g_in 
 
 -- ---- the plane of an edge
 
-some_sign : (a : ℤ) → sign a ≢ Zero → a ≢ pos 0
-some_sign a n e = n (ap sign e)
-
 pub on_one : (gs : List V3) (d : V3) → zeros (signs_of gs d) ≡ 1 → (c : V3) × Contains gs c × (dot c d ≡ pos 0) × ((g : V3) → Contains gs g → (g ≡ c) ⊎ (dot g d ≢ pos 0))
 on_one [] d e = absurd (omega (arith, e))
 on_one (h ∷ gs) d e = go (sign_zero_or (sign (dot h d))) (on_one gs d)
@@ -78,7 +75,7 @@ on_one (h ∷ gs) d e = go (sign_zero_or (sign (dot h d))) (on_one gs d)
 
     first : zeros (signs_of gs d) ≡ 0 → (g : V3) → Contains (h ∷ gs) g → (g ≡ h) ⊎ (dot g d ≢ pos 0)
     first none g (zero, lt, p) = inl (sym p)
-    first none g (suc k, lt, p) = inr (some_sign (dot g d) (off_all gs d none g (k, omega arith, p)))
+    first none g (suc k, lt, p) = inr (λ z. off_all gs d none g (k, omega arith, p) (ap sign z))
 
     later : (c : V3) → sign (dot h d) ≢ Zero → ((g : V3) → Contains gs g → (g ≡ c) ⊎ (dot g d ≢ pos 0)) → (g : V3) → Contains (h ∷ gs) g → (g ≡ c) ⊎ (dot g d ≢ pos 0)
     later c off only g (zero, lt, p) = inr (λ z. off (ap sign (ap (λ v. dot v d) p ∙ z)))

@@ -69,12 +69,12 @@ goes_more l m few many ahead rest e g = record { back = g.back; is = λ i. sym e
 pub nested : (xs ys : List Line) (p q : List ℕ) → All IsInBounds xs → All IsInBounds ys → text xs ++ p ≡ text ys ++ q → GoesOn xs ys p q ⊎ GoesOn ys xs q p
 nested [] ys p q a b e = inl (record { back = ys; is = refl; ahead_is = e })
 nested (x ∷ xs) [] p q a b e = inr (record { back = x ∷ xs; is = refl; ahead_is = sym e })
-nested (x ∷ xs) (y ∷ ys) p q a b e = go (λ k. nested xs ys p q (All-tail IsInBounds x xs a) (All-tail IsInBounds y ys b) k)
-  where
-    go : (text xs ++ p ≡ text ys ++ q → GoesOn xs ys p q ⊎ GoesOn ys xs q p) → GoesOn (x ∷ xs) (y ∷ ys) p q ⊎ GoesOn (y ∷ ys) (x ∷ xs) q p
-    go rest =
-        let once = cut_line x y (text xs ++ p) (text ys ++ q) (All-head IsInBounds x xs a) (All-head IsInBounds y ys b) (sym (append_assoc (line_text x) (text xs) p) ∙ e ∙ append_assoc (line_text y) (text ys) q) in
-        elim (rest once.1) [ inl g ↦ inl (goes_more x y xs ys p q once.0 g) | inr g ↦ inr (goes_more y x ys xs q p (sym once.0) g) ]
+nested (x ∷ xs) (y ∷ ys) p q a b e =
+    let once = cut_line x y (text xs ++ p) (text ys ++ q) (All-head IsInBounds x xs a) (All-head IsInBounds y ys b) (sym (append_assoc (line_text x) (text xs) p) ∙ e ∙ append_assoc (line_text y) (text ys) q) in
+    elim (nested xs ys p q (All-tail IsInBounds x xs a) (All-tail IsInBounds y ys b) once.1) [
+      | inl g ↦ inl (goes_more x y xs ys p q once.0 g)
+      | inr g ↦ inr (goes_more y x ys xs q p (sym once.0) g)
+    ]
 
 pub text_some : (l : Line) (ls : List Line) (p : List ℕ) → IsInBounds l → [] ≡ text (l ∷ ls) ++ p → ⊥
 text_some l ls p f e = line_some (line_text l) (text ls ++ p) (line_whole l f) (sym (append_assoc (line_text l) (text ls) p) ∙ sym e)
@@ -107,12 +107,9 @@ lines_more l ls m ms e f = record { front = m ∷ f.front; back = f.back; is = a
 pub begin_lines : (ls : List (List ℕ)) (ms : List Line) (more : List ℕ) → All IsLine ls → All IsInBounds ms → joined ls ++ more ≡ text ms → AreLines ls ms
 begin_lines [] ms more a b e = record { front = []; back = ms; is = refl; lines = refl }
 begin_lines (l ∷ ls) [] more a b e = absurd (line_some l (joined ls ++ more) (All-head IsLine l ls a) (sym (append_assoc l (joined ls) more) ∙ e))
-begin_lines (l ∷ ls) (m ∷ ms) more a b e = go (λ k. begin_lines ls ms more (All-tail IsLine l ls a) (All-tail IsInBounds m ms b) k)
-  where
-    go : (joined ls ++ more ≡ text ms → AreLines ls ms) → AreLines (l ∷ ls) (m ∷ ms)
-    go rest =
-        let once = lines_once l (line_text m) (joined ls ++ more) (text ms) (All-head IsLine l ls a) (line_whole m (All-head IsInBounds m ms b)) (sym (append_assoc l (joined ls) more) ∙ e) in
-        lines_more l ls m ms once.0 (rest once.1)
+begin_lines (l ∷ ls) (m ∷ ms) more a b e =
+    let once = lines_once l (line_text m) (joined ls ++ more) (text ms) (All-head IsLine l ls a) (line_whole m (All-head IsInBounds m ms b)) (sym (append_assoc l (joined ls) more) ∙ e) in
+    lines_more l ls m ms once.0 (begin_lines ls ms more (All-tail IsLine l ls a) (All-tail IsInBounds m ms b) once.1)
 
 pub begun : (ls : List (List ℕ)) → All IsLine ls → (h : BeginsText (joined ls)) → AreLines ls (lines_of h.certificate)
 begun ls a h = begin_lines ls (lines_of h.certificate) h.more a h.form.lines (sym h.is)
