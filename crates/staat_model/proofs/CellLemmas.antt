@@ -157,11 +157,10 @@ border_from_same ss ts e = subst (IsBorder ss) e (border_same ss)
 
 module _ (d m y : V3) where
   -- y is strictly on d's side of each plane that is not parallel to m
-  Sided : List V3 → Type 0
+  abbrev Sided : List V3 → Type 0
   Sided gs = (g : V3) → Contains gs g → sign (dot g d) ≢ Zero × ((cross g m ≢ origin) → sign (dot g y) ≡ sign (dot g d))
 
   strict_signs : (gs : List V3) → Sided gs → ((g : V3) → Contains gs g → cross g m ≢ origin) → (signs_of gs y ≡ signs_of gs d) × (zeros (signs_of gs y) ≡ 0)
-  unfolding Sided
   strict_signs [] sided off = (refl, refl)
   strict_signs (g ∷ gs) sided off =
       let (some, same) = sided g (Contains-front g gs) in
@@ -170,7 +169,6 @@ module _ (d m y : V3) where
       ((λ i. is i ∷ rest.0 i), zeros_off (sign (dot g y)) (signs_of gs y) (λ z. some (sym is ∙ z)) ∙ rest.1)
 
   edge_signs : (gs : List V3) → Sided gs → NoneParallel gs → Contains gs m → dot m y ≡ pos 0 → IsBorder (signs_of gs y) (signs_of gs d) × (zeros (signs_of gs y) ≡ 1)
-  unfolding Sided
   edge_signs [] sided apart (k, lt, e) on = absurd (omega arith)
   edge_signs (g ∷ gs) sided (head, rest) (zero, lt, e) on =
       let zero_here : sign (dot g y) ≡ Zero = ap sign (ap (λ v. dot v y) e ∙ on) in
@@ -216,7 +214,6 @@ module _ (planes : List V3) (d : V3) (axes : HoldsAxes planes) (apart : NonePara
     one : zeros (signs_of planes y) ≡ 1
 
   edges : (g y : V3) → IsOnBorder walls.cs g y → Edges g y
-  unfolding Sided
   edges g y b =
       let (m, in_m, same) = walls.only g b.g_in in
       let on : dot m y ≡ pos 0 = same_back g m y same b.on in

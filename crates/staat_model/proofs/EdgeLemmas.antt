@@ -23,7 +23,7 @@ use Rattle.staat_vec.proofs.VectorLaws.{dot_along, some_square, unscaled}
 -- ---- far enough along d
 
 -- d is strictly on e's positive side, or d and t both lie on e
-Ahead : V3 → V3 → V3 → Type 0
+abbrev Ahead : V3 → V3 → V3 → Type 0
 Ahead d t e = ((dot e d ≡ pos 0) × (dot e t ≡ pos 0)) ⊎ (pos 0 <ℤ dot e d)
 
 reach : (a q : ℤ) (l : ℕ) → unsigned_abs a ≤ l → pos 0 <ℤ q → pos 0 ≤ℤ (pos l *ℤ q +ℤ a)
@@ -35,7 +35,6 @@ zero_reach : (a q : ℤ) (l : ℕ) → q ≡ pos 0 → a ≡ pos 0 → pos 0 ≤
 zero_reach a q l e f = subst (λ q. pos 0 ≤ℤ (pos l *ℤ q +ℤ a)) (sym e) (subst (λ a. pos 0 ≤ℤ (pos l *ℤ pos 0 +ℤ a)) (sym f) (omega (arith, ints)))
 
 far : (d t : V3) (cs : List V3) → All (Ahead d t) cs → (k : ℕ) × IsAbove (plus (times k d) t) cs
-unfolding Ahead
 far d t cs ahead = (k, λ i x lt. at (get_or cs i x) (ahead i x lt) (get_or-le-sum_by (λ e. unsigned_abs (dot e t)) cs i x lt))
   where
     k : ℕ
@@ -69,7 +68,6 @@ pub record IsAhead (planes : List V3) (d t : V3) : Type 0 where
   pub side : pos 0 <ℤ dot t v
 
 pub ahead : (planes : List V3) (d c t : V3) → HoldsAxes planes → IsOnOne planes d c → dot c t ≡ pos 0 → dot t d ≡ pos 0 → pos 0 <ℤ dot t t → IsAhead planes d t
-unfolding Ahead
 ahead planes d c t axes one in_plane across some =
     let cs = conditions d planes in
     let each : All (Ahead d t) cs.cs = All-from_members (Ahead d t) cs.cs (λ e e_in. condition cs e e_in) in

@@ -1,5 +1,5 @@
 -- The two ends of an edge, as vertices on its border, and their sum.
-use Rattle.std.proofs.Common.{◌≡◌, ◌≢◌, zero, suc, refl, sym, ap, subst, ◌∙◌, arith, ℤ, pos, ◌<ℤ◌, ◌⊎◌, inl, inr, ⊎_elim, List, [], ◌∷◌, Contains}
+use Rattle.std.proofs.Common.{◌≡◌, ◌≢◌, zero, suc, refl, sym, ap, subst, ◌∙◌, arith, ℤ, pos, ◌<ℤ◌, ◌⊎◌, inl, inr, ⊎_elim, List, [], ◌∷◌, Contains, ◌≤ℤ◌}
 use Rattle.std.proofs.lemmas.Int.{ints, by_lt_z}
 use Rattle.std.proofs.lemmas.List.Elements.{All-contains, Contains-append_cases}
 use Rattle.std.specs.Ordering.{ordering_reverse}
@@ -12,6 +12,7 @@ use Rattle.staat_vec.specs.declared.vector.Sign.TheVariants.{Zero}
 use Rattle.staat_vec.specs.Vectors.{dot, cross, plus, negative, origin, sign, vector_cmp}
 use Rattle.staat_vec.specs.Primitives.{primitive}
 use Rattle.staat_vec.proofs.VecRing.{crossE, dotE, negativeE, values, v0, v1, negative_dot, dot_negative, dot_cross_left, dot_cross_right}
+use Rattle.staat_vec.proofs.Order.{positive_nonneg}
 use Rattle.staat_vec.proofs.Ring.{ring}
 use Rattle.staat_model.specs.declared.tree.Kind.TheVariants.{Edge}
 use Rattle.staat_vec.specs.Lists.{Lists}
@@ -24,7 +25,7 @@ use Rattle.staat_model.proofs.VertexLemmas.{in_vertices}
 use Rattle.staat_model.proofs.PlaneLemmas.{NoneParallel}
 use Rattle.staat_model.proofs.CellLemmas.{zeros, zeros_off, zeros_on, edge_zeros, off_all, Covers, sum_covers}
 use Rattle.staat_model.proofs.EdgeLemmas.{IsOnOne, IsAhead, IsTip, ahead, tip, cross_positive, same_tip, same_tip_low, tip_aside, not_both}
-use Rattle.staat_vec.proofs.Integers.{opposite_negative_back, zero_from_bounds_down, opposite_zero}
+use Rattle.staat_vec.proofs.Integers.{negative_nonneg_clash, opposite_negative_back, zero_from_bounds_down, opposite_zero}
 use Rattle.staat_vec.proofs.VectorLaws.{plus_comm}
 use Rattle.staat_vec.proofs.Unique.{Contains-cases, Contains-front, Contains-nothing}
 use Rattle.staat_vec.proofs.ListLaws.{Contains-there}
@@ -156,28 +157,19 @@ module _ (planes : List V3) (d c : V3) (axes : HoldsAxes planes) (apart : NonePa
       at g g_in (inl e) (inr z) (inr y) = inl (ap sign (ap (λ v. dot v front.v) e ∙ front_tip.on_c) ∙ sym (ap sign (ap (λ v. dot v d) e ∙ one.on)))
       at g g_in (inr off) (inr z) (inr y) = absurd (not_both planes d c axes one some_c front.v rear.v g front_tip rear_tip front.side (low_side rear.side) off (zero_sign (dot g front.v) z) (zero_sign (dot g rear.v) y))
 
-  front_end : IsEnd planes (signs_of planes d) front.v
-  front_end = corner_end planes d front.v front.corner
-
-  rear_end : IsEnd planes (signs_of planes d) rear.v
-  rear_end = corner_end planes d rear.v rear.corner
-
   -- the edge has a representative
   has_sum : (e : V3) × IsEdgeSum planes (signs_of planes d) e
   has_sum = by_order (vector_cmp front.v rear.v) refl
     where
       different : front.v ≡ rear.v → ⊥
-      different e = clash (dot (cross c d) front.v) (dot (cross c d) rear.v) front.side (low_side rear.side) (ap (dot (cross c d)) e)
-        where
-          clash : (p q : ℤ) → pos 0 <ℤ p → q <ℤ pos 0 → p ≡ q → ⊥
-          clash p q h g e = omega (arith, ints)
+      different e = negative_nonneg_clash (dot (cross c d) rear.v) (low_side rear.side) (subst (λ v. pos 0 ≤ℤ dot (cross c d) v) e (positive_nonneg (dot (cross c d) front.v) front.side))
 
       by_order : (o : Ordering) → vector_cmp front.v rear.v ≡ o → (e : V3) × IsEdgeSum planes (signs_of planes d) e
-      by_order Less p = (plus front.v rear.v, record { u = front.v; v = rear.v; ends = pair_lists (IsEnd planes (signs_of planes d)) front.v rear.v p front_end rear_end either_end; is = refl })
+      by_order Less p = (plus front.v rear.v, record { u = front.v; v = rear.v; ends = pair_lists (IsEnd planes (signs_of planes d)) front.v rear.v p (corner_end planes d front.v front.corner) (corner_end planes d rear.v rear.corner) either_end; is = refl })
       by_order Equal p = absurd (different (vector_exact front.v rear.v p))
       by_order Greater p =
           let less : vector_cmp rear.v front.v ≡ Less = vector_total.antisymm rear.v front.v ∙ ap ordering_reverse p in
-          (plus rear.v front.v, record { u = rear.v; v = front.v; ends = pair_lists (IsEnd planes (signs_of planes d)) rear.v front.v less rear_end front_end (λ w end. ⊎_elim (λ e. inr e) (λ e. inl e) (either_end w end)); is = refl })
+          (plus rear.v front.v, record { u = rear.v; v = front.v; ends = pair_lists (IsEnd planes (signs_of planes d)) rear.v front.v less (corner_end planes d rear.v rear.corner) (corner_end planes d front.v front.corner) (λ w end. ⊎_elim (λ e. inr e) (λ e. inl e) (either_end w end)); is = refl })
 
   -- and any representative lies on the edge
   sum_in : (e : V3) → IsEdgeSum planes (signs_of planes d) e → signs_of planes e ≡ signs_of planes d

@@ -40,7 +40,7 @@ place_cases (y ∷ xs) ys (suc k) x e = ⊎_elim (λ h. inl h) (λ (i, n, h). in
 -- ---- the leaves of a plan
 
 -- each part stands at one leaf at most
-Once : List Node → Type 0
+abbrev Once : List Node → Type 0
 Once nodes = (k m p : ℕ) → IsLeafAt nodes k p → IsLeafAt nodes m p → k ≡ m
 
 pub no_leaf : (d : V3) (seps : List Sep) (p : ℕ) → Some (Split d seps) ≡ Some (Leaf p) → ⊥
@@ -90,7 +90,6 @@ split_free parts s r d seps is split = record {
 }
 
 plan_good : (parts : List Part) (t : WalledPlan) → IsAssembly parts → SplitsHold parts t → Once (nodes_of t) → IsGood parts (walled_parts t) (unwalled t)
-unfolding Once
 plan_good parts (walled_leaf p) is splits once = refl
 plan_good parts (walled_split d seps moved rest) is (here, splits_moved, splits_rest) once =
     let ms = nodes_of moved in
@@ -111,7 +110,6 @@ plan_good parts (walled_split d seps moved rest) is (here, splits_moved, splits_
 
 pub plan_is_right_lemma : (parts : List Part) (stated : ℕ) (nodes : List Node) → IsAssembly parts → PlanHolds parts stated nodes
     → (tree : WalledPlan) × (nodes ≡ nodes_of tree) × IsGood parts (below (length parts)) (unwalled tree)
-unfolding Once
 plan_is_right_lemma parts stated nodes is holds =
     let t = holds.tree in
     let leaves = holds.leaves in

@@ -99,11 +99,10 @@ part_there parts a i = go (slice_get parts a) refl
     go (Some part) e lt = place_within parts a part e
 
 -- all pieces that exist, each by its part and its number there
-Place : List Part → ℕ × ℕ → Type 0
+abbrev Place : List Part → ℕ × ℕ → Type 0
 Place parts t = t.1 < piece_count parts t.0
 
 places : (parts : List Part) → Listing (Place parts)
-unfolding Place
 places parts = listing_as
     (λ t (a, a_in, (i, i_in, is)). subst (λ (z : ℕ × ℕ). z.1 < piece_count parts z.0) (sym is) i_in)
     (λ t h. (t.0, part_there parts t.0 t.1 h, (t.1, h, refl)))
@@ -111,7 +110,6 @@ places parts = listing_as
 
 -- all arcs between pieces that exist
 pub arcs_listing : (parts : List Part) (s r : PartSet) → Listing (IsAcross parts s r)
-unfolding Place
 arcs_listing parts s r = listing_as
     (λ arc ((t, t_in, (u, u_in, is)), (has_a, has_b)). record {
       a_in = has_a;
