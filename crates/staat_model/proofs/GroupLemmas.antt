@@ -1,6 +1,6 @@
 -- Nodes that stay whole are held together along each direction, where a core does so at each vertex of its planes.
 use Rattle.std.proofs.Common.{◌≡◌, ◌≢◌, ℕ, zero, suc, ◌≤◌, ◌<◌, refl, sym, subst, ◌∙◌, arith}
-use Rattle.std.proofs.Common.{inl, inr, List, [], ◌∷◌, All, Contains, length, pos}
+use Rattle.std.proofs.Common.{inl, inr, List, [], ◌∷◌, All, Contains, pos}
 use Rattle.std.specs.FinSet as set
 use Rattle.staat_vec.specs.declared.vector.V3.{V3}
 use Rattle.staat_vec.specs.Vectors.{dot, origin}

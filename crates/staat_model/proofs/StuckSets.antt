@@ -1,5 +1,5 @@
 -- A set that is stuck is one of parts that exist.
-use Rattle.std.proofs.Common.{◌≡◌, ◌≢◌, ℕ, ◌≤◌, arith, pos, refl, sym, ap, subst, ◌∙◌, ⊎_elim, List, length}
+use Rattle.std.proofs.Common.{◌≡◌, ℕ, ◌≤◌, arith, pos, refl, sym, ap, subst, ◌∙◌, ⊎_elim, List, length}
 use Rattle.std.specs.Prelude.{Some, slice_get}
 use Rattle.std.specs.FinSet as set
 use Rattle.std.proofs.lemmas.Option.{option_and_then_some}
