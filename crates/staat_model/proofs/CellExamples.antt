@@ -82,7 +82,8 @@ edge_sum s u w less u_in w_in u_on w_on test = record {
 
     one_of : (x : V3) → no_other s u w x ≡ true → IsBorder (signs_of axes x) s → (x ≡ u) ⊎ (x ≡ w)
     one_of x h on =
-        let passes : (is_equal (vector_cmp x u) || is_equal (vector_cmp x w)) ≡ true = sym (ap (λ b. not b || (is_equal (vector_cmp x u) || is_equal (vector_cmp x w))) (border_test (signs_of axes x) s on)) ∙ h in
+        let passes : (is_equal (vector_cmp x u) || is_equal (vector_cmp x w)) ≡ true =
+        sym (ap (λ b. not b || (is_equal (vector_cmp x u) || is_equal (vector_cmp x w))) (border_test (signs_of axes x) s on)) ∙ h in
         elim (or_cases _ _ passes) [ inl e ↦ inl (vector_equal x u e) | inr e ↦ inr (vector_equal x w e) ]
 
     only : All (λ x. IsBorder (signs_of axes x) s → (x ≡ u) ⊎ (x ≡ w)) six

@@ -243,7 +243,8 @@ module _ (planes : List V3) (d : V3) (axes : HoldsAxes planes) (apart : NonePara
         f = signs_of planes b.z;
         e_is = record { cell = record { d = b.y; nonzero = some_from b.h b.y b.y_inside; is = refl }; edge = kind_edge (signs_of planes b.y) e.one; border = e.border };
         f_is = record { cell = record { d = b.z; nonzero = some_from b.g b.z b.z_inside; is = refl }; edge = kind_edge (signs_of planes b.z) f.one; border = f.border };
-        different = λ same. e.agrees b.z b.z_inside (⊎_elim (λ p. p ∙ e.zero_there) (λ p. p) (border_at planes b.z b.y (border_from_same (signs_of planes b.z) (signs_of planes b.y) (sym same)) e.m e.in_planes));
+        different = λ same. e.agrees b.z b.z_inside
+            (⊎_elim (λ p. p ∙ e.zero_there) (λ p. p) (border_at planes b.z b.y (border_from_same (signs_of planes b.z) (signs_of planes b.y) (sym same)) e.m e.in_planes));
       }
 
 -- an open cell has two edges on its border

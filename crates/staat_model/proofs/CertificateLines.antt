@@ -110,7 +110,8 @@ body_same : (b c : Body) → lines_of_body b ++ line.End ∷ [] ≡ lines_of_bod
 body_same (body.Plan xs) (body.Plan ys) e = ap body.Plan (nodes_same xs ys (tails_of e))
 body_same (body.Stuck w ws dirs) (body.Stuck v xs es) e =
     let sets : w ≡ v = cc in
-    let same = trees_same 0 ws xs dirs es (sym (append_assoc (lines_of_witnesses 0 ws) (map line.Dir dirs) (line.End ∷ [])) ∙ tails_of e ∙ append_assoc (lines_of_witnesses 0 xs) (map line.Dir es) (line.End ∷ [])) in
+    let same = trees_same 0 ws xs dirs es
+    (sym (append_assoc (lines_of_witnesses 0 ws) (map line.Dir dirs) (line.End ∷ [])) ∙ tails_of e ∙ append_assoc (lines_of_witnesses 0 xs) (map line.Dir es) (line.End ∷ [])) in
     λ i. body.Stuck (sets i) (same.0 i) (same.1 i)
 body_same b c e = cc
 
@@ -150,7 +151,8 @@ witnesses_go_on k (w ∷ ws) =
 body_goes_on : (b : Body) → All GoesOn (lines_of_body b)
 body_goes_on (body.Plan nodes) = All-cons GoesOn line.Plan (flat_map lines_of_node nodes) tt (nodes_go_on nodes)
 body_goes_on (body.Stuck w ws dirs) =
-    All-cons GoesOn (line.Stuck w) (lines_of_witnesses 0 ws ++ map line.Dir dirs) tt (All-append GoesOn (lines_of_witnesses 0 ws) (map line.Dir dirs) (witnesses_go_on 0 ws) (kind_goes_on line.Dir (λ x. tt) dirs))
+    All-cons GoesOn (line.Stuck w) (lines_of_witnesses 0 ws ++ map line.Dir dirs) tt
+    (All-append GoesOn (lines_of_witnesses 0 ws) (map line.Dir dirs) (witnesses_go_on 0 ws) (kind_goes_on line.Dir (λ x. tt) dirs))
 
 -- the lines but the last
 abbrev front_of : Certificate → List Line

@@ -54,7 +54,8 @@ conditions d gs =
         | inr turned ↦ (let (g, g_in, is) = from_map negative gs c turned in (g, g_in, inr is))
       ];
       up = λ g g_in h. all g (Contains-append_left gs (map negative gs) g g_in) h;
-      down = λ g g_in h. all (negative g) (Contains-append_right gs (map negative gs) (negative g) (Contains-map negative gs g g_in)) (opposite_nonneg (dot (negative g) d) (dot g d) (negative_dot g d) h);
+      down = λ g g_in h. all (negative g) (Contains-append_right gs (map negative gs) (negative g) (Contains-map negative gs g g_in))
+          (opposite_nonneg (dot (negative g) d) (dot g d) (negative_dot g d) h);
     }
 
 -- ---- the crossing

@@ -155,7 +155,8 @@ module _ (planes : List V3) (d c : V3) (axes : HoldsAxes planes) (apart : NonePa
       at g g_in place (inl p) q = inl p
       at g g_in place (inr z) (inl q) = inr q
       at g g_in (inl e) (inr z) (inr y) = inl (ap sign (ap (λ v. dot v front.v) e ∙ front_tip.on_c) ∙ sym (ap sign (ap (λ v. dot v d) e ∙ one.on)))
-      at g g_in (inr off) (inr z) (inr y) = absurd (not_both planes d c axes one some_c front.v rear.v g front_tip rear_tip front.side (low_side rear.side) off (zero_sign (dot g front.v) z) (zero_sign (dot g rear.v) y))
+      at g g_in (inr off) (inr z) (inr y) = absurd (not_both planes d c axes one some_c front.v rear.v g front_tip rear_tip front.side (low_side rear.side) off
+          (zero_sign (dot g front.v) z) (zero_sign (dot g rear.v) y))
 
   -- the edge has a representative
   has_sum : (e : V3) × IsEdgeSum planes (signs_of planes d) e
@@ -165,11 +166,13 @@ module _ (planes : List V3) (d c : V3) (axes : HoldsAxes planes) (apart : NonePa
       different e = negative_nonneg_clash (dot (cross c d) rear.v) (low_side rear.side) (subst (λ v. pos 0 ≤ℤ dot (cross c d) v) e (positive_nonneg (dot (cross c d) front.v) front.side))
 
       by_order : (o : Ordering) → vector_cmp front.v rear.v ≡ o → (e : V3) × IsEdgeSum planes (signs_of planes d) e
-      by_order Less p = (plus front.v rear.v, record { u = front.v; v = rear.v; ends = pair_lists (IsEnd planes (signs_of planes d)) front.v rear.v p (corner_end planes d front.v front.corner) (corner_end planes d rear.v rear.corner) either_end; is = refl })
+      by_order Less p = (plus front.v rear.v, record { u = front.v; v = rear.v; ends = pair_lists (IsEnd planes (signs_of planes d)) front.v rear.v p
+          (corner_end planes d front.v front.corner) (corner_end planes d rear.v rear.corner) either_end; is = refl })
       by_order Equal p = absurd (different (vector_exact front.v rear.v p))
       by_order Greater p =
           let less : vector_cmp rear.v front.v ≡ Less = vector_total.antisymm rear.v front.v ∙ ap ordering_reverse p in
-          (plus rear.v front.v, record { u = rear.v; v = front.v; ends = pair_lists (IsEnd planes (signs_of planes d)) rear.v front.v less (corner_end planes d rear.v rear.corner) (corner_end planes d front.v front.corner) (λ w end. ⊎_elim (λ e. inr e) (λ e. inl e) (either_end w end)); is = refl })
+          (plus rear.v front.v, record { u = rear.v; v = front.v; ends = pair_lists (IsEnd planes (signs_of planes d)) rear.v front.v less
+              (corner_end planes d rear.v rear.corner) (corner_end planes d front.v front.corner) (λ w end. ⊎_elim (λ e. inr e) (λ e. inl e) (either_end w end)); is = refl })
 
   -- and any representative lies on the edge
   sum_in : (e : V3) → IsEdgeSum planes (signs_of planes d) e → signs_of planes e ≡ signs_of planes d

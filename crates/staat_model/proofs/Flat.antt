@@ -39,7 +39,8 @@ on_line u a ps ne all solid =
 pub at_place : (a : V3) (ps : List V3) → All (λ p. p ≡ a) ps → IsSolid ps → ⊥
 at_place a ps all solid =
     let u = vector (pos 1) (pos 0) (pos 0) in
-    on_line u a ps (λ e. absurd (omega (arith, ints, ap (λ (v : V3). v.x) e))) (All-weaker (λ p. p ≡ a) (λ p. cross u (minus p a) ≡ origin) (λ p e. ap (λ q. cross u (minus q a)) e ∙ still a) ps all) solid
+    on_line u a ps (λ e. absurd (omega (arith, ints, ap (λ (v : V3). v.x) e)))
+    (All-weaker (λ p. p ≡ a) (λ p. cross u (minus p a) ≡ origin) (λ p e. ap (λ q. cross u (minus q a)) e ∙ still a) ps all) solid
   where
     still : (a : V3) → cross (vector (pos 1) (pos 0) (pos 0)) (minus a a) ≡ origin
     still a = same_vector (cross (vector (pos 1) (pos 0) (pos 0)) (minus a a)) origin (omega (arith, ints)) (omega (arith, ints)) (omega (arith, ints))

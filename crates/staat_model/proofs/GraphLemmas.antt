@@ -124,7 +124,8 @@ pub positive_back : (a b : ℤ) → (a ≤ℤ pos 0 → b ≤ℤ pos 0) → pos 
 positive_back a b f h = by_lt_z {P = pos 0 <ℤ a} (pos 0) a (λ up. up) (λ low. let down = f low in absurd (omega (arith, ints, down, h)))
 
 -- what meets along v meets along d, if no facet's plane has v on another side than d
-pub meets_where : (parts : List Part) (d v : V3) (arc : Arc) → All IsPart parts → ((n : V3) → HoldsAt parts arc (λ p q. IsFacet p q n) → IsTowards d v (canon n)) → MeetsAlong parts v arc → MeetsAlong parts d arc
+pub meets_where : (parts : List Part) (d v : V3) (arc : Arc) → All IsPart parts → ((n : V3) → HoldsAt parts arc (λ p q. IsFacet p q n) → IsTowards d v (canon n))
+    → MeetsAlong parts v arc → MeetsAlong parts d arc
 meets_where parts d v arc each towards m =
     at_pieces parts arc (λ p q. Meets p q v) (λ p q. Meets p q d) each
     (λ p q p_is q_is is_p is_q meets. (meets_by_facets_lemma p q d is_p is_q).1 (λ n f.

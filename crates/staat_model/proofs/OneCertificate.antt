@@ -93,7 +93,8 @@ least_arc_unique parts d x y ea eb f g = IsLeast-unique arc_cmp arc_total arc_ex
 })
 
 -- the arcs of a tree are known by the parts that they join
-arcs_unique : (parts : List Part) (w : PartSet) (d : V3) (R : ℕ → ℕ → Type 0) (step : Arc → ℕ × ℕ) → ((x y : Arc) → step x ≡ step y → (x.a ≡ y.a) × (x.b ≡ y.b)) → (reached : PartSet) (xs ys : List Arc)
+arcs_unique : (parts : List Part) (w : PartSet) (d : V3) (R : ℕ → ℕ → Type 0) (step : Arc → ℕ × ℕ) → ((x y : Arc) → step x ≡ step y → (x.a ≡ y.a) × (x.b ≡ y.b))
+    → (reached : PartSet) (xs ys : List Arc)
     → IsTree R w reached (map step xs) → IsTree R w reached (map step ys) → All (IsLeastArc parts d) xs → All (IsLeastArc parts d) ys → xs ≡ ys
 arcs_unique parts w d R step joins reached xs ys a b =
     known_by step (IsLeastArc parts d) (λ x y e. least_arc_unique parts d x y (joins x y e).0 (joins x y e).1) xs ys (tree_unique R w reached (map step xs) (map step ys) a b)

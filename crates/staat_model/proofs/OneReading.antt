@@ -70,7 +70,8 @@ pub nested : (xs ys : List Line) (p q : List ℕ) → All IsInBounds xs → All 
 nested [] ys p q a b e = inl (record { back = ys; is = refl; ahead_is = e })
 nested (x ∷ xs) [] p q a b e = inr (record { back = x ∷ xs; is = refl; ahead_is = sym e })
 nested (x ∷ xs) (y ∷ ys) p q a b e =
-    let once = cut_line x y (text xs ++ p) (text ys ++ q) (All-head IsInBounds x xs a) (All-head IsInBounds y ys b) (sym (append_assoc (line_text x) (text xs) p) ∙ e ∙ append_assoc (line_text y) (text ys) q) in
+    let once = cut_line x y (text xs ++ p) (text ys ++ q) (All-head IsInBounds x xs a) (All-head IsInBounds y ys b)
+    (sym (append_assoc (line_text x) (text xs) p) ∙ e ∙ append_assoc (line_text y) (text ys) q) in
     elim (nested xs ys p q (All-tail IsInBounds x xs a) (All-tail IsInBounds y ys b) once.1) [
       | inl g ↦ inl (goes_more x y xs ys p q once.0 g)
       | inr g ↦ inr (goes_more y x ys xs q p (sym once.0) g)
@@ -137,7 +138,8 @@ not_bad c few l back ahead rest form is a (inr (inl long)) =
     let fits : IsInBounds l = All-head IsInBounds l back (all_back IsInBounds few (l ∷ back) (subst (All IsInBounds) is form.lines)) in
     no_feed_stops long.line (line_front l) long.rest rest long.no_feed (omega (arith, line_length l fits, long.long)) (sym long.is ∙ a ∙ ap (λ t. t ++ rest) (line_is l) ∙ with_feed (line_front l) rest)
 not_bad c few l back ahead rest form is a (inr (inr more)) =
-    let same : few ≡ lines_of more.certificate = lines_by_text few (lines_of more.certificate) (all_front IsInBounds few (l ∷ back) (subst (All IsInBounds) is form.lines)) more.whole.form.lines more.whole.is in
+    let same : few ≡ lines_of more.certificate = lines_by_text few (lines_of more.certificate)
+    (all_front IsInBounds few (l ∷ back) (subst (All IsInBounds) is form.lines)) more.whole.form.lines more.whole.is in
     lines_end more.certificate c l back (is ∙ ap (λ ls. ls ++ l ∷ back) same)
 
 -- what a first bad line says of the lines before it

@@ -52,7 +52,8 @@ two_planes (g ∷ gs) d (head, rest) h = go (sign_zero_or (sign (dot g d))) (two
     go (inl e) ih =
         let (m, c, on) = one_plane gs d (omega (arith, h, zeros_on (sign (dot g d)) (signs_of gs d) e)) in
         record { g = g; h = m; g_in = Contains-front g gs; h_in = Contains-there g m gs c; independent = All-contains (λ h. cross g h ≢ origin) gs m head c; on_g = zero_sign (dot g d) e; on_h = on }
-    go (inr n) ih = let o = ih (omega (arith, h, zeros_off (sign (dot g d)) (signs_of gs d) n)) in record { g = o.g; h = o.h; g_in = Contains-there g o.g gs o.g_in; h_in = Contains-there g o.h gs o.h_in; independent = o.independent; on_g = o.on_g; on_h = o.on_h }
+    go (inr n) ih = let o = ih (omega (arith, h, zeros_off (sign (dot g d)) (signs_of gs d) n)) in
+        record { g = o.g; h = o.h; g_in = Contains-there g o.g gs o.g_in; h_in = Contains-there g o.h gs o.h_in; independent = o.independent; on_g = o.on_g; on_h = o.on_h }
 
 pub point_two_zeros : (n : ℕ) → kind_by_count n ≡ Point → 2 ≤ n
 point_two_zeros zero e = cc
@@ -68,7 +69,8 @@ point_is_vertex_lemma parts w planes d are some point =
     let p = primitive-is d some in
     let n = primitive d in
     in_vertices planes o.g o.h n o.g_in o.h_in o.independent
-    (⊎_elim (λ e. inl e) (λ e. inr (e ∙ ap primitive (cross_turned o.h o.g) ∙ primitive-negative (cross o.g o.h))) (across_crosses n o.g o.h p.primitive o.independent (across_primitive o.g d some o.on_g) (across_primitive o.h d some o.on_h)))
+    (⊎_elim (λ e. inl e) (λ e. inr (e ∙ ap primitive (cross_turned o.h o.g) ∙ primitive-negative (cross o.g o.h)))
+    (across_crosses n o.g o.h p.primitive o.independent (across_primitive o.g d some o.on_g) (across_primitive o.h d some o.on_h)))
 
 -- ---- representatives
 

@@ -42,7 +42,8 @@ reached_all w P step (arc ∷ arcs) pass reached known (from, to, new, rest) p h
 module _ (parts : List Part) (is : IsAssembly parts) (w s : PartSet) (v : V3) (side : IsSide w s) (free : IsFree parts s (set.difference w s) v) (witness : Witness) (holds : IsWitness parts w witness)
     (outs : All (IsBlocking parts v) witness.outs) (ins : All (IsBlocking parts v) witness.ins) where
   meets : (arc : Arc) → IsBlocking parts v arc → MeetsAlong parts v arc
-  meets arc b = at_pieces parts arc (λ p q. (n : V3) → IsFacet p q n → pos 0 <ℤ dot n v) (λ p q. Meets p q v) is.each (λ p q p_is q_is is_p is_q ahead. (meets_by_facets_lemma p q v is_p is_q).1 ahead) b
+  meets arc b = at_pieces parts arc (λ p q. (n : V3) → IsFacet p q n → pos 0 <ℤ dot n v) (λ p q. Meets p q v) is.each
+      (λ p q p_is q_is is_p is_q ahead. (meets_by_facets_lemma p q v is_p is_q).1 ahead) b
 
   -- no arc leads out of the side
   stays : (arc : Arc) → IsBlocking parts v arc → Has w arc.b → Has s arc.a → Has s arc.b

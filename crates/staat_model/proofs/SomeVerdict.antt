@@ -95,10 +95,7 @@ leaves_or n nodes = elim (below_or (IsBadLeaf n nodes) (bad_or n nodes) (length 
     t.0,
     bad_leaf (record {
       has = t.2;
-      least = λ y bad. elim (trichotomy y t.0) [
-        | inl lt ↦ absurd (t.3 y lt bad)
-        | inr other ↦ (elim other [ inl e ↦ inl e | inr gt ↦ inr (nat_cmp-less t.0 y gt) ])
-      ];
+      least = λ y bad. elim (lt_or y t.0) [ inl lt ↦ absurd (t.3 y lt bad) | inr ge ↦ elim (nat_or y t.0) [ inl e ↦ inl e | inr ne ↦ inr (nat_cmp-less t.0 y (omega (arith, ge, ne))) ] ];
     }),
   )
   | inr none ↦ with_good (λ k bad. none k (place_within nodes k (Leaf bad.part) bad.leaf_is) bad)

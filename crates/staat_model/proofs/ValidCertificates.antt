@@ -106,7 +106,8 @@ there_are : (parts : List Part) (d : V3) (arc : Arc) → MeetsAlong parts d arc 
 there_are parts d arc m = (piece_within parts arc.a arc.i m.p m.p_is, piece_within parts arc.b arc.j m.q m.q_is)
 
 blocking : (parts : List Part) (d : V3) (arc : Arc) → IsAssembly parts → MeetsAlong parts d arc → IsBlocking parts d arc
-blocking parts d arc is m = at_pieces parts arc (λ p q. Meets p q d) (λ p q. (n : V3) → IsFacet p q n → pos 0 <ℤ dot n d) is.each (λ p q p_is q_is is_p is_q meets. (meets_by_facets_lemma p q d is_p is_q).0 meets) m
+blocking parts d arc is m = at_pieces parts arc (λ p q. Meets p q d) (λ p q. (n : V3) → IsFacet p q n → pos 0 <ℤ dot n d) is.each
+    (λ p q p_is q_is is_p is_q meets. (meets_by_facets_lemma p q d is_p is_q).0 meets) m
 
 more_within : (w reached : PartSet) (p : ℕ) → IsSubset reached w → Has w p → IsSubset (set.insert reached p) w
 more_within w reached p within in_w q h = ⊎_elim (λ e. subst (Has w) (sym e) in_w) (λ old. within q old) ((has-insert reached p q).0 h)
