@@ -91,11 +91,10 @@ towards_border gs d v b g c = elim (border_at gs v d b g c) [
 
 sign_towards : (a b : ℤ) → (pos 0 ≤ℤ b → pos 0 ≤ℤ a) → (b ≤ℤ pos 0 → a ≤ℤ pos 0) → (sign a ≡ sign b) ⊎ (sign a ≡ Zero)
 sign_towards (pos zero) b up down = inr refl
-sign_towards (pos (suc n)) (pos zero) up down = absurd (let h : pos (suc n) ≤ℤ pos 0 = down (omega (arith, ints)) in omega (arith, ints))
 sign_towards (pos (suc n)) (pos (suc m)) up down = inl refl
-sign_towards (pos (suc n)) (negsuc m) up down = absurd (let h : pos (suc n) ≤ℤ pos 0 = down (omega (arith, ints)) in omega (arith, ints))
-sign_towards (negsuc n) (pos m) up down = absurd (let h : pos 0 ≤ℤ negsuc n = up (omega (arith, ints)) in omega (arith, ints))
 sign_towards (negsuc n) (negsuc m) up down = inl refl
+sign_towards (pos (suc n)) b up down = absurd (let h : pos (suc n) ≤ℤ pos 0 = down (omega (arith, ints)) in omega (arith, ints))
+sign_towards (negsuc n) b up down = absurd (let h : pos 0 ≤ℤ negsuc n = up (omega (arith, ints)) in omega (arith, ints))
 
 pub border_towards : (gs : List V3) (d v : V3) → ((g : V3) → Contains gs g → IsTowards d v g) → IsBorder (signs_of gs v) (signs_of gs d)
 border_towards [] d v f = tt

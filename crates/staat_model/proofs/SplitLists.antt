@@ -16,16 +16,11 @@ module _ {X : Type 0} (P : X → Type 0) where
   at_end [] more x = refl
   at_end (y ∷ before) more x = at_end before more x
 
-  in_front : (before more : List X) (m : ℕ) (y : X) → m < length before → slice_get (before ++ more) m ≡ Some y
+  pub in_front : (before more : List X) (m : ℕ) (y : X) → m < length before → slice_get (before ++ more) m ≡ Some y
       → slice_get before m ≡ Some y
   in_front [] more m y lt e = absurd (omega (arith, lt))
   in_front (x ∷ before) more zero y lt e = e
   in_front (x ∷ before) more (suc m) y lt e = in_front before more m y (omega (arith, lt)) e
-
-  pub kept_before : (before more : List X) → All P before → (m : ℕ) (y : X) → m < length before
-      → slice_get (before ++ more) m ≡ Some y → P y
-  kept_before before more all m y lt e =
-      All-contains P before y all (from_place before m y (in_front before more m y lt e))
 
   -- all before x keep the rule, and x breaks it
   abbrev pub fails_behind : (before more : List X) (x : X) → All P before → (P x → ⊥)
@@ -34,7 +29,7 @@ module _ {X : Type 0} (P : X → Type 0) where
     x = x;
     at = at_end before more x;
     fails = fails;
-    before = kept_before before (x ∷ more) all;
+    before = λ m y lt e. All-contains P before y all (from_place before m y (in_front before (x ∷ more) m y lt e));
   }
 
 -- where the splits of a plan hold, each that is listed does
