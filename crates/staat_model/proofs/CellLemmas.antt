@@ -24,8 +24,7 @@ use Rattle.staat_model.proofs.FacetLemmas.{swap_zero}
 use Rattle.staat_model.proofs.CornerLemmas.{axes_span}
 use Rattle.staat_model.proofs.VertexLemmas.{same_some, holds_axes}
 use Rattle.staat_model.proofs.PlaneLemmas.{NoneParallel, planes_apart}
-use Rattle.staat_vec.proofs.Integers.{negative_nonpositive, positive_from_nonneg, zero_nonneg, zero_nonpositive, zero_not_positive, opposite_negative_back, sum_zero, add-comm_ℤ}
-use Rattle.staat_vec.proofs.Order.{positive_nonneg}
+use Rattle.staat_vec.proofs.Integers.{negative_nonpositive, positive_from_nonneg, zero_not_positive, opposite_negative_back, sum_zero, add-comm_ℤ}
 use Rattle.staat_vec.proofs.Signs.{positive_sign, negative_sign, sign_positive, sign_negative, zero_sign}
 use Rattle.staat_vec.proofs.VectorLaws.{dot_plus, dot_origin}
 use Rattle.staat_vec.proofs.Unique.{Contains-front}
@@ -106,16 +105,18 @@ covers_or_same (e ∷ es) (f ∷ fs) (s ∷ ss) ce cf be bf = go be.0 bf.0 (cove
     go (inr p) (inr q) ih = inr (λ i. (p ∙ sym q) i ∷ (strict_behind e es ss p ce be.1 ∙ sym (strict_behind f fs ss q cf bf.1)) i)
 covers_or_same es fs ss ce cf be bf = search rules
 
-sum_positive : (a b : ℤ) → pos 0 <ℤ a → pos 0 ≤ℤ b → pos 0 <ℤ (a +ℤ b)
-sum_positive a b h g = omega (arith, ints)
+sum_positive : (a b : ℤ) → pos 0 <ℤ a → (pos 0 <ℤ b) ⊎ (b ≡ pos 0) → pos 0 <ℤ (a +ℤ b)
+sum_positive a b h (inl g) = omega (arith, ints)
+sum_positive a b h (inr e) = omega (arith, ints)
 
-sum_negative : (a b : ℤ) → a <ℤ pos 0 → b ≤ℤ pos 0 → (a +ℤ b) <ℤ pos 0
-sum_negative a b h g = omega (arith, ints)
+sum_negative : (a b : ℤ) → a <ℤ pos 0 → (b <ℤ pos 0) ⊎ (b ≡ pos 0) → (a +ℤ b) <ℤ pos 0
+sum_negative a b h (inl g) = omega (arith, ints)
+sum_negative a b h (inr e) = omega (arith, ints)
 
 -- the sign of a sum of two numbers, one of the sign s and the other of it or 0
 sum_sign : (a b : ℤ) (s : Sign) → sign a ≡ s → (sign b ≡ s) ⊎ (sign b ≡ Zero) → sign (a +ℤ b) ≡ s
-sum_sign a b Pos p q = positive_sign (a +ℤ b) (sum_positive a b (sign_positive a p) (⊎_elim (λ h. positive_nonneg b (sign_positive b h)) (λ h. zero_nonneg b (zero_sign b h)) q))
-sum_sign a b Neg p q = negative_sign (a +ℤ b) (sum_negative a b (sign_negative a p) (⊎_elim (λ h. negative_nonpositive b (sign_negative b h)) (λ h. zero_nonpositive b (zero_sign b h)) q))
+sum_sign a b Pos p q = positive_sign (a +ℤ b) (sum_positive a b (sign_positive a p) (⊎_elim (λ h. inl (sign_positive b h)) (λ h. inr (zero_sign b h)) q))
+sum_sign a b Neg p q = negative_sign (a +ℤ b) (sum_negative a b (sign_negative a p) (⊎_elim (λ h. inl (sign_negative b h)) (λ h. inr (zero_sign b h)) q))
 sum_sign a b Zero p q = ap sign (sum_zero a b (zero_sign a p) (⊎_elim (λ h. zero_sign b h) (λ h. zero_sign b h) q))
 
 pub sum_covers : (gs : List V3) (u v : V3) (ss : List Sign) → Covers (signs_of gs u) (signs_of gs v) ss → IsBorder (signs_of gs u) ss → IsBorder (signs_of gs v) ss → signs_of gs (plus u v) ≡ ss

@@ -158,6 +158,11 @@ module _ (planes : List V3) (d c : V3) (axes : HoldsAxes planes) (apart : NonePa
       at g g_in (inr off) (inr z) (inr y) = absurd (not_both planes d c axes one some_c front.v rear.v g front_tip rear_tip front.side (low_side rear.side) off
           (zero_sign (dot g front.v) z) (zero_sign (dot g rear.v) y))
 
+  -- two vectors that are all ends, in this order, represent the edge by their sum
+  sum_of : (u v : V3) → vector_cmp u v ≡ Less → IsEnd planes (signs_of planes d) u → IsEnd planes (signs_of planes d) v → ((w : V3) → IsEnd planes (signs_of planes d) w → (w ≡ u) ⊎ (w ≡ v))
+      → (e : V3) × IsEdgeSum planes (signs_of planes d) e
+  sum_of u v less eu ev all = (plus u v, record { u = u; v = v; ends = pair_lists (IsEnd planes (signs_of planes d)) u v less eu ev all; is = refl })
+
   -- the edge has a representative
   has_sum : (e : V3) × IsEdgeSum planes (signs_of planes d) e
   has_sum = by_order (vector_cmp front.v rear.v) refl
@@ -166,13 +171,11 @@ module _ (planes : List V3) (d c : V3) (axes : HoldsAxes planes) (apart : NonePa
       different e = negative_nonneg_clash (dot (cross c d) rear.v) (low_side rear.side) (subst (λ v. pos 0 ≤ℤ dot (cross c d) v) e (positive_nonneg (dot (cross c d) front.v) front.side))
 
       by_order : (o : Ordering) → vector_cmp front.v rear.v ≡ o → (e : V3) × IsEdgeSum planes (signs_of planes d) e
-      by_order Less p = (plus front.v rear.v, record { u = front.v; v = rear.v; ends = pair_lists (IsEnd planes (signs_of planes d)) front.v rear.v p
-          (corner_end planes d front.v front.corner) (corner_end planes d rear.v rear.corner) either_end; is = refl })
+      by_order Less p = sum_of front.v rear.v p (corner_end planes d front.v front.corner) (corner_end planes d rear.v rear.corner) either_end
       by_order Equal p = absurd (different (vector_exact front.v rear.v p))
       by_order Greater p =
-          let less : vector_cmp rear.v front.v ≡ Less = vector_total.antisymm rear.v front.v ∙ ap ordering_reverse p in
-          (plus rear.v front.v, record { u = rear.v; v = front.v; ends = pair_lists (IsEnd planes (signs_of planes d)) rear.v front.v less
-              (corner_end planes d rear.v rear.corner) (corner_end planes d front.v front.corner) (λ w end. ⊎_elim (λ e. inr e) (λ e. inl e) (either_end w end)); is = refl })
+          sum_of rear.v front.v (vector_total.antisymm rear.v front.v ∙ ap ordering_reverse p) (corner_end planes d rear.v rear.corner) (corner_end planes d front.v front.corner)
+          (λ w end. ⊎_elim (λ e. inr e) (λ e. inl e) (either_end w end))
 
   -- and any representative lies on the edge
   sum_in : (e : V3) → IsEdgeSum planes (signs_of planes d) e → signs_of planes e ≡ signs_of planes d

@@ -57,7 +57,7 @@ with_axes others normal none rest =
     let z : V3 = record { x = pos 0; y = pos 0; z = pos 1 } in
     let all : (axis : V3) → Contains axes axis → All (λ h. cross axis h ≢ origin) others = λ axis a. All-from_members (λ h. cross axis h ≢ origin) others (λ h c. off axis h a c) in (
       All-cons (λ h. cross x h ≢ origin) y (z ∷ others) (λ e. let wrong : pos 1 ≡ pos 0 = ap (λ (v : V3). v.z) e in cc)
-      (All-cons (λ h. cross x h ≢ origin) z others (λ e. let wrong : negsuc 0 ≡ pos 0 = ap (λ (v : V3). v.y) e in cc) (all x (0, omega arith, refl))),
+          (All-cons (λ h. cross x h ≢ origin) z others (λ e. let wrong : negsuc 0 ≡ pos 0 = ap (λ (v : V3). v.y) e in cc) (all x (0, omega arith, refl))),
       (All-cons (λ h. cross y h ≢ origin) z others (λ e. let wrong : pos 1 ≡ pos 0 = ap (λ (v : V3). v.x) e in cc) (all y (1, omega arith, refl)), (all z (2, omega arith, refl), rest)),
     )
   where

@@ -32,15 +32,11 @@ module _ (a b : ℕ) (s o : PartSet) (sa : set_of_word a ≡ s) (so : set_of_wor
   meets_iff = (
     λ t. elim (nonempty_or (set.intersection s o)) [
       | inl one ↦ (let both = (has-intersection s o one.0).0 one.1 in (one.0, both.0, both.1))
-      | inr none ↦ absurd (let z = none_zero _ (set.intersection s o) shared (omega (arith, and_le_l a b, la)) none in not_zero (bit_and a b) z t)
+      | inr none ↦ absurd (let z : bit_and a b ≡ 0 = none_zero _ (set.intersection s o) shared (omega (arith, and_le_l a b, la)) none in grind (arith, nat_tests))
     ],
     λ h. by_zero (bit_and a b) (λ z. zero_none _ (set.intersection s o) shared z h.0 ((has-intersection s o h.0).1 (h.1, h.2))),
   )
     where
-      not_zero : (n : ℕ) → n ≡ 0 → IsTrue (not (nat_eq n 0)) → ⊥
-      not_zero zero z t = true≢false (sym t)
-      not_zero (suc n) z t = absurd (omega (arith, z))
-
       by_zero : (n : ℕ) → (n ≡ 0 → ⊥) → IsTrue (not (nat_eq n 0))
       by_zero zero some = absurd (some refl)
       by_zero (suc n) some = grind (arith, nat_tests)
