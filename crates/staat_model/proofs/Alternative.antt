@@ -6,8 +6,8 @@ use Rattle.std.proofs.lemmas.List.Elements.{All-nil, All-cons, All-head, All-tai
 use lib.IntN.{+ℤ_invr}
 use Rattle.staat_vec.specs.declared.vector.V3.{V3}
 use Rattle.staat_vec.specs.Vectors.{dot, plus, times, origin}
-use Rattle.staat_vec.proofs.Ring.{Ex, at, num, ◌⊕◌, ◌⊖◌, ◌⊗◌, ring, ring_by_two, zero-mul_ℤ}
-use Rattle.staat_vec.proofs.VecRing.{VEx, dotE, plusE, timesE, originE, values, v0, v1, v2, v3, scale, same_vector, ring3}
+use Rattle.staat_vec.proofs.Ring.{Ex, at, num, ◌⊕◌, ◌⊖◌, ◌⊗◌, opp, ring, zero-mul_ℤ}
+use Rattle.staat_vec.proofs.VecRing.{VEx, dotE, plusE, timesE, originE, values, v0, v1, v2, v3, scale, ring3}
 use Rattle.staat_vec.proofs.Order.{as_nat, as_negative, coefficient_nonneg, negative_is, nonneg_is, nonneg_pos}
 use Rattle.staat_model.specs.Meeting.{mix}
 use Rattle.staat_model.specs.Cones.{IsAbove, IsCombined}
@@ -57,20 +57,17 @@ mix_reduce n a x [] vs = reduce_zero n a x
 mix_reduce n a x (c ∷ cs) [] = reduce_zero n a x
 mix_reduce n a x (c ∷ cs) (v ∷ vs) = ap (λ m. plus (times c (reduce n a x v)) m) (mix_reduce n a x cs vs) ∙ reduce_step n c a x v (mix cs vs)
 
--- one component of an equation between reduced vectors, solved
-component : (k n c h hx a m mx : ℤ) → n *ℤ m +ℤ mx *ℤ a ≡ k *ℤ (n *ℤ h +ℤ hx *ℤ a) → mx -ℤ k *ℤ hx ≡ c → c *ℤ a +ℤ n *ℤ m ≡ (k *ℤ n) *ℤ h
-component k n c h hx a m mx e f =
-    ring_by_two (k ∷ n ∷ c ∷ h ∷ hx ∷ a ∷ m ∷ mx ∷ []) (at 2 ⊗ at 5 ⊕ at 1 ⊗ at 6) ((at 0 ⊗ at 1) ⊗ at 3)
-    (num (pos 1)) (at 1 ⊗ at 6 ⊕ at 7 ⊗ at 5) (at 0 ⊗ (at 1 ⊗ at 3 ⊕ at 4 ⊗ at 5))
-    (num (negsuc 0) ⊗ at 5) (at 7 ⊖ at 0 ⊗ at 4) (at 2) e f tt
-
+-- an equation between reduced vectors, solved
 gather : (k n c : ℕ) (h a x m : V3) → reduce n a x m ≡ times k (reduce n a x h) → dot m x -ℤ pos k *ℤ dot h x ≡ pos c
     → plus (times c a) (times n m) ≡ times (k * n) h
 gather k n c h a x m e f =
-    same_vector (plus (times c a) (times n m)) (times (k * n) h)
-    (component (pos k) (pos n) (pos c) h.x (dot h x) a.x m.x (dot m x) (ap (λ v. v.x) e) f)
-    (component (pos k) (pos n) (pos c) h.y (dot h x) a.y m.y (dot m x) (ap (λ v. v.y) e) f)
-    (component (pos k) (pos n) (pos c) h.z (dot h x) a.z m.z (dot m x) (ap (λ v. v.z) e) f)
+    ap (λ z. plus (scale z a) (times n m)) (sym f)
+    ∙ ring3 ρ (plusE (timesE (at 11 ⊖ at 9 ⊗ at 12) v1) (timesE (at 10) v2)) (plusE (plusE (timesE (at 10) v2) (timesE (at 11) v1)) (timesE (opp (at 9 ⊗ at 12)) v1)) (tt, tt, tt)
+    ∙ ap (λ v. plus v (scale (neg_ℤ (pos k *ℤ dot h x)) a)) e
+    ∙ ring3 ρ (plusE (timesE (at 9) (plusE (timesE (at 10) v0) (timesE (at 12) v1))) (timesE (opp (at 9 ⊗ at 12)) v1)) (timesE (at 9 ⊗ at 10) v0) (tt, tt, tt)
+  where
+    ρ : List ℤ
+    ρ = values (h ∷ a ∷ m ∷ []) (pos k ∷ pos n ∷ dot m x ∷ dot h x ∷ [])
 
 above_unmap : (n : ℕ) (a x y : V3) (vs : List V3) → IsAbove y (map (reduce n a x) vs) → IsAbove (lift n a x y) vs
 above_unmap n a x y [] h = All-nil (λ v. pos 0 ≤ℤ dot v (lift n a x y))

@@ -1,21 +1,24 @@
 -- A vector strictly on the positive side of all members of a list that spans space: the cone of the conditions has two walls, and on each a direction strictly inside the other conditions.
 use Rattle.std.proofs.Common.{◌≡◌, ℕ, zero, suc, ◌≤◌, ◌≢◌, refl, sym, ap, subst, ◌∙◌, arith, ℤ, pos, negsuc, ◌+ℤ◌, ◌-ℤ◌, ◌*ℤ◌, ◌≤ℤ◌, neg_ℤ, ◌<ℤ◌, ◌⊎◌, inl, inr, ⊎_elim, List, [], ◌∷◌, ◌++◌, All, Contains}
-use lib.IntN.{ℤ_discrete}
 use Rattle.std.proofs.lemmas.Int.{ints}
 use Rattle.std.proofs.lemmas.List.Elements.{All-nil, All-cons, All-head, All-tail, All-contains, All-weaker, All-append}
 use Rattle.staat_vec.specs.declared.vector.V3.{V3}
-use Rattle.staat_vec.specs.Vectors.{dot, cross, plus, times, negative, origin}
-use Rattle.staat_vec.proofs.Ring.{Ex, at, num, ◌⊕◌, ◌⊖◌, ◌⊗◌, ring, ring_by_two}
-use Rattle.staat_vec.proofs.VecRing.{VEx, dotE, crossE, plusE, timesE, originE, values, v0, v1, v2, scale, same_vector, ring3, dot_negative, cross_self}
-use Rattle.staat_vec.proofs.Order.{nonneg_is, nonneg_pos, nonneg_mul, pos_mul, cancel_nonneg, cancel_zero, positive_nonneg, turned_positive}
+use Rattle.staat_vec.specs.Vectors.{dot, cross, plus, times, negative, origin, vector_cmp}
+use Rattle.staat_vec.proofs.VectorOrder.{vector_exact, vector_total}
+use Rattle.staat_vec.proofs.Ring.{at, num, ◌⊕◌, ◌⊖◌, ◌⊗◌, ring}
+use Rattle.staat_vec.proofs.VecRing.{dotE, crossE, plusE, timesE, originE, values, v0, v1, v2, scale, ring3, dot_negative, cross_self}
+use Rattle.staat_vec.proofs.Order.{nonneg_is, nonneg_pos, nonneg_mul, pos_mul, positive_is, cancel_nonneg, positive_nonneg, turned_positive}
+use Rattle.staat_vec.proofs.Integers.{cancel_positive, positive_pos}
+use Rattle.staat_vec.proofs.VectorLaws.{times_zero_plus, unscaled}
 use Rattle.staat_model.specs.Meeting.{mix}
 use Rattle.staat_model.specs.Cones.{IsAbove, IsSpanning, IsCombined, IsOnBorder, HasTwoBorders}
-use Rattle.staat_model.proofs.Members.{All-from_members, all_back, all_front, both}
+use Rattle.staat_model.proofs.Members.{All-from_members, all_back, all_front, both, joined}
 use Rattle.staat_model.proofs.Mixes.{mix_above, dot_step}
 use Rattle.staat_model.proofs.Alternative.{IsSeparated, alternative, combine_lemma}
 use Rattle.staat_model.proofs.Tilt.{dot_pair}
+use Rattle.staat_model.proofs.Decisions.{equal_or, first_or}
 use Rattle.staat_model.proofs.Edge.{perpendicular}
-use Rattle.staat_vec.proofs.Unique.{Contains-nothing, Contains-front}
+use Rattle.staat_vec.proofs.Unique.{Contains-cases, Contains-nothing, Contains-front, IsFirst-in}
 use Rattle.staat_vec.proofs.ListLaws.{Contains-there}
 
 -- some x breaks g alone among the kept, and nothing of the rest
@@ -53,10 +56,6 @@ prune ks (g ∷ rs) needed = go (alternative (ks ++ rs) g) (prune ks rs (All-wea
         (All-weaker (Needed ks (g ∷ rs)) (Needed (g ∷ ks) rs)
         (λ k n. (n.0, n.1, All-cons (λ m. (m ≡ k) ⊎ (pos 0 ≤ℤ dot m n.0)) g ks (inr (All-head (λ v. pos 0 ≤ℤ dot v n.0) g rs n.3)) n.2, All-tail (λ v. pos 0 ≤ℤ dot v n.0) g rs n.3)) ks needed)
 
-    out : (x : V3) → Contains (g ∷ ks) x → Contains ks x ⊎ Contains (g ∷ rs) x
-    out x (zero, le, e) = inr (0, omega arith, e)
-    out x (suc k, le, e) = inl (k, omega arith, e)
-
     go : IsCombined (ks ++ rs) g ⊎ IsSeparated (ks ++ rs) g → Pruned ks rs → (All (Needed (g ∷ ks) rs) (g ∷ ks) → Pruned (g ∷ ks) rs) → Pruned ks (g ∷ rs)
     go (inl c) (ls, need, rules, from) other = (ls, need, (λ x up. insert_above ks rs g x (follows (ks ++ rs) g x c (rules x up)) (rules x up)), λ x h. ⊎_elim (λ a. inl a) (λ b. inr (Contains-there g x rs b)) (from x h))
     go (inr s) without other =
@@ -64,26 +63,14 @@ prune ks (g ∷ rs) needed = go (alternative (ks ++ rs) g) (prune ks rs (All-wea
           ls,
           need,
           (λ x up. let w = rules x up in insert_above ks rs g x (All-head (λ v. pos 0 ≤ℤ dot v x) g (ks ++ rs) w) (All-tail (λ v. pos 0 ≤ℤ dot v x) g (ks ++ rs) w)),
-          λ x h. ⊎_elim (out x) (λ b. inr (Contains-there g x rs b)) (from x h),
+          λ x h. ⊎_elim (λ c. ⊎_elim (λ e. inr (joined g rs x (inl e))) (λ later. inl later) (Contains-cases g ks x c)) (λ b. inr (Contains-there g x rs b)) (from x h),
         )
 
-pub same_or_not : (a b : V3) → Dec (a ≡ b)
-same_or_not a b = go (ℤ_discrete a.x b.x) (ℤ_discrete a.y b.y) (ℤ_discrete a.z b.z)
-  where
-    go : Dec (a.x ≡ b.x) → Dec (a.y ≡ b.y) → Dec (a.z ≡ b.z) → Dec (a ≡ b)
-    go (yes p) (yes q) (yes r) = yes (same_vector a b p q r)
-    go (no p) q r = no (λ e. p (ap (λ v. v.x) e))
-    go (yes p) (no q) r = no (λ e. q (ap (λ v. v.y) e))
-    go (yes p) (yes q) (no r) = no (λ e. r (ap (λ v. v.z) e))
-
 find_other : (g : V3) (ks : List V3) → ((h : V3) × Contains ks h × (h ≢ g)) ⊎ All (λ m. m ≡ g) ks
-find_other g [] = inr (All-nil (λ m. m ≡ g))
-find_other g (k ∷ ks) = go (same_or_not k g) (find_other g ks)
-  where
-    go : Dec (k ≡ g) → ((h : V3) × Contains ks h × (h ≢ g)) ⊎ All (λ m. m ≡ g) ks → ((h : V3) × Contains (k ∷ ks) h × (h ≢ g)) ⊎ All (λ m. m ≡ g) (k ∷ ks)
-    go (no n) r = inl (k, Contains-front k ks, n)
-    go (yes e) (inl (h, c, n)) = inl (h, Contains-there k h ks c, n)
-    go (yes e) (inr rules) = inr (All-cons (λ m. m ≡ g) k ks e rules)
+find_other g ks = elim (first_or (λ m. m ≡ g) (λ m. equal_or vector_cmp vector_total vector_exact m g) ks) [
+  | inl all ↦ inr all
+  | inr other ↦ (let at = IsFirst-in (λ m. m ≢ g) ks other.0 other.1 in inl (other.0, at.0, at.1))
+]
 
 between_zero : (p q : ℤ) → p ≡ neg_ℤ q → pos 0 ≤ℤ q → pos 0 ≤ℤ p → q ≡ pos 0
 between_zero p q e h g = omega (arith, ints)
@@ -116,65 +103,40 @@ side_zero g z =
     let ρ = values (g ∷ z ∷ []) [] in
     inl (ring3 ρ (crossE originE v0) originE (tt, tt, tt), ring ρ (dotE originE v1) (num (pos 0)) tt)
 
-more_positive : (c : ℕ) (p q r : ℤ) → r ≡ pos c *ℤ p +ℤ q → pos 0 ≤ℤ p → pos 0 <ℤ q → pos 0 <ℤ r
-more_positive c (pos p) q r e h g = omega (arith, ints)
-more_positive c (negsuc p) q r e h g = absurd h.le
-
-first_positive : (c : ℕ) (p q r : ℤ) → r ≡ pos (suc c) *ℤ p +ℤ q → pos 0 <ℤ p → pos 0 ≤ℤ q → pos 0 <ℤ r
-first_positive c (pos zero) q r e h g = absurd h.lt
-first_positive c (pos (suc p)) q r e h g = omega (arith, ints)
-first_positive c (negsuc p) q r e h g = absurd h.lt
-
-sum_zero : (c p q r : ℤ) → r ≡ c *ℤ p +ℤ q → p ≡ pos 0 → q ≡ pos 0 → r ≡ pos 0
-sum_zero c p q r e f g = e ∙ ring_by_two (c ∷ p ∷ q ∷ []) (at 0 ⊗ at 1 ⊕ at 2) (num (pos 0)) (at 0) (at 1) (num (pos 0)) (num (pos 1)) (at 2) (num (pos 0)) f g tt
-
 cross_sum : (c : ℕ) (v m g : V3) → cross v g ≡ origin → cross m g ≡ origin → cross (plus (times c v) m) g ≡ origin
 cross_sum c v m g e f =
-    let ρ = values (v ∷ m ∷ g ∷ []) (pos c ∷ []) in
-    let l : VEx = crossE (plusE (timesE (at 9) v0) v1) v2 in
-    let a : VEx = crossE v0 v2 in
-    let b : VEx = crossE v1 v2 in
-    let o : Ex = num (pos 0) in
-    let i : Ex = num (pos 1) in
-    same_vector (cross (plus (times c v) m) g) origin
-    (ring_by_two ρ l.x o (at 9) a.x o i b.x o (ap (λ v. v.x) e) (ap (λ v. v.x) f) tt)
-    (ring_by_two ρ l.y o (at 9) a.y o i b.y o (ap (λ v. v.y) e) (ap (λ v. v.y) f) tt)
-    (ring_by_two ρ l.z o (at 9) a.z o i b.z o (ap (λ v. v.z) e) (ap (λ v. v.z) f) tt)
+    ring3 (values (v ∷ m ∷ g ∷ []) (pos c ∷ [])) (crossE (plusE (timesE (at 9) v0) v1) v2) (plusE (timesE (at 9) (crossE v0 v2)) (crossE v1 v2)) (tt, tt, tt)
+    ∙ (λ i. plus (times c (e i)) (f i)) ∙ ring3 (pos c ∷ []) (plusE (timesE (at 0) originE) originE) originE (tt, tt, tt)
+
+sum_positive : (p : ℤ) (c : ℕ) (q r : ℤ) → r ≡ pos c *ℤ p +ℤ q → pos 0 ≤ℤ p → pos 0 <ℤ q → pos 0 <ℤ r
+sum_positive (pos p) c q r e h g = omega (arith, ints)
+sum_positive (negsuc p) c q r e h g = absurd h.le
 
 side_sum : (g z : V3) (c : ℕ) (v m : V3) → Side g z v → Side g z m → Side g z (plus (times c v) m)
 unfolding Side
-side_sum g z c v m (inl (e, f)) (inl (h, i)) = inl (cross_sum c v m g e h, sum_zero (pos c) (dot v z) (dot m z) (dot (plus (times c v) m) z) (dot_step c v m z) f i)
-side_sum g z c v m (inl (e, f)) (inr q) = inr (more_positive c (dot v z) (dot m z) (dot (plus (times c v) m) z) (dot_step c v m z) (nonneg_is (dot v z) (pos 0) f (nonneg_pos 0)) q)
-side_sum g z c v m (inr p) (inr q) = inr (more_positive c (dot v z) (dot m z) (dot (plus (times c v) m) z) (dot_step c v m z) (positive_nonneg (dot v z) p) q)
-side_sum g z (suc c) v m (inr p) (inl (h, i)) = inr (first_positive c (dot v z) (dot m z) (dot (plus (times (suc c) v) m) z) (dot_step (suc c) v m z) p (nonneg_is (dot m z) (pos 0) i (nonneg_pos 0)))
-side_sum g z zero v m (inr p) (inl (h, i)) = inl (ap (λ w. cross w g) same ∙ h, ap (λ w. dot w z) same ∙ i)
+side_sum g z c v m (inl (e, f)) (inl (h, j)) = inl (cross_sum c v m g e h, dot_step c v m z ∙ (λ i. pos c *ℤ f i +ℤ j i) ∙ ring (pos c ∷ []) (at 0 ⊗ num (pos 0) ⊕ num (pos 0)) (num (pos 0)) tt)
+side_sum g z c v m (inl (e, f)) (inr q) = inr (sum_positive (dot v z) c (dot m z) (dot (plus (times c v) m) z) (dot_step c v m z) (nonneg_is (dot v z) (pos 0) f (nonneg_pos 0)) q)
+side_sum g z c v m (inr p) (inr q) = inr (sum_positive (dot v z) c (dot m z) (dot (plus (times c v) m) z) (dot_step c v m z) (positive_nonneg (dot v z) p) q)
+side_sum g z zero v m (inr p) (inl (h, j)) = inl (ap (λ w. cross w g) (times_zero_plus v m) ∙ h, ap (λ w. dot w z) (times_zero_plus v m) ∙ j)
+side_sum g z (suc c) v m (inr p) (inl (h, j)) =
+    inr (positive_is (dot (plus (times (suc c) v) m) z) (pos (suc c) *ℤ dot v z +ℤ pos 0) (dot_step (suc c) v m z ∙ ap (λ q. pos (suc c) *ℤ dot v z +ℤ q) j)
+    (more (pos (suc c) *ℤ dot v z) (pos_mul (pos (suc c)) (dot v z) (omega (arith, ints)) p)))
   where
-    same : plus (times 0 v) m ≡ m
-    same = ring3 (values (v ∷ m ∷ []) []) (plusE (timesE (num (pos 0)) v0) v1) v1 (tt, tt, tt)
+    more : (p : ℤ) → pos 0 <ℤ p → pos 0 <ℤ (p +ℤ pos 0)
+    more p h = omega (arith, ints)
 
 side_mix : (g z : V3) (cs : List ℕ) (ks : List V3) → All (Side g z) ks → Side g z (mix cs ks)
 side_mix g z [] ks h = side_zero g z
 side_mix g z (c ∷ cs) [] h = side_zero g z
 side_mix g z (c ∷ cs) (k ∷ ks) h = side_sum g z c k (mix cs ks) (All-head (Side g z) k ks h) (side_mix g z cs ks (All-tail (Side g z) k ks h))
 
-cancel_positive : (k : ℕ) (p : ℤ) → pos 0 <ℤ (pos k *ℤ p) → pos 0 <ℤ p
-cancel_positive k (pos zero) h = absurd (omega (arith, ints))
-cancel_positive k (pos (suc p)) h = omega (arith, ints)
-cancel_positive k (negsuc p) h = absurd (omega (arith, ints))
-
 side_part : (g z m w : V3) (k : ℕ) → 1 ≤ k → w ≡ times k m → Side g z w → (cross m g ≡ origin) ⊎ (pos 0 <ℤ dot m z)
 unfolding Side
 side_part g z m w k one e (inl (f, i)) =
-    let ρ = values (m ∷ g ∷ []) (pos k ∷ []) in
-    let l : VEx = crossE v0 v1 in
-    let r : VEx = crossE (timesE (at 6) v0) v1 in
-    let whole : cross (times k m) g ≡ origin = ap (λ v. cross v g) (sym e) ∙ f in
-    inl (same_vector (cross m g) origin
-    (cancel_zero k (cross m g).x one (ring ρ (at 6 ⊗ l.x) r.x tt ∙ ap (λ v. v.x) whole))
-    (cancel_zero k (cross m g).y one (ring ρ (at 6 ⊗ l.y) r.y tt ∙ ap (λ v. v.y) whole))
-    (cancel_zero k (cross m g).z one (ring ρ (at 6 ⊗ l.z) r.z tt ∙ ap (λ v. v.z) whole)))
+    inl (unscaled (pos k) (cross m g) (positive_pos k one)
+    (ring3 (values (m ∷ g ∷ []) (pos k ∷ [])) (timesE (at 6) (crossE v0 v1)) (crossE (timesE (at 6) v0) v1) (tt, tt, tt) ∙ ap (λ v. cross v g) (sym e) ∙ f))
 side_part g z m w k one e (inr p) =
-    inr (cancel_positive k (dot m z) (subst (λ q. pos 0 <ℤ q) (ap (λ v. dot v z) e ∙ times_dot k m z) p))
+    inr (cancel_positive (pos k) (dot m z) (positive_pos k one) (subst (λ q. pos 0 <ℤ q) (ap (λ v. dot v z) e ∙ times_dot k m z) p))
 
 -- between d and x, on g
 abbrev between : V3 → V3 → V3 → V3

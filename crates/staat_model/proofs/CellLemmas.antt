@@ -1,35 +1,34 @@
 -- The edges on the border of an open cell: there are two, and directions on two of them add up to one in the cell.
-use Rattle.std.proofs.Common.{◌≡◌, ◌≢◌, ℕ, zero, suc, ◌+◌, refl, sym, ap, subst, ◌∙◌, arith, ℤ, pos, neg_ℤ, ◌+ℤ◌, ◌<ℤ◌, ◌⊎◌, inl, inr, ⊎_elim, cond, false, List, [], ◌∷◌, map, All, Contains}
+use Rattle.std.proofs.Common.{◌≡◌, ◌≢◌, ℕ, zero, suc, ◌+◌, ◌≤◌, refl, sym, ap, subst, ◌∙◌, arith, ℤ, pos, ◌+ℤ◌, ◌≤ℤ◌, ◌<ℤ◌, ◌⊎◌, inl, inr, ⊎_elim, cond, false, rules, List, [], ◌∷◌, All, Contains}
 use Rattle.std.specs.Prelude.{count_by}
-use Rattle.std.proofs.lemmas.Int.{ints}
+use Rattle.std.proofs.lemmas.Int.{ints, by_lt_z}
 use Rattle.std.proofs.lemmas.List.Sums.{sum_by-cons}
 use Rattle.std.proofs.lemmas.List.Elements.{All-contains}
 use Rattle.staat_vec.specs.declared.vector.V3.{V3}
 use Rattle.staat_vec.specs.declared.vector.Sign.{Sign}
 use Rattle.staat_vec.specs.declared.vector.Sign.TheVariants.{Neg, Zero, Pos}
-use Rattle.staat_vec.specs.Vectors.{vector, dot, cross, plus, negative, origin, sign}
+use Rattle.staat_vec.specs.Vectors.{dot, cross, plus, negative, origin, sign}
 use Rattle.staat_vec.proofs.VecRing.{negative_dot}
 use Rattle.staat_model.specs.declared.assembly.Part.{Part}
 use Rattle.staat_model.specs.declared.set.PartSet.{PartSet}
 use Rattle.staat_model.specs.Planes.{ArePlanes}
 use Rattle.staat_model.specs.declared.tree.Kind.TheVariants.{Edge, Open}
-use Rattle.staat_model.specs.Cones.{IsSpanning, IsOnBorder, HasEither}
+use Rattle.staat_model.specs.Cones.{IsOnBorder}
 use Rattle.staat_model.specs.Cells.{signs_of, is_zero, kind_of, kind_by_count, IsCell, IsBorder}
 use Rattle.staat_model.specs.Borders.{HasTwoEdges}
 use Rattle.staat_model.proofs.Members.{All-from_members}
-use Rattle.staat_model.proofs.Differences.{from_map}
-use Rattle.staat_model.proofs.Corners.{HoldsAxes, IsSame, cross_signs}
+use Rattle.staat_model.proofs.Corners.{Conditions, HoldsAxes, IsSame, conditions, cross_signs, have_axes, same_back}
 use Rattle.staat_model.proofs.BorderLemmas.{borders_lemma}
-use Rattle.staat_model.proofs.GraphLemmas.{border_same}
+use Rattle.staat_model.proofs.GraphLemmas.{border_at, border_same}
 use Rattle.staat_model.proofs.FacetLemmas.{swap_zero}
 use Rattle.staat_model.proofs.CornerLemmas.{axes_span}
 use Rattle.staat_model.proofs.VertexLemmas.{same_some, holds_axes}
 use Rattle.staat_model.proofs.PlaneLemmas.{NoneParallel, planes_apart}
-use Rattle.staat_vec.proofs.Integers.{zero_not_positive, opposite_negative_back, opposite_zero_back, sum_zero, add-comm_ℤ}
+use Rattle.staat_vec.proofs.Integers.{negative_nonpositive, positive_from_nonneg, zero_not_positive, opposite_negative_back, sum_zero, add-comm_ℤ}
 use Rattle.staat_vec.proofs.Signs.{positive_sign, negative_sign, sign_positive, sign_negative, zero_sign}
 use Rattle.staat_vec.proofs.VectorLaws.{dot_plus, dot_origin}
 use Rattle.staat_vec.proofs.Unique.{Contains-front}
-use Rattle.staat_vec.proofs.ListLaws.{Contains-there, Contains-map}
+use Rattle.staat_vec.proofs.ListLaws.{Contains-there}
 
 -- ---- how many planes pass through a cell
 
@@ -39,10 +38,21 @@ zeros s = count_by is_zero s
 pub zeros-cons : (t : Sign) (s : List Sign) → zeros (t ∷ s) ≡ cond (is_zero t) 1 0 + zeros s
 zeros-cons t s = sum_by-cons (λ x. cond (is_zero x) 1 0) t s
 
+-- a sign other than zero
+pub not_zero : (t : Sign) → t ≢ Zero → is_zero t ≡ false
+not_zero Zero n = absurd (n refl)
+not_zero t n = refl
+
+pub zeros_off : (t : Sign) (ts : List Sign) → t ≢ Zero → zeros (t ∷ ts) ≡ zeros ts
+zeros_off t ts n = zeros-cons t ts ∙ ap (λ b. cond b 1 0 + zeros ts) (not_zero t n) ∙ omega arith
+
+pub zeros_on : (t : Sign) (ts : List Sign) → t ≡ Zero → zeros (t ∷ ts) ≡ 1 + zeros ts
+zeros_on t ts e = zeros-cons t ts ∙ ap (λ t. cond (is_zero t) 1 0 + zeros ts) e
+
 pub open_no_zero : (n : ℕ) → kind_by_count n ≡ Open → n ≡ 0
 open_no_zero zero e = refl
 open_no_zero (suc zero) e = cc
-open_no_zero (suc (suc n)) e = cc
+open_no_zero n e = cc
 
 pub open_zeros : (s : List Sign) → kind_of s ≡ Open → zeros s ≡ 0
 open_zeros s e = open_no_zero (zeros s) e
@@ -51,9 +61,8 @@ pub edge_zeros : (s : List Sign) → kind_of s ≡ Edge → zeros s ≡ 1
 edge_zeros s e = go (zeros s) e
   where
     go : (n : ℕ) → kind_by_count n ≡ Edge → n ≡ 1
-    go zero e = cc
     go (suc zero) e = refl
-    go (suc (suc n)) e = cc
+    go n e = cc
 
 -- ---- two edges on the border of a cell
 
@@ -65,71 +74,36 @@ Covers es fs ss = ⊥
 
 border_strict : (es ss : List Sign) → zeros es ≡ 0 → IsBorder es ss → es ≡ ss
 border_strict [] [] none b = refl
-border_strict [] (s ∷ ss) none b = absurd b
-border_strict (e ∷ es) [] none b = absurd b
 border_strict (Zero ∷ es) (s ∷ ss) none b = absurd (let c = zeros-cons Zero es in omega (arith, none, c))
-border_strict (Neg ∷ es) (s ∷ ss) none b = λ i. ⊎_elim (λ h. h) (λ h. cc) b.0 i ∷ border_strict es ss (let c = zeros-cons Neg es in omega (arith, none, c)) b.1 i
-border_strict (Pos ∷ es) (s ∷ ss) none b = λ i. ⊎_elim (λ h. h) (λ h. cc) b.0 i ∷ border_strict es ss (let c = zeros-cons Pos es in omega (arith, none, c)) b.1 i
+border_strict (e ∷ es) (s ∷ ss) none b = λ i. ⊎_elim (λ h. h) (λ h. cc) b.0 i ∷ border_strict es ss (let c = zeros-cons e es in omega (arith, none, c)) b.1 i
+border_strict es ss none b = absurd b
 
-covers_left : (es fs ss : List Sign) → es ≡ ss → IsBorder fs ss → Covers es fs ss
-covers_left [] [] [] e b = tt
-covers_left [] [] (s ∷ ss) e b = absurd b
-covers_left [] (f ∷ fs) [] e b = absurd b
-covers_left [] (f ∷ fs) (s ∷ ss) e b = cc
-covers_left (e ∷ es) fs [] p b = cc
-covers_left (e ∷ es) [] (s ∷ ss) p b = absurd b
-covers_left (e ∷ es) (f ∷ fs) (s ∷ ss) p b = let head : e ≡ s = cc in let rest : es ≡ ss = cc in (inl head, covers_left es fs ss rest b.1)
+covers_left : (ss fs : List Sign) → IsBorder fs ss → Covers ss fs ss
+covers_left [] [] b = tt
+covers_left (s ∷ ss) (f ∷ fs) b = (inl refl, covers_left ss fs b.1)
+covers_left ss fs b = absurd b
 
-covers_right : (es fs ss : List Sign) → fs ≡ ss → IsBorder es ss → Covers es fs ss
-covers_right [] [] [] e b = tt
-covers_right [] fs (s ∷ ss) e b = absurd b
-covers_right [] (f ∷ fs) [] e b = cc
-covers_right (e ∷ es) fs [] p b = absurd b
-covers_right (e ∷ es) [] (s ∷ ss) p b = cc
-covers_right (e ∷ es) (f ∷ fs) (s ∷ ss) p b = let head : f ≡ s = cc in let rest : fs ≡ ss = cc in (inr head, covers_right es fs ss rest b.1)
+covers_right : (es ss : List Sign) → IsBorder es ss → Covers es ss ss
+covers_right [] [] b = tt
+covers_right (e ∷ es) (s ∷ ss) b = (inr refl, covers_right es ss b.1)
+covers_right es ss b = absurd b
+
+-- behind the one plane through a cell the signs are those of the cell on whose border it is
+strict_behind : (e : Sign) (es ss : List Sign) → e ≡ Zero → zeros (e ∷ es) ≤ 1 → IsBorder es ss → es ≡ ss
+strict_behind e es ss z most b = border_strict es ss (omega (arith, most, zeros_on e es z)) b
 
 -- two cells on the border, each with at most one plane through it, are one, or cover the cell
-covers_or_same : (es fs ss : List Sign) → zeros es ≡ 1 → zeros fs ≡ 1 → IsBorder es ss → IsBorder fs ss → Covers es fs ss ⊎ (es ≡ fs)
-covers_or_same [] fs ss ce cf be bf = absurd (omega (arith, ce))
-covers_or_same (e ∷ es) [] ss ce cf be bf = absurd (omega (arith, cf))
-covers_or_same (e ∷ es) (f ∷ fs) [] ce cf be bf = absurd be
-covers_or_same (e ∷ es) (f ∷ fs) (s ∷ ss) ce cf be bf = go e f be.0 bf.0 ce cf (covers_or_same es fs ss)
+covers_or_same : (es fs ss : List Sign) → zeros es ≤ 1 → zeros fs ≤ 1 → IsBorder es ss → IsBorder fs ss → Covers es fs ss ⊎ (es ≡ fs)
+covers_or_same [] [] [] ce cf be bf = inr refl
+covers_or_same (e ∷ es) (f ∷ fs) (s ∷ ss) ce cf be bf = go be.0 bf.0 (covers_or_same es fs ss (omega (arith, ce, zeros-cons e es)) (omega (arith, cf, zeros-cons f fs)) be.1 bf.1)
   where
-    strict_e : zeros (Zero ∷ es) ≡ 1 → es ≡ ss
-    strict_e h = border_strict es ss (let c = zeros-cons Zero es in omega (arith, h, c)) be.1
-
-    strict_f : zeros (Zero ∷ fs) ≡ 1 → fs ≡ ss
-    strict_f h = border_strict fs ss (let c = zeros-cons Zero fs in omega (arith, h, c)) bf.1
-
-    Goal : Sign → Sign → Type 0
-    Goal e f = Covers (e ∷ es) (f ∷ fs) (s ∷ ss) ⊎ (e ∷ es ≡ f ∷ fs)
-
-    -- neither plane is this one
-    neither : (e f : Sign) → e ≡ s → f ≡ s → zeros es ≡ 1 → zeros fs ≡ 1 → (zeros es ≡ 1 → zeros fs ≡ 1 → IsBorder es ss → IsBorder fs ss → Covers es fs ss ⊎ (es ≡ fs)) → Goal e f
-    neither e f p q ce cf rest = ⊎_elim (λ c. inl (inl p, c)) (λ h. inr (λ i. (p ∙ sym q) i ∷ h i)) (rest ce cf be.1 bf.1)
-
-    left_zero : (f : Sign) → (f ≡ s) ⊎ (f ≡ Zero) → zeros (Zero ∷ es) ≡ 1 → zeros (f ∷ fs) ≡ 1 → Goal Zero f
-    left_zero f (inl q) ce cf = inl (inr q, covers_left es fs ss (strict_e ce) bf.1)
-    left_zero f (inr q) ce cf = inr (λ i. sym q i ∷ (strict_e ce ∙ sym (strict_f (subst (λ g. zeros (g ∷ fs) ≡ 1) q cf))) i)
-
-    right_zero : (e : Sign) → e ≡ s → zeros (Zero ∷ fs) ≡ 1 → Goal e Zero
-    right_zero e p cf = inl (inl p, covers_right es fs ss (strict_f cf) be.1)
-
-    other : (e : Sign) → (e ≡ s) ⊎ (e ≡ Zero) → (e ≡ Zero → ⊥) → e ≡ s
-    other e (inl p) n = p
-    other e (inr z) n = absurd (n z)
-
-    rest_of : (t : Sign) (ts : List Sign) → is_zero t ≡ false → zeros (t ∷ ts) ≡ 1 → zeros ts ≡ 1
-    rest_of t ts z h = let c : zeros (t ∷ ts) ≡ 0 + zeros ts = zeros-cons t ts ∙ ap (λ b. cond b 1 0 + zeros ts) z in omega (arith, h, c)
-
-    go : (e f : Sign) → (e ≡ s) ⊎ (e ≡ Zero) → (f ≡ s) ⊎ (f ≡ Zero) → zeros (e ∷ es) ≡ 1 → zeros (f ∷ fs) ≡ 1 → (zeros es ≡ 1 → zeros fs ≡ 1 → IsBorder es ss → IsBorder fs ss → Covers es fs ss ⊎ (es ≡ fs)) → Goal e f
-    go Zero f p q ce cf rest = left_zero f q ce cf
-    go Neg Zero p q ce cf rest = right_zero Neg (other Neg p (λ h. cc)) cf
-    go Neg Neg p q ce cf rest = neither Neg Neg (other Neg p (λ h. cc)) (other Neg q (λ h. cc)) (rest_of Neg es refl ce) (rest_of Neg fs refl cf) rest
-    go Neg Pos p q ce cf rest = neither Neg Pos (other Neg p (λ h. cc)) (other Pos q (λ h. cc)) (rest_of Neg es refl ce) (rest_of Pos fs refl cf) rest
-    go Pos Zero p q ce cf rest = right_zero Pos (other Pos p (λ h. cc)) cf
-    go Pos Neg p q ce cf rest = neither Pos Neg (other Pos p (λ h. cc)) (other Neg q (λ h. cc)) (rest_of Pos es refl ce) (rest_of Neg fs refl cf) rest
-    go Pos Pos p q ce cf rest = neither Pos Pos (other Pos p (λ h. cc)) (other Pos q (λ h. cc)) (rest_of Pos es refl ce) (rest_of Pos fs refl cf) rest
+    go : (e ≡ s) ⊎ (e ≡ Zero) → (f ≡ s) ⊎ (f ≡ Zero) → Covers es fs ss ⊎ (es ≡ fs) → Covers (e ∷ es) (f ∷ fs) (s ∷ ss) ⊎ (e ∷ es ≡ f ∷ fs)
+    go (inl p) (inl q) (inl c) = inl (inl p, c)
+    go (inl p) (inl q) (inr h) = inr (λ i. (p ∙ sym q) i ∷ h i)
+    go (inl p) (inr q) ih = inl (inl p, subst (λ xs. Covers es xs ss) (sym (strict_behind f fs ss q cf bf.1)) (covers_right es ss be.1))
+    go (inr p) (inl q) ih = inl (inr q, subst (λ xs. Covers xs fs ss) (sym (strict_behind e es ss p ce be.1)) (covers_left ss fs bf.1))
+    go (inr p) (inr q) ih = inr (λ i. (p ∙ sym q) i ∷ (strict_behind e es ss p ce be.1 ∙ sym (strict_behind f fs ss q cf bf.1)) i)
+covers_or_same es fs ss ce cf be bf = search rules
 
 sum_positive : (a b : ℤ) → pos 0 <ℤ a → (pos 0 <ℤ b) ⊎ (b ≡ pos 0) → pos 0 <ℤ (a +ℤ b)
 sum_positive a b h (inl g) = omega (arith, ints)
@@ -147,17 +121,16 @@ sum_sign a b Zero p q = ap sign (sum_zero a b (zero_sign a p) (⊎_elim (λ h. z
 
 pub sum_covers : (gs : List V3) (u v : V3) (ss : List Sign) → Covers (signs_of gs u) (signs_of gs v) ss → IsBorder (signs_of gs u) ss → IsBorder (signs_of gs v) ss → signs_of gs (plus u v) ≡ ss
 sum_covers [] u v [] c bu bv = refl
-sum_covers [] u v (s ∷ ss) c bu bv = absurd c
-sum_covers (g ∷ gs) u v [] c bu bv = absurd c
 sum_covers (g ∷ gs) u v (s ∷ ss) c bu bv = λ i. at_head c.0 i ∷ sum_covers gs u v ss c.1 bu.1 bv.1 i
   where
     at_head : (sign (dot g u) ≡ s) ⊎ (sign (dot g v) ≡ s) → sign (dot g (plus u v)) ≡ s
     at_head (inl e) = ap sign (dot_plus g u v) ∙ sum_sign (dot g u) (dot g v) s e bv.0
     at_head (inr e) = ap sign (dot_plus g u v ∙ add-comm_ℤ (dot g u) (dot g v)) ∙ sum_sign (dot g v) (dot g u) s e bu.0
+sum_covers gs u v ss c bu bv = absurd c
 
 -- directions on two different edges on the border of a cell add up to one in it
 pub edges_add_up_lemma : (planes : List V3) (s e f : List Sign) (u v : V3) → kind_of e ≡ Edge → kind_of f ≡ Edge → IsBorder e s → IsBorder f s → e ≢ f → signs_of planes u ≡ e → signs_of planes v ≡ f → signs_of planes (plus u v) ≡ s
-edges_add_up_lemma planes s e f u v ke kf be bf apart is_e is_f = go (covers_or_same e f s (edge_zeros e ke) (edge_zeros f kf) be bf)
+edges_add_up_lemma planes s e f u v ke kf be bf apart is_e is_f = go (covers_or_same e f s (let z = edge_zeros e ke in omega (arith, z)) (let z = edge_zeros f kf in omega (arith, z)) be bf)
   where
     go : Covers e f s ⊎ (e ≡ f) → signs_of planes (plus u v) ≡ s
     go (inr same) = absurd (apart same)
@@ -165,72 +138,29 @@ edges_add_up_lemma planes s e f u v ke kf be bf apart is_e is_f = go (covers_or_
 
 -- ---- an open cell has two edges on its border
 
--- the normal, or its negative, on whose positive side d is
-abbrev facing : V3 → V3 → V3
-facing d g = by_sign (sign (dot g d))
+-- what is on the positive side of a condition, as d is, has d's sign at its plane
+same_sign : (v g d y : V3) → IsSame v g → pos 0 <ℤ dot v d → pos 0 <ℤ dot v y → sign (dot g y) ≡ sign (dot g d)
+same_sign v g d y (inl e) h k = positive_sign (dot g y) (subst (λ z. pos 0 <ℤ dot z y) e k) ∙ sym (positive_sign (dot g d) (subst (λ z. pos 0 <ℤ dot z d) e h))
+same_sign v g d y (inr e) h k = negative_sign (dot g y) (below y k) ∙ sym (negative_sign (dot g d) (below d h))
   where
-    by_sign : Sign → V3
-    by_sign Neg = negative g
-    by_sign Zero = g
-    by_sign Pos = g
-
-module _ (d : V3) where
-  -- which of the two it is
-  record Faces (g : V3) : Type 0 where
-    front : pos 0 <ℤ dot (facing d g) d
-    same : IsSame (facing d g) g
-    -- what is on the positive side of it has d's sign at g
-    agrees : (y : V3) → pos 0 <ℤ dot (facing d g) y → sign (dot g y) ≡ sign (dot g d)
-
-  turned_front : (p q : ℤ) → p ≡ neg_ℤ q → q <ℤ pos 0 → pos 0 <ℤ p
-  turned_front p q e h = omega (arith, ints)
-
-  faces : (g : V3) → sign (dot g d) ≢ Zero → Faces g
-  faces g off = go (sign (dot g d)) refl
-    where
-      go : (s : Sign) → sign (dot g d) ≡ s → Faces g
-      go Zero e = absurd (off e)
-      go Pos e =
-          let is : facing d g ≡ g = ap (λ t. elim t as (λ t. V3) [ Neg ↦ negative g | Zero ↦ g | Pos ↦ g ]) e in
-          record {
-            front = subst (λ z. pos 0 <ℤ dot z d) (sym is) (sign_positive (dot g d) e);
-            same = inl is;
-            agrees = λ y h. positive_sign (dot g y) (subst (λ z. pos 0 <ℤ dot z y) is h) ∙ sym e;
-          }
-      go Neg e =
-          let is : facing d g ≡ negative g = ap (λ t. elim t as (λ t. V3) [ Neg ↦ negative g | Zero ↦ g | Pos ↦ g ]) e in
-          record {
-            front = subst (λ z. pos 0 <ℤ dot z d) (sym is) (turned_front (dot (negative g) d) (dot g d) (negative_dot g d) (sign_negative (dot g d) e));
-            same = inr is;
-            agrees = λ y h. negative_sign (dot g y) (opposite_negative_back (dot (negative g) y) (dot g y) (negative_dot g y) (subst (λ z. pos 0 <ℤ dot z y) is h)) ∙ sym e;
-          }
-
--- a sign other than zero
-pub not_zero : (t : Sign) → t ≢ Zero → is_zero t ≡ false
-not_zero Neg n = refl
-not_zero Zero n = absurd (n refl)
-not_zero Pos n = refl
-
-pub zeros_off : (t : Sign) (ts : List Sign) → t ≢ Zero → zeros (t ∷ ts) ≡ zeros ts
-zeros_off t ts n = zeros-cons t ts ∙ ap (λ b. cond b 1 0 + zeros ts) (not_zero t n) ∙ omega arith
+    below : (x : V3) → pos 0 <ℤ dot v x → dot g x <ℤ pos 0
+    below x k = opposite_negative_back (dot v x) (dot g x) (ap (λ z. dot z x) e ∙ negative_dot g x) k
 
 pub off_all : (gs : List V3) (d : V3) → zeros (signs_of gs d) ≡ 0 → (g : V3) → Contains gs g → sign (dot g d) ≢ Zero
 off_all [] d none g (k, lt, e) z = absurd (omega arith)
 off_all (h ∷ gs) d none g (zero, lt, e) z =
-    let c : zeros (signs_of (h ∷ gs) d) ≡ 1 + zeros (signs_of gs d) = zeros-cons (sign (dot h d)) (signs_of gs d) ∙ ap (λ t. cond (is_zero t) 1 0 + zeros (signs_of gs d)) (ap (λ v. sign (dot v d)) e ∙ z) in
-    omega (arith, none, c)
-off_all (h ∷ gs) d none g (suc k, lt, e) z = off_all gs d (fewer (cond (is_zero (sign (dot h d))) 1 0) (zeros (signs_of gs d)) (sym (zeros-cons (sign (dot h d)) (signs_of gs d)) ∙ none)) g (k, omega arith, e) z
-  where
-    fewer : (a b : ℕ) → a + b ≡ 0 → b ≡ 0
-    fewer a b e = omega arith
+    omega (arith, none, zeros_on (sign (dot h d)) (signs_of gs d) (ap (λ v. sign (dot v d)) e ∙ z))
+off_all (h ∷ gs) d none g (suc k, lt, e) z = off_all gs d (let c = zeros-cons (sign (dot h d)) (signs_of gs d) in omega (arith, none, c)) g (k, omega arith, e) z
+
+border_from_same : (ss ts : List Sign) → ss ≡ ts → IsBorder ss ts
+border_from_same ss ts e = subst (IsBorder ss) e (border_same ss)
 
 module _ (d m y : V3) where
   -- y is strictly on d's side of each plane that is not parallel to m
-  Sided : List V3 → Type 0
+  abbrev Sided : List V3 → Type 0
   Sided gs = (g : V3) → Contains gs g → sign (dot g d) ≢ Zero × ((cross g m ≢ origin) → sign (dot g y) ≡ sign (dot g d))
 
   strict_signs : (gs : List V3) → Sided gs → ((g : V3) → Contains gs g → cross g m ≢ origin) → (signs_of gs y ≡ signs_of gs d) × (zeros (signs_of gs y) ≡ 0)
-  unfolding Sided
   strict_signs [] sided off = (refl, refl)
   strict_signs (g ∷ gs) sided off =
       let (some, same) = sided g (Contains-front g gs) in
@@ -238,16 +168,12 @@ module _ (d m y : V3) where
       let rest = strict_signs gs (λ h c. sided h (Contains-there g h gs c)) (λ h c. off h (Contains-there g h gs c)) in
       ((λ i. is i ∷ rest.0 i), zeros_off (sign (dot g y)) (signs_of gs y) (λ z. some (sym is ∙ z)) ∙ rest.1)
 
-  border_from_same : (ss ts : List Sign) → ss ≡ ts → IsBorder ss ts
-  border_from_same ss ts e = subst (IsBorder ss) e (border_same ss)
-
   edge_signs : (gs : List V3) → Sided gs → NoneParallel gs → Contains gs m → dot m y ≡ pos 0 → IsBorder (signs_of gs y) (signs_of gs d) × (zeros (signs_of gs y) ≡ 1)
-  unfolding Sided
   edge_signs [] sided apart (k, lt, e) on = absurd (omega arith)
   edge_signs (g ∷ gs) sided (head, rest) (zero, lt, e) on =
       let zero_here : sign (dot g y) ≡ Zero = ap sign (ap (λ v. dot v y) e ∙ on) in
       let strict = strict_signs gs (λ h c. sided h (Contains-there g h gs c)) (λ h c z. All-contains (λ h. cross g h ≢ origin) gs h head c (swap_zero g h (ap (cross h) e ∙ z))) in
-      ((inr zero_here, border_from_same (signs_of gs y) (signs_of gs d) strict.0), zeros-cons (sign (dot g y)) (signs_of gs y) ∙ ap (λ t. cond (is_zero t) 1 0 + zeros (signs_of gs y)) zero_here ∙ ap (λ n. 1 + n) strict.1)
+      ((inr zero_here, border_from_same (signs_of gs y) (signs_of gs d) strict.0), zeros_on (sign (dot g y)) (signs_of gs y) zero_here ∙ ap (λ n. 1 + n) strict.1)
   edge_signs (g ∷ gs) sided (head, rest) (suc k, lt, e) on =
       let inside : Contains gs m = (k, omega arith, e) in
       let (some, same) = sided g (Contains-front g gs) in
@@ -258,34 +184,24 @@ module _ (d m y : V3) where
 pub kind_edge : (s : List Sign) → zeros s ≡ 1 → kind_of s ≡ Edge
 kind_edge s e = ap kind_by_count e
 
-same_at : (gs : List V3) (y z g : V3) → signs_of gs y ≡ signs_of gs z → Contains gs g → sign (dot g y) ≡ sign (dot g z)
-same_at [] y z g e (k, lt, p) = absurd (omega arith)
-same_at (h ∷ gs) y z g e (zero, lt, p) = let head : sign (dot h y) ≡ sign (dot h z) = cc in subst (λ v. sign (dot v y) ≡ sign (dot v z)) p head
-same_at (h ∷ gs) y z g e (suc k, lt, p) = let rest : signs_of gs y ≡ signs_of gs z = cc in same_at gs y z g rest (k, omega arith, p)
-
 module _ (planes : List V3) (d : V3) (axes : HoldsAxes planes) (apart : NoneParallel planes) (off : zeros (signs_of planes d) ≡ 0) where
-  walls : List V3
-  walls = map (facing d) planes
+  walls : Conditions d planes
+  walls = conditions d planes
 
-  faces_at : (g : V3) → Contains planes g → Faces d g
-  faces_at g c = faces d g (off_all planes d off g c)
+  -- the condition of a plane
+  wall_of : (g : V3) → Contains planes g → (v : V3) × Contains walls.cs v × IsSame v g
+  wall_of g c =
+      by_lt_z {P = (v : V3) × Contains walls.cs v × IsSame v g} (dot g d) (pos 0)
+      (λ low. (negative g, walls.down g c (negative_nonpositive (dot g d) low), inr refl))
+      (λ high. (g, walls.up g c high, inl refl))
 
-  wall_of : (v : V3) → Contains walls v → (g : V3) × Contains planes g × (v ≡ facing d g)
-  unfolding walls
-  wall_of v c = from_map (facing d) planes v c
+  inside : All (λ v. pos 0 <ℤ dot v d) walls.cs
+  inside = All-from_members (λ v. pos 0 <ℤ dot v d) walls.cs (λ v c.
+      let (g, g_in, same) = walls.only v c in
+      positive_from_nonneg (dot v d) (All-contains (λ v. pos 0 ≤ℤ dot v d) walls.cs v walls.above c) (λ z. off_all planes d off g g_in (ap sign (same_back v g d same z))))
 
-  wall_in : (g : V3) → Contains planes g → Contains walls (facing d g)
-  unfolding walls
-  wall_in g c = Contains-map (facing d) planes g c
-
-  either_wall : (axis : V3) → Contains planes axis → HasEither walls axis
-  either_wall axis c = ⊎_elim (λ e. inl (subst (Contains walls) e (wall_in axis c))) (λ e. inr (subst (Contains walls) e (wall_in axis c))) (Faces.same (faces_at axis c))
-
-  walls_span : IsSpanning walls
-  walls_span = axes_span walls (record { x = either_wall (vector (pos 1) (pos 0) (pos 0)) axes.x; y = either_wall (vector (pos 0) (pos 1) (pos 0)) axes.y; z = either_wall (vector (pos 0) (pos 0) (pos 1)) axes.z })
-
-  inside : All (λ v. pos 0 <ℤ dot v d) walls
-  inside = All-from_members (λ v. pos 0 <ℤ dot v d) walls (λ v c. let (g, in_g, e) = wall_of v c in let f = faces_at g in_g in subst (λ z. pos 0 <ℤ dot z d) (sym e) f.front)
+  on_side : (v g y : V3) → Contains walls.cs v → IsSame v g → pos 0 <ℤ dot v y → sign (dot g y) ≡ sign (dot g d)
+  on_side v g y c same h = same_sign v g d y same (All-contains (λ v. pos 0 <ℤ dot v d) walls.cs v inside c) h
 
   -- the signs of a direction on one wall
   record Edges (g y : V3) : Type 0 where
@@ -297,35 +213,29 @@ module _ (planes : List V3) (d : V3) (axes : HoldsAxes planes) (apart : NonePara
     border : IsBorder (signs_of planes y) (signs_of planes d)
     one : zeros (signs_of planes y) ≡ 1
 
-  edges : (g y : V3) → IsOnBorder walls g y → Edges g y
-  unfolding Sided
+  edges : (g y : V3) → IsOnBorder walls.cs g y → Edges g y
   edges g y b =
-      let (m, in_m, e) = wall_of g b.g_in in
-      let f = faces_at m in_m in
-      let on : dot m y ≡ pos 0 = on_plane m y (subst (λ z. IsSame z m) (sym e) f.same) b.on in
-      let sided : Sided d m y planes = side_of g y m b e f in
-      let (border, one) = edge_signs d m y planes sided apart in_m on in
-      record { m = m; in_planes = in_m; zero_there = ap sign on; agrees = λ z h q. off_all planes d off m in_m (sym (f.agrees z (subst (λ v. pos 0 <ℤ dot v z) e h)) ∙ q); border = border; one = one }
+      let (m, in_m, same) = walls.only g b.g_in in
+      let on : dot m y ≡ pos 0 = same_back g m y same b.on in
+      let (border, one) = edge_signs d m y planes (side_of m same) apart in_m on in
+      record { m = m; in_planes = in_m; zero_there = ap sign on; agrees = λ z h q. off_all planes d off m in_m (sym (on_side g m z b.g_in same h) ∙ q); border = border; one = one }
     where
-      on_plane : (m y : V3) → IsSame g m → dot g y ≡ pos 0 → dot m y ≡ pos 0
-      on_plane m y (inl e) on = ap (λ v. dot v y) (sym e) ∙ on
-      on_plane m y (inr e) on = opposite_zero_back (dot (negative m) y) (dot m y) (negative_dot m y) (ap (λ v. dot v y) (sym e) ∙ on)
-
-      side_of : (g y m : V3) → IsOnBorder walls g y → g ≡ facing d m → Faces d m → Sided d m y planes
-      side_of g y m b e f h c = (
-        off_all planes d off h c,
-        λ some. ⊎_elim
-            (λ z. absurd (same_some (cross (facing d h) g) (cross h m) (cross_signs (facing d h) g h m (Faces.same (faces_at h c)) (subst (λ z. IsSame z m) (sym e) f.same)) some z))
-            (λ p. Faces.agrees (faces_at h c) y p)
-            (All-contains (λ v. (cross v g ≡ origin) ⊎ (pos 0 <ℤ dot v y)) walls (facing d h) b.inside (wall_in h c)),
-      )
+      side_of : (m : V3) → IsSame g m → Sided d m y planes
+      side_of m same h c =
+          let (v, v_in, is) = wall_of h c in (
+            off_all planes d off h c,
+            λ some. ⊎_elim
+                (λ z. absurd (same_some (cross v g) (cross h m) (cross_signs v g h m is same) some z))
+                (λ p. on_side v h y v_in is p)
+                (All-contains (λ v. (cross v g ≡ origin) ⊎ (pos 0 <ℤ dot v y)) walls.cs v b.inside v_in),
+          )
 
   some_from : (h y : V3) → pos 0 <ℤ dot h y → y ≢ origin
   some_from h y p e = zero_not_positive (dot h y) (ap (dot h) e ∙ dot_origin h) p
 
   two_edges : HasTwoEdges planes (signs_of planes d)
   two_edges =
-      let b = borders_lemma walls d walls_span inside in
+      let b = borders_lemma walls.cs d (axes_span walls.cs (have_axes d planes walls axes)) inside in
       let e = edges b.g b.y b.y_on in
       let f = edges b.h b.z b.z_on in
       record {
@@ -333,7 +243,8 @@ module _ (planes : List V3) (d : V3) (axes : HoldsAxes planes) (apart : NonePara
         f = signs_of planes b.z;
         e_is = record { cell = record { d = b.y; nonzero = some_from b.h b.y b.y_inside; is = refl }; edge = kind_edge (signs_of planes b.y) e.one; border = e.border };
         f_is = record { cell = record { d = b.z; nonzero = some_from b.g b.z b.z_inside; is = refl }; edge = kind_edge (signs_of planes b.z) f.one; border = f.border };
-        different = λ same. e.agrees b.z b.z_inside (sym (same_at planes b.y b.z e.m same e.in_planes) ∙ e.zero_there);
+        different = λ same. e.agrees b.z b.z_inside
+            (⊎_elim (λ p. p ∙ e.zero_there) (λ p. p) (border_at planes b.z b.y (border_from_same (signs_of planes b.z) (signs_of planes b.y) (sym same)) e.m e.in_planes));
       }
 
 -- an open cell has two edges on its border

@@ -1,31 +1,27 @@
 -- A core that holds a set of parts together at the crossings with a plane does so along each direction on the plane.
-use Rattle.std.proofs.Common.{◌≡◌, ◌≢◌, zero, suc, ◌≤◌, refl, sym, ap, subst, ◌∙◌, arith, ℤ, pos, ◌≤ℤ◌, inl, inr, ⊎_elim, List, ◌∷◌, All, Contains}
-use Rattle.std.proofs.lemmas.Int.{ints}
+use Rattle.std.proofs.Common.{◌≡◌, ◌≢◌, zero, suc, ◌≤◌, refl, sym, ap, ◌∙◌, arith, pos, inl, inr, ⊎_elim, List, ◌∷◌, All, Contains}
 use Rattle.std.specs.FinSet as set
 use Rattle.staat_vec.specs.declared.vector.V3.{V3}
-use Rattle.staat_vec.specs.Vectors.{vector, dot, cross, negative, origin}
+use Rattle.staat_vec.specs.Vectors.{dot, cross, origin, vector_cmp}
+use Rattle.staat_vec.proofs.VectorOrder.{vector_exact, vector_total}
 use Rattle.staat_vec.specs.Primitives.{IsPrimitive, primitive, canon}
-use Rattle.staat_vec.proofs.VecRing.{cross_self, cross_turned, dot_negative, dot_cross_left, dot_cross_right}
-use Rattle.staat_vec.proofs.Order.{cancel_zero}
-use Rattle.staat_vec.proofs.Primitives.{IsPrimitive-negative, IsPrimitive-some, primitive-is, primitive-negative}
+use Rattle.staat_vec.proofs.VecRing.{cross_self, cross_turned}
+use Rattle.staat_vec.proofs.Primitives.{IsPrimitive-some, primitive-negative}
 use Rattle.staat_model.specs.declared.assembly.Part.{Part}
 use Rattle.staat_model.specs.declared.set.PartSet.{PartSet}
 use Rattle.staat_model.specs.declared.certificate.Arc.{Arc}
 use Rattle.staat_model.specs.Assemblies.{IsPart}
-use Rattle.staat_model.specs.Cores.{HasCorePlanes, HoldsAtCrossings, HoldsAtVertices, HoldsTogether, IsCorePlane}
+use Rattle.staat_model.specs.Cores.{HasCorePlanes, HoldsAtCrossings, HoldsAtVertices, HoldsTogether}
 use Rattle.staat_model.specs.Cores.{IsCrossingOn, IsFreeAtCrossing, IsFreeAtVertex, IsFreeInCore}
 use Rattle.staat_model.specs.Outcomes.{Serves}
-use Rattle.staat_model.specs.Planes.{axes}
 use Rattle.staat_model.specs.Plans.{IsStuck}
 use Rattle.staat_model.specs.Removal.{MeetsAlong}
-use Rattle.staat_model.proofs.CornerLemmas.{dot_multiple}
-use Rattle.staat_model.proofs.Corners.{HoldsAxes, IsCornerTowards, IsSame, IsTowards, corner_towards}
+use Rattle.staat_model.proofs.Corners.{IsCornerTowards, axes_held, IsOnBoth, IsTowards, corner_towards, on_both}
 use Rattle.staat_model.proofs.FacetLemmas.{across_crosses}
-use Rattle.staat_model.proofs.GraphLemmas.{facet_towards, piece_in, positive_back}
-use Rattle.staat_model.proofs.BorderLemmas.{same_or_not}
-use Rattle.staat_model.proofs.PieceFacets.{meets_by_facets_lemma}
-use Rattle.staat_model.proofs.VertexLemmas.{in_vertices, same_some}
-use Rattle.staat_vec.proofs.Integers.{opposite_zero}
+use Rattle.staat_model.proofs.GraphLemmas.{meets_where}
+use Rattle.staat_model.proofs.Decisions.{Decided, equal_or}
+use Rattle.staat_model.proofs.VertexLemmas.{in_vertices}
+use Rattle.staat_vec.proofs.Integers.{zero_from_bounds, zero_nonneg, zero_nonpositive}
 use Rattle.staat_vec.proofs.Unique.{Contains-front}
 use Rattle.staat_vec.proofs.ListLaws.{Contains-there}
 use Rattle.staat_vec.proofs.VectorLaws.{parallel_cross}
@@ -35,75 +31,25 @@ use Rattle.staat_vec.proofs.VectorLaws.{parallel_cross}
 pub meets_towards : (parts : List Part) (core : List Arc) (planes : List V3) (d v : V3) (arc : Arc) → All IsPart parts → HasCorePlanes parts core planes → ((m : V3) → Contains planes m → IsTowards d v m)
     → Contains core arc → MeetsAlong parts v arc → MeetsAlong parts d arc
 meets_towards parts core planes d v arc each has towards listed m =
-    let is_p = piece_in parts arc.a arc.i m.p each m.p_is in
-    let is_q = piece_in parts arc.b arc.j m.q each m.q_is in
-    let at_v = (meets_by_facets_lemma m.p m.q v is_p is_q).0 m.holds in
-    record {
-      p = m.p;
-      q = m.q;
-      p_is = m.p_is;
-      q_is = m.q_is;
-      holds = (meets_by_facets_lemma m.p m.q d is_p is_q).1 (λ n f.
-          let plane : IsCorePlane parts core (canon n) = record { arc = arc; facet = n; listed = listed; is = refl; holds = record { p = m.p; q = m.q; p_is = m.p_is; q_is = m.q_is; holds = f } } in
-          let t = facet_towards d v n (towards (canon n) (has.has_facets (canon n) plane)) in
-          positive_back (dot n d) (dot n v) t.down (at_v n f));
-    }
-
-core_axes : (parts : List Part) (core : List Arc) (planes : List V3) → HasCorePlanes parts core planes → HoldsAxes planes
-core_axes parts core planes has = record {
-  x = has.has_axes (vector (pos 1) (pos 0) (pos 0)) (0, omega arith, refl);
-  y = has.has_axes (vector (pos 0) (pos 1) (pos 0)) (1, omega arith, refl);
-  z = has.has_axes (vector (pos 0) (pos 0) (pos 1)) (2, omega arith, refl);
-}
+    meets_where parts d v arc each (λ n h. towards (canon n) (has.has_facets (canon n) (record { arc = arc; facet = n; listed = listed; is = refl; holds = h }))) m
 
 -- what is free along some direction is free along a vertex, whatever the sides are
 pub free_at_vertex_lemma : (parts : List Part) (core : List Arc) (planes : List V3) (s r : PartSet) (d : V3)
     → All IsPart parts → HasCorePlanes parts core planes → d ≢ origin
     → IsFreeInCore parts core s r d → IsFreeAtVertex parts core planes s r
 free_at_vertex_lemma parts core planes s r d each has some free =
-    let (v, c) = corner_towards planes d (core_axes parts core planes has) some in
-    let crossing = primitive (cross c.g c.h) in
-    let p = primitive-is (cross c.g c.h) c.independent in record {
+    let (v, c) = corner_towards planes d (axes_held planes has.has_axes) some in
+    let on = on_both v c.g c.h c.independent c.is in record {
       v = v;
       vertex = record {
         listed = in_vertices planes c.g c.h v c.g_in c.h_in c.independent c.is;
-        moves = same_some v crossing c.is (IsPrimitive-some crossing p.primitive);
+        moves = IsPrimitive-some v on.primitive;
       };
       free = λ arc listed a_in b_in m.
           free arc listed a_in b_in (meets_towards parts core planes d v arc each has c.towards listed m);
     }
 
 -- ---- a corner on the plane of g
-
-zero_here : (p q : ℤ) → q ≡ pos 0 → (pos 0 ≤ℤ q → pos 0 ≤ℤ p) → (q ≤ℤ pos 0 → p ≤ℤ pos 0) → p ≡ pos 0
-zero_here p q e up down =
-    let a : pos 0 ≤ℤ p = up (omega (arith, ints)) in
-    let b : p ≤ℤ pos 0 = down (omega (arith, ints)) in
-    omega (arith, ints)
-
--- the corner is a primitive vector that lies on both of its planes
-record IsOnBoth (v g h : V3) : Type 0 where
-  primitive : IsPrimitive v
-  on_g : dot g v ≡ pos 0
-  on_h : dot h v ≡ pos 0
-
-both_turned : (v g h : V3) → IsOnBoth v g h → IsOnBoth (negative v) g h
-both_turned v g h o = record {
-  primitive = IsPrimitive-negative v o.primitive;
-  on_g = opposite_zero (dot g (negative v)) (dot g v) (dot_negative g v) o.on_g;
-  on_h = opposite_zero (dot h (negative v)) (dot h v) (dot_negative h v) o.on_h;
-}
-
-crossing_on_both : (g h : V3) → cross g h ≢ origin → IsOnBoth (primitive (cross g h)) g h
-crossing_on_both g h some =
-    let p = primitive-is (cross g h) some in
-    let n = primitive (cross g h) in
-    let flat : (m : V3) → dot m (cross g h) ≡ pos 0 → dot m n ≡ pos 0 = λ m on. cancel_zero p.factor (dot m n) p.positive (sym (dot_multiple m (cross g h) n p.factor p.multiple) ∙ on) in
-    record { primitive = p.primitive; on_g = flat g (dot_cross_left g h); on_h = flat h (dot_cross_right g h) }
-
-on_both : (v g h : V3) → cross g h ≢ origin → IsSame v (primitive (cross g h)) → IsOnBoth v g h
-on_both v g h some (inl e) = subst (λ z. IsOnBoth z g h) (sym e) (crossing_on_both g h some)
-on_both v g h some (inr e) = subst (λ z. IsOnBoth z g h) (sym e) (both_turned (primitive (cross g h)) g h (crossing_on_both g h some))
 
 -- a primitive vector on the plane of g and on another one that is not parallel
 crossing_at : (g : V3) (planes : List V3) (v h : V3) → IsPrimitive v → dot g v ≡ pos 0 → dot h v ≡ pos 0 → Contains (g ∷ planes) h → cross g h ≢ origin → IsCrossingOn g planes v
@@ -116,31 +62,24 @@ crossing_at g planes v h is on_g on_h (suc k, lt, e) apart = record {
 }
 
 crossing_on : (g d v : V3) (planes : List V3) → g ≢ origin → dot g v ≡ pos 0 → IsCornerTowards (g ∷ planes) d v → IsCrossingOn g planes v
-crossing_on g d v planes some on c = go (same_or_not (cross g c.g) origin) (same_or_not (cross g c.h) origin)
+crossing_on g d v planes some on c = go (equal_or vector_cmp vector_total vector_exact (cross g c.g) origin) (equal_or vector_cmp vector_total vector_exact (cross g c.h) origin)
   where
     o : IsOnBoth v c.g c.h
     o = on_both v c.g c.h c.independent c.is
 
-    go : Dec (cross g c.g ≡ origin) → Dec (cross g c.h ≡ origin) → IsCrossingOn g planes v
-    go (no n) q = crossing_at g planes v c.g o.primitive on o.on_g c.g_in n
-    go (yes p) (no n) = crossing_at g planes v c.h o.primitive on o.on_h c.h_in n
-    go (yes p) (yes q) = absurd (c.independent (parallel_cross g c.g c.h some p q))
-
-with_plane : (g : V3) (planes : List V3) → HoldsAxes planes → HoldsAxes (g ∷ planes)
-with_plane g planes axes = record {
-  x = Contains-there g (vector (pos 1) (pos 0) (pos 0)) planes axes.x;
-  y = Contains-there g (vector (pos 0) (pos 1) (pos 0)) planes axes.y;
-  z = Contains-there g (vector (pos 0) (pos 0) (pos 1)) planes axes.z;
-}
+    go : Decided (cross g c.g ≡ origin) → Decided (cross g c.h ≡ origin) → IsCrossingOn g planes v
+    go (inr n) q = crossing_at g planes v c.g o.primitive on o.on_g c.g_in n
+    go (inl p) (inr n) = crossing_at g planes v c.h o.primitive on o.on_h c.h_in n
+    go (inl p) (inl q) = absurd (c.independent (parallel_cross g c.g c.h some p q))
 
 -- what is free along some direction on the plane of g is free along a crossing of it
 pub free_at_crossing_lemma : (parts : List Part) (core : List Arc) (planes : List V3) (g : V3) (s r : PartSet) (d : V3)
     → All IsPart parts → HasCorePlanes parts core planes → g ≢ origin → d ≢ origin → dot g d ≡ pos 0
     → IsFreeInCore parts core s r d → IsFreeAtCrossing parts core planes g s r
 free_at_crossing_lemma parts core planes g s r d each has g_some some on free =
-    let (v, c) = corner_towards (g ∷ planes) d (with_plane g planes (core_axes parts core planes has)) some in
+    let (v, c) = corner_towards (g ∷ planes) d (axes_held (g ∷ planes) (λ axis c. Contains-there g axis planes (has.has_axes axis c))) some in
     let t = c.towards g (Contains-front g planes) in
-    let on_v : dot g v ≡ pos 0 = zero_here (dot g v) (dot g d) on t.up t.down in record {
+    let on_v : dot g v ≡ pos 0 = zero_from_bounds (dot g v) (t.up (zero_nonneg (dot g d) on)) (t.down (zero_nonpositive (dot g d) on)) in record {
       v = v;
       crossing = crossing_on g d v planes g_some on_v c;
       free = λ arc listed a_in b_in m.
@@ -157,20 +96,11 @@ core_holds_lemma parts core w planes d each has at_vertices some = λ s side fre
     let at = free_at_vertex_lemma parts core planes s (set.difference w s) d each has some free in
     at_vertices at.v at.vertex s side at.free
 
--- what is free of the rest is free as far as the core tells
-held_serves_not : (parts : List Part) (core : List Arc) (w : PartSet) (d : V3) → HoldsTogether parts core w d
-    → Serves parts w d → ⊥
-held_serves_not parts core w d held serves =
-    let free = serves.free in
-    held serves.side serves.is_side (λ arc listed a_in b_in m. free.clear arc a_in b_in m)
-
 pub core_stuck_lemma : (parts : List Part) (core : List Arc) (w : PartSet) (planes : List V3) → All IsPart parts
     → 2 ≤ set.len w → HasCorePlanes parts core planes → HoldsAtVertices parts core w planes → IsStuck parts w
 core_stuck_lemma parts core w planes each two has at_vertices = record {
   two = two;
-  held = λ s d side free.
-      held_serves_not parts core w d (core_holds_lemma parts core w planes d each has at_vertices free.moves)
-      (record { side = s; is_side = side; free = free });
+  held = λ s d side free. core_holds_lemma parts core w planes d each has at_vertices free.moves s side (λ arc listed. free.clear arc);
 }
 
 pub core_on_plane_lemma : (parts : List Part) (core : List Arc) (w : PartSet) (planes : List V3) (g d : V3)
@@ -185,6 +115,4 @@ pub core_none_lemma : (parts : List Part) (core : List Arc) (w : PartSet) (plane
     → dot g d ≡ pos 0 → Serves parts w d → ⊥
 core_none_lemma parts core w planes g d each has g_some at_crossings on serves =
     let free = serves.free in
-    held_serves_not parts core w d
-    (core_on_plane_lemma parts core w planes g d each has g_some at_crossings free.moves on)
-    serves
+    core_on_plane_lemma parts core w planes g d each has g_some at_crossings free.moves on serves.side serves.is_side (λ arc listed. free.clear arc)

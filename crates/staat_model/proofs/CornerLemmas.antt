@@ -1,5 +1,5 @@
 -- A pointed cone that holds a vector but zero holds a vertex.
-use Rattle.std.proofs.Common.{◌≡◌, ℕ, ◌≢◌, refl, sym, ap, ◌∙◌, arith, ℤ, pos, neg_ℤ, ◌*ℤ◌, ◌≤ℤ◌, ◌<ℤ◌, inl, inr, List, [], ◌∷◌, All}
+use Rattle.std.proofs.Common.{◌≡◌, ℕ, ◌≢◌, refl, sym, ap, subst, ◌∙◌, arith, ℤ, pos, neg_ℤ, ◌*ℤ◌, ◌≤ℤ◌, ◌<ℤ◌, inl, inr, List, [], ◌∷◌, All}
 use Rattle.std.proofs.lemmas.Int.{ints}
 use Rattle.std.proofs.lemmas.List.Elements.{All-contains, All-weaker}
 use Rattle.staat_vec.specs.declared.vector.V3.{V3}
@@ -8,10 +8,10 @@ use Rattle.staat_vec.specs.Primitives.{IsPrimitiveOf, primitive}
 use Rattle.staat_model.specs.Cones.{IsAbove, IsSpanning, HasAxes, HasEither, HasCorner}
 use Rattle.staat_vec.proofs.Ring.{Ex, at, num, ◌⊗◌, ring}
 use Rattle.staat_vec.proofs.VecRing.{dotE, timesE, vectorE, values, v0, v1, same_vector, negative_dot}
-use Rattle.staat_vec.proofs.Order.{cancel_nonneg, negative_is, nonneg_is}
+use Rattle.staat_vec.proofs.Order.{cancel_nonneg, cancel_zero, negative_is, nonneg_is}
 use Rattle.staat_model.proofs.Edge.{edge_below}
 use Rattle.staat_vec.proofs.Primitives.{primitive-is}
-use Rattle.staat_vec.proofs.Integers.{zero_from_opposite, positive_pos}
+use Rattle.staat_vec.proofs.Integers.{cancel_positive, zero_from_opposite, positive_pos}
 use Rattle.staat_vec.proofs.VectorLaws.{some_square}
 
 -- n is at right angles to an axis of the list
@@ -31,6 +31,18 @@ axes_span vs axes n h =
 
 pub dot_multiple : (v f n : V3) (k : ℕ) → f ≡ times k n → dot v f ≡ pos k *ℤ dot v n
 dot_multiple v f n k e = ap (dot v) e ∙ ring (values (v ∷ n ∷ []) (pos k ∷ [])) (dotE v0 (timesE (at 6) v1)) (at 6 ⊗ dotE v0 v1) tt
+
+-- what is at right angles to a vector is so to its primitive vector
+pub across_primitive : (m f : V3) → f ≢ origin → dot m f ≡ pos 0 → dot m (primitive f) ≡ pos 0
+across_primitive m f some on =
+    let p = primitive-is f some in
+    cancel_zero p.factor (dot m (primitive f)) p.positive (sym (dot_multiple m f (primitive f) p.factor p.multiple) ∙ on)
+
+-- and what lies ahead of it lies ahead of its primitive vector
+pub ahead_primitive : (m f : V3) → f ≢ origin → pos 0 <ℤ dot m f → pos 0 <ℤ dot m (primitive f)
+ahead_primitive m f some h =
+    let p = primitive-is f some in
+    cancel_positive (pos p.factor) (dot m (primitive f)) (positive_pos p.factor p.positive) (subst (λ z. pos 0 <ℤ z) (dot_multiple m f (primitive f) p.factor p.multiple) h)
 
 -- the sides of a vector are those of its primitive vector
 pub above_primitive : (vs : List V3) (f n : V3) → IsPrimitiveOf f n → IsAbove f vs → IsAbove n vs

@@ -1,17 +1,20 @@
 -- Some crossing of planes that hold the axes lies on the border of the cell of each direction.
-use Rattle.std.proofs.Common.{◌≡◌, ◌≢◌, ◌∙◌, ap, sym, refl, subst, zero, suc, arith, ℤ, pos, ◌≤ℤ◌, ◌<ℤ◌, ◌⊎◌, inl, inr, List, [], ◌∷◌, Contains}
-use Rattle.std.proofs.lemmas.Int.{ints, by_lt_z}
-use Rattle.std.proofs.lemmas.List.Elements.{All-nil, All-cons, All-contains}
+use Rattle.std.proofs.Common.{◌≡◌, ◌≢◌, ◌∙◌, ap, arith, sym, refl, subst, pos, ◌≤ℤ◌, ◌⊎◌, inl, inr, List, [], ◌∷◌, ◌++◌, map, Contains}
+use Rattle.std.proofs.lemmas.Int.{by_lt_z}
+use Rattle.std.proofs.lemmas.List.Elements.{All-contains, Contains-append_cases, Contains-append_left, Contains-append_right}
 use Rattle.staat_vec.specs.declared.vector.V3.{V3}
 use Rattle.staat_vec.specs.Vectors.{vector, dot, cross, negative, origin}
-use Rattle.staat_vec.specs.Primitives.{primitive}
-use Rattle.staat_vec.proofs.VecRing.{crossE, negativeE, values, v0, v1, ring3, negative_dot}
-use Rattle.staat_vec.proofs.Primitives.{primitive-negative}
+use Rattle.staat_vec.specs.Primitives.{IsPrimitive, primitive}
+use Rattle.staat_vec.proofs.VecRing.{crossE, negativeE, values, v0, v1, ring3, negative_dot, dot_cross_left, dot_cross_right, dot_negative}
+use Rattle.staat_vec.proofs.Primitives.{IsPrimitive-negative, primitive-is, primitive-negative}
+use Rattle.staat_model.specs.Planes.{axes}
 use Rattle.staat_model.specs.Cones.{IsAbove, HasAxes, HasEither, IsCrossing}
-use Rattle.staat_model.proofs.CornerLemmas.{corner_lemma}
-use Rattle.staat_vec.proofs.Integers.{opposite_nonneg, opposite_nonpositive_back, negative_nonpositive, negative_nonneg_clash}
-use Rattle.staat_vec.proofs.Unique.{Contains-front}
-use Rattle.staat_vec.proofs.ListLaws.{Contains-there}
+use Rattle.staat_model.proofs.CornerLemmas.{across_primitive, corner_lemma}
+use Rattle.staat_model.proofs.Decisions.{kept, le_or}
+use Rattle.staat_model.proofs.Differences.{from_map}
+use Rattle.staat_model.proofs.Members.{All-from_members}
+use Rattle.staat_vec.proofs.Integers.{opposite_nonneg, opposite_zero, opposite_zero_back, opposite_nonpositive_back, negative_nonpositive}
+use Rattle.staat_vec.proofs.ListLaws.{Contains-map}
 
 -- v is on no other side of g than d
 pub record IsTowards (d v g : V3) : Type 0 where
@@ -24,6 +27,14 @@ pub record IsTowards (d v g : V3) : Type 0 where
 abbrev pub IsSame : V3 → V3 → Type 0
 IsSame s g = (s ≡ g) ⊎ (s ≡ negative g)
 
+pub same_zero : (e g d : V3) → IsSame e g → dot g d ≡ pos 0 → dot e d ≡ pos 0
+same_zero e g d (inl p) h = ap (λ v. dot v d) p ∙ h
+same_zero e g d (inr p) h = opposite_zero (dot e d) (dot g d) (ap (λ v. dot v d) p ∙ negative_dot g d) h
+
+pub same_back : (e g d : V3) → IsSame e g → dot e d ≡ pos 0 → dot g d ≡ pos 0
+same_back e g d (inl p) h = ap (λ v. dot v d) (sym p) ∙ h
+same_back e g d (inr p) h = opposite_zero_back (dot e d) (dot g d) (ap (λ v. dot v d) p ∙ negative_dot g d) h
+
 pub record Conditions (d : V3) (gs : List V3) : Type 0 where
   pub cs : List V3
   pub above : IsAbove d cs
@@ -31,86 +42,21 @@ pub record Conditions (d : V3) (gs : List V3) : Type 0 where
   pub up : (g : V3) → Contains gs g → pos 0 ≤ℤ dot g d → Contains cs g
   pub down : (g : V3) → Contains gs g → dot g d ≤ℤ pos 0 → Contains cs (negative g)
 
--- one more condition, from a list and a plane
-grow : (d g s : V3) (gs cs : List V3) → IsSame s g → ((c : V3) → Contains cs c → (h : V3) × Contains (g ∷ gs) h × IsSame c h) → (c : V3) → Contains (s ∷ cs) c → (h : V3) × Contains (g ∷ gs) h × IsSame c h
-grow d g s gs cs same only c (zero, lt, e) = (g, Contains-front g gs, subst (λ z. IsSame z g) e same)
-grow d g s gs cs same only c (suc k, lt, e) = only c (k, omega arith, e)
-
-module _ (d g : V3) (gs : List V3) (rest : Conditions d gs) where
-  old : (c : V3) → Contains rest.cs c → (h : V3) × Contains (g ∷ gs) h × IsSame c h
-  old c in_cs = let (h, in_gs, same) = rest.only c in_cs in (h, Contains-there g h gs in_gs, same)
-
-  -- g has d on its negative side
-  turned : dot g d <ℤ pos 0 → Conditions d (g ∷ gs)
-  turned low = record {
-    cs = negative g ∷ rest.cs;
-    above = All-cons (λ c. pos 0 ≤ℤ dot c d) (negative g) rest.cs (opposite_nonneg (dot (negative g) d) (dot g d) (negative_dot g d) (negative_nonpositive (dot g d) low)) rest.above;
-    only = grow d g (negative g) gs rest.cs (inr refl) old;
-    up = up;
-    down = down;
-  }
-    where
-      up : (h : V3) → Contains (g ∷ gs) h → pos 0 ≤ℤ dot h d → Contains (negative g ∷ rest.cs) h
-      up h (zero, lt, e) side = absurd (negative_nonneg_clash (dot g d) low (subst (λ z. pos 0 ≤ℤ dot z d) (sym e) side))
-      up h (suc k, lt, e) side = Contains-there (negative g) h rest.cs (rest.up h (k, omega arith, e) side)
-
-      down : (h : V3) → Contains (g ∷ gs) h → dot h d ≤ℤ pos 0 → Contains (negative g ∷ rest.cs) (negative h)
-      down h (zero, lt, e) side = subst (λ z. Contains (negative g ∷ rest.cs) (negative z)) e (Contains-front (negative g) rest.cs)
-      down h (suc k, lt, e) side = Contains-there (negative g) (negative h) rest.cs (rest.down h (k, omega arith, e) side)
-
-  -- g has d on its positive side
-  straight : pos 0 <ℤ dot g d → Conditions d (g ∷ gs)
-  straight high = record {
-    cs = g ∷ rest.cs;
-    above = All-cons (λ c. pos 0 ≤ℤ dot c d) g rest.cs (omega (arith, ints)) rest.above;
-    only = grow d g g gs rest.cs (inl refl) old;
-    up = up;
-    down = down;
-  }
-    where
-      up : (h : V3) → Contains (g ∷ gs) h → pos 0 ≤ℤ dot h d → Contains (g ∷ rest.cs) h
-      up h (zero, lt, e) side = subst (λ z. Contains (g ∷ rest.cs) z) e (Contains-front g rest.cs)
-      up h (suc k, lt, e) side = Contains-there g h rest.cs (rest.up h (k, omega arith, e) side)
-
-      down : (h : V3) → Contains (g ∷ gs) h → dot h d ≤ℤ pos 0 → Contains (g ∷ rest.cs) (negative h)
-      down h (zero, lt, e) side = absurd (above_too (dot g d) high (subst (λ z. dot z d ≤ℤ pos 0) (sym e) side))
-        where
-          above_too : (p : ℤ) → pos 0 <ℤ p → p ≤ℤ pos 0 → ⊥
-          above_too p h g = omega (arith, ints)
-      down h (suc k, lt, e) side = Contains-there g (negative h) rest.cs (rest.down h (k, omega arith, e) side)
-
-  -- d lies on g
-  across : pos 0 ≤ℤ dot g d → dot g d ≤ℤ pos 0 → Conditions d (g ∷ gs)
-  across high low = record {
-    cs = g ∷ negative g ∷ rest.cs;
-    above = All-cons (λ c. pos 0 ≤ℤ dot c d) g (negative g ∷ rest.cs) high (All-cons (λ c. pos 0 ≤ℤ dot c d) (negative g) rest.cs (opposite_nonneg (dot (negative g) d) (dot g d) (negative_dot g d) low) rest.above);
-    only = grow d g g gs (negative g ∷ rest.cs) (inl refl) (grow d g (negative g) gs rest.cs (inr refl) old);
-    up = up;
-    down = down;
-  }
-    where
-      up : (h : V3) → Contains (g ∷ gs) h → pos 0 ≤ℤ dot h d → Contains (g ∷ negative g ∷ rest.cs) h
-      up h (zero, lt, e) side = subst (λ z. Contains (g ∷ negative g ∷ rest.cs) z) e (Contains-front g (negative g ∷ rest.cs))
-      up h (suc k, lt, e) side = Contains-there g h (negative g ∷ rest.cs) (Contains-there (negative g) h rest.cs (rest.up h (k, omega arith, e) side))
-
-      down : (h : V3) → Contains (g ∷ gs) h → dot h d ≤ℤ pos 0 → Contains (g ∷ negative g ∷ rest.cs) (negative h)
-      down h (zero, lt, e) side = subst (λ z. Contains (g ∷ negative g ∷ rest.cs) (negative z)) e (Contains-there g (negative g) (negative g ∷ rest.cs) (Contains-front (negative g) rest.cs))
-      down h (suc k, lt, e) side = Contains-there g (negative h) (negative g ∷ rest.cs) (Contains-there (negative g) (negative h) rest.cs (rest.down h (k, omega arith, e) side))
-
-  next : Conditions d (g ∷ gs)
-  next =
-      by_lt_z {P = Conditions d (g ∷ gs)} (dot g d) (pos 0) turned
-      (λ nonneg. by_lt_z {P = Conditions d (g ∷ gs)} (pos 0) (dot g d) straight (λ low. across nonneg low))
-
+-- each plane and its negative, where d is not behind it
 pub conditions : (d : V3) (gs : List V3) → Conditions d gs
-conditions d [] = record {
-  cs = [];
-  above = All-nil (λ c. pos 0 ≤ℤ dot c d);
-  only = λ c (k, lt, e). absurd (omega arith);
-  up = λ g (k, lt, e) h. absurd (omega arith);
-  down = λ g (k, lt, e) h. absurd (omega arith);
-}
-conditions d (g ∷ gs) = next d g gs (conditions d gs)
+conditions d gs =
+    let both = gs ++ map negative gs in
+    let (cs, from, all) = kept (λ c. pos 0 ≤ℤ dot c d) (λ c. le_or (pos 0) (dot c d)) both in record {
+      cs = cs;
+      above = All-from_members (λ c. pos 0 ≤ℤ dot c d) cs (λ c c_in. (from c c_in).1);
+      only = λ c c_in. elim (Contains-append_cases gs (map negative gs) c (from c c_in).0) [
+        | inl here ↦ (c, here, inl refl)
+        | inr turned ↦ (let (g, g_in, is) = from_map negative gs c turned in (g, g_in, inr is))
+      ];
+      up = λ g g_in h. all g (Contains-append_left gs (map negative gs) g g_in) h;
+      down = λ g g_in h. all (negative g) (Contains-append_right gs (map negative gs) (negative g) (Contains-map negative gs g g_in))
+          (opposite_nonneg (dot (negative g) d) (dot g d) (negative_dot g d) h);
+    }
 
 -- ---- the crossing
 
@@ -139,11 +85,35 @@ pub record IsCornerTowards (gs : List V3) (d v : V3) : Type 0 where
   pub is : IsSame v (primitive (cross g h))
   pub towards : (m : V3) → Contains gs m → IsTowards d v m
 
+-- a primitive vector on two planes
+pub record IsOnBoth (v g h : V3) : Type 0 where
+  pub primitive : IsPrimitive v
+  pub on_g : dot g v ≡ pos 0
+  pub on_h : dot h v ≡ pos 0
+
+-- a crossing is one
+pub on_both : (v g h : V3) → cross g h ≢ origin → IsSame v (primitive (cross g h)) → IsOnBoth v g h
+on_both v g h some same = record { primitive = whole same; on_g = flat g (dot_cross_left g h) same; on_h = flat h (dot_cross_right g h) same }
+  where
+    f : V3
+    f = primitive (cross g h)
+
+    whole : IsSame v f → IsPrimitive v
+    whole (inl e) = let p = primitive-is (cross g h) some in subst (λ z. IsPrimitive z) (sym e) p.primitive
+    whole (inr e) = let p = primitive-is (cross g h) some in subst (λ z. IsPrimitive z) (sym e) (IsPrimitive-negative f p.primitive)
+
+    flat : (m : V3) → dot m (cross g h) ≡ pos 0 → IsSame v f → dot m v ≡ pos 0
+    flat m on (inl e) = ap (dot m) e ∙ across_primitive m (cross g h) some on
+    flat m on (inr e) = opposite_zero (dot m v) (dot m f) (ap (dot m) e ∙ dot_negative m f) (across_primitive m (cross g h) some on)
+
 -- the three axes stand in the list
 pub record HoldsAxes (gs : List V3) : Type 0 where
   pub x : Contains gs (vector (pos 1) (pos 0) (pos 0))
   pub y : Contains gs (vector (pos 0) (pos 1) (pos 0))
   pub z : Contains gs (vector (pos 0) (pos 0) (pos 1))
+
+pub axes_held : (gs : List V3) → ((axis : V3) → Contains axes axis → Contains gs axis) → HoldsAxes gs
+axes_held gs f = record { x = f _ (0, omega arith, refl); y = f _ (1, omega arith, refl); z = f _ (2, omega arith, refl) }
 
 either : (d axis : V3) (gs : List V3) (c : Conditions d gs) → Contains gs axis → HasEither c.cs axis
 either d axis gs c in_gs =

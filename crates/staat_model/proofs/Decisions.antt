@@ -1,10 +1,10 @@
 -- What can be decided, and the first and the least that is found.
-use Rattle.std.proofs.Common.{◌≡◌, ◌⊎◌, ℕ, zero, suc, ◌<◌, ℤ, ◌≤ℤ◌, ◌<ℤ◌, Bool, true, false, List, [], ◌∷◌, All, arith, ap, sym, ◌∙◌, subst, refl, inl, inr, T}
+use Rattle.std.proofs.Common.{◌≡◌, ◌⊎◌, ℕ, zero, suc, ◌<◌, ℤ, ◌≤ℤ◌, ◌<ℤ◌, List, [], ◌∷◌, All, arith, ap, sym, ◌∙◌, subst, refl, inl, inr, ⊎_elim}
 use Rattle.std.specs.Prelude.{Contains, Some, slice_get}
-use Rattle.std.proofs.lemmas.List.Elements.{All-contains, All-from_recursion}
-use Rattle.std.specs.Cmp.{IsTotalOrder}
+use Rattle.std.proofs.lemmas.Int.{by_lt_z, ints}
+use Rattle.std.proofs.lemmas.List.Elements.{All-cons, All-contains, All-from_recursion, All-head, All-nil, All-tail, recursion_from_All}
+use Rattle.std.specs.Cmp.{IsTotalOrder, tied_itself}
 use Rattle.std.specs.FinMap.{IsAntisymmetric}
-use Rattle.std.specs.Int.Signed.{le_z, lt_z}
 use Rattle.std.specs.List.{AllByRecursion}
 use Rattle.std.specs.List.Sorted.{IsStrictlySortedBy}
 use Rattle.std.specs.Ordering.{ordering_reverse}
@@ -12,7 +12,7 @@ use Rattle.std.specs.declared.cmp.Ordering.{Ordering}
 use Rattle.std.specs.declared.cmp.Ordering.TheVariants.{Less, Equal, Greater}
 use Rattle.staat_vec.specs.Lists.{FailsFirst, IsFirst, Lists}
 use Rattle.staat_vec.proofs.Unique.{Contains-cases, Contains-front, Contains-later, Contains-nothing}
-use Rattle.staat_model.proofs.Members.{All-from_members}
+use Rattle.staat_model.proofs.Members.{All-from_members, joined}
 use Rattle.staat_vec.proofs.ListLaws.{All-at}
 
 abbrev pub Decided : Type 0 → Type 0
@@ -27,6 +27,11 @@ pub not_or : {P : Type 0} → Decided P → Decided (P → ⊥)
 not_or (inl p) = inr (λ n. n p)
 not_or (inr n) = inl n
 
+pub either_or : {P Q : Type 0} → Decided P → Decided Q → Decided (P ⊎ Q)
+either_or (inl p) q = inl (inl p)
+either_or (inr n) (inl q) = inl (inr q)
+either_or (inr n) (inr m) = inr (λ h. ⊎_elim n m h)
+
 pub carried : {P Q : Type 0} → (P → Q) → (Q → P) → Decided P → Decided Q
 carried f g (inl p) = inl (f p)
 carried f g (inr n) = inr (λ q. n (g q))
@@ -38,43 +43,38 @@ pub nat_or : (a b : ℕ) → Decided (a ≡ b)
 nat_or a b = grind arith
 
 pub le_or : (a b : ℤ) → Decided (a ≤ℤ b)
-le_or a b = go (le_z a b) refl
-  where
-    go : (t : Bool) → le_z a b ≡ t → Decided (a ≤ℤ b)
-    go true e = inl (record { le = subst T (sym e) tt })
-    go false e = inr (λ h. subst T e h.le)
+le_or a b = by_lt_z {P = Decided (a ≤ℤ b)} b a (λ less. inr (λ h. omega (arith, ints, less, h))) (λ le. inl le)
 
 pub less_or : (a b : ℤ) → Decided (a <ℤ b)
-less_or a b = go (lt_z a b) refl
-  where
-    go : (t : Bool) → lt_z a b ≡ t → Decided (a <ℤ b)
-    go true e = inl (record { lt = subst T (sym e) tt })
-    go false e = inr (λ h. subst T e h.lt)
+less_or a b = by_lt_z {P = Decided (a <ℤ b)} a b (λ less. inl less) (λ le. inr (λ h. omega (arith, ints, le, h)))
 
 -- ---- lists
 
--- all keep the rule, or there is a first that breaks it
-pub all_or : {X : Type 0} (P : X → Type 0) → ((x : X) → Decided (P x)) → (xs : List X) → All P xs ⊎ ((k : ℕ) × FailsFirst P xs k)
-all_or P f [] = inl (All-from_recursion P [] tt)
-all_or {X} P f (x ∷ xs) = go (f x) (all_or P f xs)
+-- of members for which it can be decided, all keep the rule, or there is a first that breaks it
+pub all_or_where : {X : Type 0} (Q P : X → Type 0) → ((x : X) → Q x → Decided (P x)) → (xs : List X) → All Q xs → All P xs ⊎ ((k : ℕ) × FailsFirst P xs k)
+all_or_where Q P f [] all = inl (All-nil P)
+all_or_where {X} Q P f (x ∷ xs) all = go (f x (All-head Q x xs all)) (all_or_where Q P f xs (All-tail Q x xs all))
   where
     go : Decided (P x) → All P xs ⊎ ((k : ℕ) × FailsFirst P xs k) → All P (x ∷ xs) ⊎ ((k : ℕ) × FailsFirst P (x ∷ xs) k)
     go (inr n) rest = inr (0, record { x = x; at = refl; fails = n; before = λ m y lt e. absurd (omega (arith, lt)) })
-    go (inl p) (inl all) = inl (All-from_members P (x ∷ xs) (λ y c. elim (Contains-cases x xs y c) [ inl e ↦ subst P (sym e) p | inr later ↦ All-contains P xs y all later ]))
+    go (inl p) (inl rest) = inl (All-cons P x xs p rest)
     go (inl p) (inr (k, fails)) = inr (suc k, record { x = fails.x; at = fails.at; fails = fails.fails; before = earlier })
       where
         earlier : (m : ℕ) (y : X) → m < suc k → slice_get (x ∷ xs) m ≡ Some y → P y
         earlier zero y lt e = let same : x ≡ y = cc in subst P same p
         earlier (suc m) y lt e = fails.before m y (omega (arith, lt)) e
 
+pub all_or : {X : Type 0} (P : X → Type 0) → ((x : X) → Decided (P x)) → (xs : List X) → All P xs ⊎ ((k : ℕ) × FailsFirst P xs k)
+all_or P f xs = all_or_where (λ x. Unit {0}) P (λ x q. f x) xs (λ k x lt. tt)
+
 -- the same, with the first itself
 pub first_or : {X : Type 0} (P : X → Type 0) → ((x : X) → Decided (P x)) → (xs : List X) → All P xs ⊎ ((x : X) × IsFirst (λ y. P y → ⊥) xs x)
-first_or P f [] = inl (All-from_recursion P [] tt)
+first_or P f [] = inl (All-nil P)
 first_or {X} P f (x ∷ xs) = go (f x) (first_or P f xs)
   where
     go : Decided (P x) → All P xs ⊎ ((y : X) × IsFirst (λ z. P z → ⊥) xs y) → All P (x ∷ xs) ⊎ ((y : X) × IsFirst (λ z. P z → ⊥) (x ∷ xs) y)
     go (inr n) rest = inr (x, inl (refl, n))
-    go (inl p) (inl all) = inl (All-from_members P (x ∷ xs) (λ y c. elim (Contains-cases x xs y c) [ inl e ↦ subst P (sym e) p | inr later ↦ All-contains P xs y all later ]))
+    go (inl p) (inl all) = inl (All-cons P x xs p all)
     go (inl p) (inr (y, first)) = inr (y, inr ((λ n. n p), first))
 
 pub all_decided : {X : Type 0} (P : X → Type 0) → ((x : X) → Decided (P x)) → (xs : List X) → Decided (All P xs)
@@ -89,13 +89,13 @@ kept {X} P f (x ∷ xs) = go (f x) (kept P f xs)
         → (ys : List X) × ((y : X) → Contains ys y → Contains (x ∷ xs) y × P y) × ((y : X) → Contains (x ∷ xs) y → P y → Contains ys y)
     go (inl p) (ys, from, all) = (
       x ∷ ys,
-      (λ y c. elim (Contains-cases x ys y c) [ inl e ↦ (subst (Contains (x ∷ xs)) (sym e) (Contains-front x xs), subst P (sym e) p) | inr later ↦ (Contains-later x xs y (from y later).0, (from y later).1) ]),
-      λ y c q. elim (Contains-cases x xs y c) [ inl e ↦ subst (Contains (x ∷ ys)) (sym e) (Contains-front x ys) | inr later ↦ Contains-later x ys y (all y later q) ],
+      (λ y c. elim (Contains-cases x ys y c) [ inl e ↦ (joined x xs y (inl e), subst P (sym e) p) | inr later ↦ (Contains-later x xs y (from y later).0, (from y later).1) ]),
+      λ y c q. joined x ys y (⊎_elim (λ e. inl e) (λ later. inr (all y later q)) (Contains-cases x xs y c)),
     )
     go (inr n) (ys, from, all) = (
       ys,
       (λ y c. (Contains-later x xs y (from y c).0, (from y c).1)),
-      λ y c q. elim (Contains-cases x xs y c) [ inl e ↦ absurd (n (subst P e q)) | inr later ↦ all y later q ],
+      λ y c q. ⊎_elim (λ e. absurd (n (subst P e q))) (λ later. all y later q) (Contains-cases x xs y c),
     )
 
 -- ---- numbers
@@ -111,118 +111,62 @@ below_or P f (suc n) = go (below_or P f n) (f n)
     go (inr none) (inl p) = inl (n, omega arith, p, none)
     go (inr none) (inr not) = inr (λ k lt p. elim (lt_or k n) [ inl low ↦ none k low p | inr high ↦ not (let e : k ≡ n = omega (arith, lt, high) in subst P e p) ])
 
+pub some_below : (P : ℕ → Type 0) → ((k : ℕ) → Decided (P k)) → (n : ℕ) → Decided ((k : ℕ) × (k < n) × P k)
+some_below P f n = elim (below_or P f n) [ inl t ↦ inl (t.0, t.1, t.2) | inr none ↦ inr (λ h. none h.0 h.1 h.2) ]
+
 -- ---- orders
 
 module _ {X : Type 0} (cmp : X → X → Ordering) (o : IsTotalOrder cmp) (exact : IsAntisymmetric cmp) where
-  itself : (x : X) → cmp x x ≡ Equal
-  itself x = go (cmp x x) refl
-    where
-      go : (r : Ordering) → cmp x x ≡ r → cmp x x ≡ Equal
-      go Less e = let wrong : Less ≡ Greater = sym e ∙ o.antisymm x x ∙ ap ordering_reverse e in cc
-      go Equal e = e
-      go Greater e = let wrong : Greater ≡ Less = sym e ∙ o.antisymm x x ∙ ap ordering_reverse e in cc
-
   pub equal_or : (x y : X) → Decided (x ≡ y)
   equal_or x y = go (cmp x y) refl
     where
       go : (r : Ordering) → cmp x y ≡ r → Decided (x ≡ y)
-      go Less e = inr (λ h. let same : cmp x y ≡ Equal = subst (λ z. cmp x z ≡ Equal) h (itself x) in let wrong : Less ≡ Equal = sym e ∙ same in cc)
       go Equal e = inl (exact x y e)
-      go Greater e = inr (λ h. let same : cmp x y ≡ Equal = subst (λ z. cmp x z ≡ Equal) h (itself x) in let wrong : Greater ≡ Equal = sym e ∙ same in cc)
+      go r e = inr (λ h. let same : cmp x y ≡ Equal = subst (λ z. cmp x z ≡ Equal) h (tied_itself o x) in let wrong : r ≡ Equal = sym e ∙ same in cc)
 
   pub contains_or : (xs : List X) (x : X) → Decided (Contains xs x)
   contains_or [] x = inr (Contains-nothing x)
-  contains_or (y ∷ xs) x = elim (equal_or x y) [
-    | inl e ↦ inl (subst (Contains (y ∷ xs)) (sym e) (Contains-front y xs))
-    | inr ne ↦ carried (Contains-later y xs x) (λ c. elim (Contains-cases y xs x c) [ inl e ↦ absurd (ne e) | inr later ↦ later ]) (contains_or xs x)
-  ]
-
-  pub record LeastIn (P : X → Type 0) (xs : List X) : Type 0 where
-    pub x : X
-    pub listed : Contains xs x
-    pub has : P x
-    pub least : (y : X) → Contains xs y → P y → (y ≡ x) ⊎ (cmp x y ≡ Less)
-
-  -- the least of a list with a property
-  pub least_or : (P : X → Type 0) → ((x : X) → Decided (P x)) → (xs : List X) → LeastIn P xs ⊎ ((y : X) → Contains xs y → P y → ⊥)
-  least_or P f [] = inr (λ y c p. Contains-nothing y c)
-  least_or P f (x ∷ xs) = go (f x) (least_or P f xs)
-    where
-      later_one : (t : LeastIn P xs) → (P x → (x ≡ t.x) ⊎ (cmp t.x x ≡ Less)) → LeastIn P (x ∷ xs)
-      later_one t front = record {
-        x = t.x;
-        listed = Contains-later x xs t.x t.listed;
-        has = t.has;
-        least = λ y c p. elim (Contains-cases x xs y c) [
-          | inl e ↦ subst (λ z. (z ≡ t.x) ⊎ (cmp t.x z ≡ Less)) (sym e) (front (subst P e p))
-          | inr later ↦ t.least y later p
-        ];
-      }
-
-      with_both : P x → (t : LeastIn P xs) → (r : Ordering) → cmp x t.x ≡ r → LeastIn P (x ∷ xs)
-      with_both p t Less e = record {
-        x = x;
-        listed = Contains-front x xs;
-        has = p;
-        least = λ y c q. elim (Contains-cases x xs y c) [
-          | inl same ↦ inl same
-          | inr later ↦ inr (elim (t.least y later q) [ inl same ↦ subst (λ z. cmp x z ≡ Less) (sym same) e | inr lt ↦ o.trans x t.x y e lt ])
-        ];
-      }
-      with_both p t Equal e = later_one t (λ q. inl (exact x t.x e))
-      with_both p t Greater e = later_one t (λ q. inr (o.antisymm t.x x ∙ ap ordering_reverse e))
-
-      go : Decided (P x) → LeastIn P xs ⊎ ((y : X) → Contains xs y → P y → ⊥) → LeastIn P (x ∷ xs) ⊎ ((y : X) → Contains (x ∷ xs) y → P y → ⊥)
-      go (inr n) (inl t) = inl (later_one t (λ p. absurd (n p)))
-      go (inr n) (inr none) = inr (λ y c p. elim (Contains-cases x xs y c) [ inl e ↦ n (subst P e p) | inr later ↦ none y later p ])
-      go (inl p) (inl t) = inl (with_both p t (cmp x t.x) refl)
-      go (inl p) (inr none) = inl (record { x = x; listed = Contains-front x xs; has = p; least = λ y c q. elim (Contains-cases x xs y c) [ inl e ↦ inl e | inr later ↦ absurd (none y later q) ] })
+  contains_or (y ∷ xs) x = carried (joined y xs x) (Contains-cases y xs x) (either_or (equal_or x y) (contains_or xs x))
 
   by_recursion : (P : X → Type 0) (xs : List X) → ((x : X) → Contains xs x → P x) → AllByRecursion P xs
-  by_recursion P [] f = tt
-  by_recursion P (x ∷ xs) f = (f x (Contains-front x xs), by_recursion P xs (λ y c. f y (Contains-later x xs y c)))
+  by_recursion P xs f = recursion_from_All P xs (All-from_members P xs f)
 
-  from_recursion : (P : X → Type 0) (xs : List X) → AllByRecursion P xs → (x : X) → Contains xs x → P x
-  from_recursion P [] all x c = absurd (Contains-nothing x c)
-  from_recursion P (y ∷ xs) all x c = elim (Contains-cases y xs x c) [ inl e ↦ subst P (sym e) all.0 | inr later ↦ from_recursion P xs all.1 x later ]
-
-  record Inserted (x : X) (ys : List X) : Type 0 where
-    zs : List X
-    ascending : IsStrictlySortedBy cmp zs
-    from : (z : X) → Contains zs z → (z ≡ x) ⊎ Contains ys z
-    new : Contains zs x
-    old : (z : X) → Contains ys z → Contains zs z
-
-  inserted : (x : X) (ys : List X) → IsStrictlySortedBy cmp ys → Inserted x ys
+  -- one more member in its place
+  inserted : (x : X) (ys : List X) → IsStrictlySortedBy cmp ys → (zs : List X) × Lists cmp (λ z. (z ≡ x) ⊎ Contains ys z) zs
   unfolding IsStrictlySortedBy
-  inserted x [] sorted = record { zs = x ∷ []; ascending = (tt, tt); from = λ z c. Contains-cases x [] z c; new = Contains-front x []; old = λ z c. absurd (Contains-nothing z c) }
+  inserted x [] sorted = (x ∷ [], record { ascending = (tt, tt); each = Contains-cases x []; all = joined x [] })
   inserted x (y ∷ ys) sorted = go (cmp x y) refl (inserted x ys sorted.1)
     where
-      go : (r : Ordering) → cmp x y ≡ r → Inserted x ys → Inserted x (y ∷ ys)
-      go Less e t = record {
-        zs = x ∷ y ∷ ys;
-        ascending = ((e, by_recursion (λ z. cmp x z ≡ Less) ys (λ z c. o.trans x y z e (from_recursion (λ u. cmp y u ≡ Less) ys sorted.0 z c))), sorted);
-        from = λ z c. Contains-cases x (y ∷ ys) z c;
-        new = Contains-front x (y ∷ ys);
-        old = λ z c. Contains-later x (y ∷ ys) z c;
-      }
-      go Equal e t = record { zs = y ∷ ys; ascending = sorted; from = λ z c. inr c; new = subst (Contains (y ∷ ys)) (sym (exact x y e)) (Contains-front y ys); old = λ z c. c }
-      go Greater e t = record {
-        zs = y ∷ t.zs;
-        ascending = (
-          by_recursion (λ z. cmp y z ≡ Less) t.zs (λ z c. elim (t.from z c) [
-            | inl same ↦ subst (λ u. cmp y u ≡ Less) (sym same) (o.antisymm y x ∙ ap ordering_reverse e)
-            | inr in_ys ↦ from_recursion (λ u. cmp y u ≡ Less) ys sorted.0 z in_ys
-          ]),
-          t.ascending,
-        );
-        from = λ z c. elim (Contains-cases y t.zs z c) [
-          | inl same ↦ inr (subst (Contains (y ∷ ys)) (sym same) (Contains-front y ys))
-          | inr later ↦ (elim (t.from z later) [ inl is ↦ inl is | inr in_ys ↦ inr (Contains-later y ys z in_ys) ])
-        ];
-        new = Contains-later y t.zs x t.new;
-        old = λ z c. elim (Contains-cases y ys z c) [ inl same ↦ subst (Contains (y ∷ t.zs)) (sym same) (Contains-front y t.zs) | inr later ↦ Contains-later y t.zs z (t.old z later) ];
-      }
+      behind : (z : X) → Contains ys z → cmp y z ≡ Less
+      behind z c = All-contains (λ u. cmp y u ≡ Less) ys z (All-from_recursion (λ u. cmp y u ≡ Less) ys sorted.0) c
+
+      go : (r : Ordering) → cmp x y ≡ r → (zs : List X) × Lists cmp (λ z. (z ≡ x) ⊎ Contains ys z) zs → (zs : List X) × Lists cmp (λ z. (z ≡ x) ⊎ Contains (y ∷ ys) z) zs
+      go Less e t = (
+        x ∷ y ∷ ys,
+        record {
+          ascending = ((e, by_recursion (λ z. cmp x z ≡ Less) ys (λ z c. o.trans x y z e (behind z c))), sorted);
+          each = Contains-cases x (y ∷ ys);
+          all = joined x (y ∷ ys);
+        },
+      )
+      go Equal e t = (y ∷ ys, record { ascending = sorted; each = λ z c. inr c; all = λ z h. ⊎_elim (λ is. joined y ys z (inl (is ∙ exact x y e))) (λ c. c) h })
+      go Greater e (zs, t) = (
+        y ∷ zs,
+        record {
+          ascending = (
+            by_recursion (λ z. cmp y z ≡ Less) zs (λ z c. ⊎_elim (λ same. subst (λ u. cmp y u ≡ Less) (sym same) (o.antisymm y x ∙ ap ordering_reverse e)) (behind z) (t.each z c)),
+            t.ascending,
+          );
+          each = λ z c. elim (Contains-cases y zs z c) [
+            | inl same ↦ inr (joined y ys z (inl same))
+            | inr later ↦ ⊎_elim (λ is. inl is) (λ old. inr (Contains-later y ys z old)) (t.each z later)
+          ];
+          all = λ z h. elim h [
+            | inl is ↦ Contains-later y zs z (t.all z (inl is))
+            | inr c ↦ joined y zs z (⊎_elim (λ same. inl same) (λ later. inr (t.all z (inr later))) (Contains-cases y ys z c))
+          ];
+        },
+      )
 
   -- the members of a list in order
   pub sorted : (xs : List X) → (ys : List X) × Lists cmp (Contains xs) ys
@@ -231,10 +175,34 @@ module _ {X : Type 0} (cmp : X → X → Ordering) (o : IsTotalOrder cmp) (exact
   sorted (x ∷ xs) =
       let rest = sorted xs in
       let t = inserted x rest.0 rest.1.ascending in (
-        t.zs,
+        t.0,
         record {
-          ascending = t.ascending;
-          each = λ z c. elim (t.from z c) [ inl e ↦ subst (Contains (x ∷ xs)) (sym e) (Contains-front x xs) | inr in_rest ↦ Contains-later x xs z (rest.1.each z in_rest) ];
-          all = λ z c. elim (Contains-cases x xs z c) [ inl e ↦ subst (Contains t.zs) (sym e) t.new | inr later ↦ t.old z (rest.1.all z later) ];
+          ascending = t.1.ascending;
+          each = λ z c. joined x xs z (⊎_elim (λ e. inl e) (λ old. inr (rest.1.each z old)) (t.1.each z c));
+          all = λ z c. t.1.all z (⊎_elim (λ e. inl e) (λ later. inr (rest.1.all z later)) (Contains-cases x xs z c));
         },
       )
+
+  pub record LeastIn (P : X → Type 0) (xs : List X) : Type 0 where
+    pub x : X
+    pub listed : Contains xs x
+    pub has : P x
+    pub least : (y : X) → Contains xs y → P y → (y ≡ x) ⊎ (cmp x y ≡ Less)
+
+  -- the least of a list with a property: the first of these in order
+  pub least_or : (P : X → Type 0) → ((x : X) → Decided (P x)) → (xs : List X) → LeastIn P xs ⊎ ((y : X) → Contains xs y → P y → ⊥)
+  unfolding IsStrictlySortedBy
+  least_or P f xs = let (ys, from, all) = kept P f xs in let (zs, t) = sorted ys in by_list ys from all zs t
+    where
+      by_list : (ys : List X) → ((y : X) → Contains ys y → Contains xs y × P y) → ((y : X) → Contains xs y → P y → Contains ys y)
+          → (zs : List X) → Lists cmp (Contains ys) zs → LeastIn P xs ⊎ ((y : X) → Contains xs y → P y → ⊥)
+      by_list ys from all [] t = inr (λ y c p. Contains-nothing y (t.all y (all y c p)))
+      by_list ys from all (z ∷ zs) t =
+          let here = from z (t.each z (Contains-front z zs)) in
+          inl (record {
+            x = z;
+            listed = here.0;
+            has = here.1;
+            least = λ y c p. ⊎_elim (λ e. inl e) (λ later. inr (All-contains (λ u. cmp z u ≡ Less) zs y (All-from_recursion (λ u. cmp z u ≡ Less) zs t.ascending.0) later))
+                (Contains-cases z zs y (t.all y (all y c p)));
+          })

@@ -1,10 +1,11 @@
 -- The differences of two lists of points: which vectors they are, and that those of solid points span space.
-use Rattle.std.proofs.Common.{◌≡◌, ◌≢◌, zero, suc, sym, ap, subst, ◌∙◌, arith, ℤ, pos, negsuc, ◌+ℤ◌, ◌*ℤ◌, ◌⊎◌, inl, inr, List, [], ◌∷◌, map, Contains}
+use Rattle.std.proofs.Common.{◌≡◌, ◌≢◌, zero, suc, sym, ap, subst, ◌∙◌, arith, ℤ, pos, neg_ℤ, ◌⊎◌, inl, inr, List, [], ◌∷◌, map, Contains}
+use Rattle.std.proofs.lemmas.Int.{ints}
 use Rattle.std.proofs.lemmas.List.Elements.{All-contains, Contains-append_cases, Contains-append_left, Contains-append_right}
 use Rattle.staat_vec.specs.declared.vector.V3.{V3}
-use Rattle.staat_vec.specs.Vectors.{dot, cross, det, minus, origin}
-use Rattle.staat_vec.proofs.Ring.{Ex, at, num, ◌⊕◌, ◌⊗◌, ring, ring_by_two}
-use Rattle.staat_vec.proofs.VecRing.{VEx, dotE, crossE, detE, minusE, values, v0, v1, v2, v3, same_vector}
+use Rattle.staat_vec.specs.Vectors.{dot, cross, det, minus, origin, plus}
+use Rattle.staat_vec.proofs.Ring.{num, ◌⊖◌, from_zero, opp, ring}
+use Rattle.staat_vec.proofs.VecRing.{dotE, crossE, detE, minusE, originE, plusE, ring3, same_vector, scale, timesE, values, v0, v1, v2, v3}
 use Rattle.staat_model.specs.Pieces.{IsSolid}
 use Rattle.staat_model.specs.Cones.{differences, IsSpanning}
 use Rattle.staat_vec.proofs.Integers.{other_factor_zero}
@@ -36,20 +37,32 @@ from_differences (p ∷ ps) qs v has = go (from_differences ps qs v) (Contains-a
 -- a vector at right angles to three that do not lie in one plane
 pub three_across : (u v w n : V3) → det u v w ≢ pos 0 → dot u n ≡ pos 0 → dot v n ≡ pos 0 → dot w n ≡ pos 0 → n ≡ origin
 three_across u v w n some e f g =
-    let ρ = values (u ∷ v ∷ w ∷ n ∷ []) [] in
-    let d : Ex = detE v0 v1 v2 in
-    let a : VEx = crossE v1 v2 in
-    let b : VEx = crossE v2 v0 in
-    let c : VEx = crossE v0 v1 in
     same_vector n origin
-    (other_factor_zero (det u v w) n.x some (ring ρ (d ⊗ v3.x) (dotE v0 v3 ⊗ a.x ⊕ dotE v1 v3 ⊗ b.x ⊕ dotE v2 v3 ⊗ c.x) tt ∙ none (dot u n) (dot v n) (dot w n) (cross v w).x (cross w u).x (cross u v).x e f g))
-    (other_factor_zero (det u v w) n.y some (ring ρ (d ⊗ v3.y) (dotE v0 v3 ⊗ a.y ⊕ dotE v1 v3 ⊗ b.y ⊕ dotE v2 v3 ⊗ c.y) tt ∙ none (dot u n) (dot v n) (dot w n) (cross v w).y (cross w u).y (cross u v).y e f g))
-    (other_factor_zero (det u v w) n.z some (ring ρ (d ⊗ v3.z) (dotE v0 v3 ⊗ a.z ⊕ dotE v1 v3 ⊗ b.z ⊕ dotE v2 v3 ⊗ c.z) tt ∙ none (dot u n) (dot v n) (dot w n) (cross v w).z (cross w u).z (cross u v).z e f g))
+    (other_factor_zero (det u v w) n.x some (ap (λ v. v.x) none))
+    (other_factor_zero (det u v w) n.y some (ap (λ v. v.y) none))
+    (other_factor_zero (det u v w) n.z some (ap (λ v. v.z) none))
   where
-    none : (p q r a b c : ℤ) → p ≡ pos 0 → q ≡ pos 0 → r ≡ pos 0 → p *ℤ a +ℤ q *ℤ b +ℤ r *ℤ c ≡ pos 0
-    none p q r a b c e f g =
-        ap (λ z. p *ℤ a +ℤ q *ℤ b +ℤ z *ℤ c) g
-        ∙ ring_by_two (p ∷ q ∷ a ∷ b ∷ c ∷ []) (at 0 ⊗ at 2 ⊕ at 1 ⊗ at 3 ⊕ num (pos 0) ⊗ at 4) (num (pos 0)) (at 2) (at 0) (num (pos 0)) (at 3) (at 1) (num (pos 0)) e f tt
+    -- by Cramer's rule
+    sum : ℤ → ℤ → ℤ → V3
+    sum x y z = plus (plus (scale x (cross v w)) (scale y (cross w u))) (scale z (cross u v))
+
+    none : scale (det u v w) n ≡ origin
+    none =
+        ring3 (values (u ∷ v ∷ w ∷ n ∷ []) []) (timesE (detE v0 v1 v2) v3)
+        (plusE (plusE (timesE (dotE v0 v3) (crossE v1 v2)) (timesE (dotE v1 v3) (crossE v2 v0))) (timesE (dotE v2 v3) (crossE v0 v1))) (tt, tt, tt)
+        ∙ (λ i. sum (e i) (f i) (g i))
+        ∙ ring3 (values (cross v w ∷ cross w u ∷ cross u v ∷ []) []) (plusE (plusE (timesE (num (pos 0)) v0) (timesE (num (pos 0)) v1)) (timesE (num (pos 0)) v2)) originE (tt, tt, tt)
+
+-- no plane holds solid points
+pub level_solid : (n : V3) (m : ℤ) (ps : List V3) → IsSolid ps → ((p : V3) → Contains ps p → dot n p ≡ m) → n ≡ origin
+level_solid n m ps solid at =
+    let s = solid in
+    three_across (minus s.b s.a) (minus s.c s.a) (minus s.e s.a) n s.apart (side s.b s.b_in) (side s.c s.c_in) (side s.e s.e_in)
+  where
+    side : (p : V3) → Contains ps p → dot (minus p solid.a) n ≡ pos 0
+    side p p_in =
+        ring (values (n ∷ p ∷ solid.a ∷ []) []) (dotE (minusE v1 v2) v0) (dotE v0 v1 ⊖ dotE v0 v2) tt
+        ∙ omega (arith, ints, at p p_in, at solid.a solid.a_in)
 
 -- three members that do not lie in one plane
 pub span_from_three : (vs : List V3) (u v w : V3) → Contains vs u → Contains vs v → Contains vs w → det u v w ≢ pos 0 → IsSpanning vs
@@ -57,12 +70,9 @@ span_from_three vs u v w in_u in_v in_w some n h =
     three_across u v w n some (All-contains (λ v. dot v n ≡ pos 0) vs u h in_u) (All-contains (λ v. dot v n ≡ pos 0) vs v h in_v) (All-contains (λ v. dot v n ≡ pos 0) vs w h in_w)
 
 pub differences_span_lemma : (ps qs : List V3) (q : V3) → IsSolid ps → Contains qs q → IsSpanning (differences ps qs)
-differences_span_lemma ps qs q solid in_q n h =
-    let s = solid in
-    three_across (minus s.b s.a) (minus s.c s.a) (minus s.e s.a) n s.apart (side s.a s.b (on s.a s.a_in) (on s.b s.b_in)) (side s.a s.c (on s.a s.a_in) (on s.c s.c_in)) (side s.a s.e (on s.a s.a_in) (on s.e s.e_in))
+differences_span_lemma ps qs q solid in_q n h = level_solid n (dot n q) ps solid at
   where
-    on : (p : V3) → Contains ps p → dot (minus q p) n ≡ pos 0
-    on p in_p = All-contains (λ v. dot v n ≡ pos 0) (differences ps qs) (minus q p) h (in_differences ps qs p q in_p in_q)
-
-    side : (a p : V3) → dot (minus q a) n ≡ pos 0 → dot (minus q p) n ≡ pos 0 → dot (minus p a) n ≡ pos 0
-    side a p f g = ring_by_two (values (a ∷ q ∷ p ∷ n ∷ []) []) (dotE (minusE v2 v0) v3) (num (pos 0)) (num (pos 1)) (dotE (minusE v1 v0) v3) (num (pos 0)) (num (negsuc 0)) (dotE (minusE v1 v2) v3) (num (pos 0)) f g tt
+    at : (p : V3) → Contains ps p → dot n p ≡ dot n q
+    at p p_in =
+        let flat : dot (minus q p) n ≡ pos 0 = All-contains (λ v. dot v n ≡ pos 0) (differences ps qs) (minus q p) h (in_differences ps qs p q p_in in_q) in
+        from_zero (dot n p) (dot n q) (ring (values (n ∷ p ∷ q ∷ []) []) (dotE v0 v1 ⊖ dotE v0 v2) (opp (dotE (minusE v2 v1) v0)) tt ∙ ap neg_ℤ flat)

@@ -1,36 +1,35 @@
 -- The two ends of an edge, as vertices on its border, and their sum.
-use Rattle.std.proofs.Common.{◌≡◌, ◌≢◌, ℕ, zero, suc, ◌+◌, ◌<◌, get_or, refl, sym, ap, subst, ◌∙◌, arith, ℤ, pos, ◌<ℤ◌, ◌⊎◌, inl, inr, ⊎_elim, List, [], ◌∷◌, Contains}
-use Rattle.std.proofs.lemmas.Int.{ints, by_lt_z}
+use Rattle.std.proofs.Common.{◌≡◌, ◌≢◌, zero, suc, refl, sym, ap, subst, ◌∙◌, arith, pos, ◌<ℤ◌, ◌⊎◌, inl, inr, ⊎_elim, List, [], ◌∷◌, Contains, ◌≤ℤ◌}
+use Rattle.std.proofs.lemmas.Int.{by_lt_z}
 use Rattle.std.proofs.lemmas.List.Elements.{All-contains, Contains-append_cases}
-use Rattle.std.proofs.lemmas.Map.Keys.{sorted_from_all_adjacent}
-use Rattle.std.proofs.lemmas.Map.Views.{All-after_first}
 use Rattle.std.specs.Ordering.{ordering_reverse}
 use Rattle.std.specs.declared.cmp.Ordering.{Ordering}
 use Rattle.std.specs.declared.cmp.Ordering.TheVariants.{Less, Equal, Greater}
 use Rattle.std.specs.List.Sorted.{IsStrictlySortedBy}
 use Rattle.staat_vec.specs.declared.vector.V3.{V3}
 use Rattle.staat_vec.specs.declared.vector.Sign.{Sign}
-use Rattle.staat_vec.specs.declared.vector.Sign.TheVariants.{Neg, Zero, Pos}
+use Rattle.staat_vec.specs.declared.vector.Sign.TheVariants.{Zero}
 use Rattle.staat_vec.specs.Vectors.{dot, cross, plus, negative, origin, sign, vector_cmp}
 use Rattle.staat_vec.specs.Primitives.{primitive}
 use Rattle.staat_vec.proofs.VecRing.{crossE, dotE, negativeE, values, v0, v1, negative_dot, dot_negative, dot_cross_left, dot_cross_right}
+use Rattle.staat_vec.proofs.Order.{positive_nonneg}
 use Rattle.staat_vec.proofs.Ring.{ring}
 use Rattle.staat_model.specs.declared.tree.Kind.TheVariants.{Edge}
 use Rattle.staat_vec.specs.Lists.{Lists}
 use Rattle.staat_model.specs.Planes.{vertices, crossings}
-use Rattle.staat_model.specs.Cells.{signs_of, kind_of, IsBorder, IsCell, IsEnd, IsEdgeSum}
+use Rattle.staat_model.specs.Cells.{signs_of, kind_of, IsCell, IsEnd, IsEdgeSum}
 use Rattle.staat_vec.proofs.VectorOrder.{vector_exact, vector_total, vector_not_below_itself}
 use Rattle.staat_model.proofs.Corners.{HoldsAxes, IsSame, IsCornerTowards}
-use Rattle.staat_model.proofs.GraphLemmas.{border_towards, towards_border}
+use Rattle.staat_model.proofs.GraphLemmas.{border_at, border_towards, towards_border}
 use Rattle.staat_model.proofs.VertexLemmas.{in_vertices}
 use Rattle.staat_model.proofs.PlaneLemmas.{NoneParallel}
-use Rattle.staat_model.proofs.CellLemmas.{zeros, zeros-cons, edge_zeros, off_all, Covers, sum_covers}
+use Rattle.staat_model.proofs.CellLemmas.{zeros, zeros_off, zeros_on, edge_zeros, off_all, Covers, sum_covers}
 use Rattle.staat_model.proofs.EdgeLemmas.{IsOnOne, IsAhead, IsTip, ahead, tip, cross_positive, same_tip, same_tip_low, tip_aside, not_both}
-use Rattle.staat_vec.proofs.Integers.{opposite_negative_back, zero_from_bounds_down, opposite_zero}
+use Rattle.staat_vec.proofs.Integers.{negative_nonneg_clash, opposite_negative_back, zero_from_bounds_down, opposite_zero}
 use Rattle.staat_vec.proofs.VectorLaws.{plus_comm}
-use Rattle.staat_vec.proofs.Unique.{Contains-front}
+use Rattle.staat_vec.proofs.Unique.{Contains-cases, Contains-front, Contains-nothing}
 use Rattle.staat_vec.proofs.ListLaws.{Contains-there}
-use Rattle.staat_vec.proofs.Signs.{zero_sign}
+use Rattle.staat_vec.proofs.Signs.{sign_zero_or, zero_sign}
 
 -- ---- the planes of a vertex
 
@@ -68,39 +67,24 @@ corner_end planes d v c = record { vertex = in_vertices planes c.g c.h v c.g_in 
 
 -- ---- the plane of an edge
 
-some_sign : (a : ℤ) → sign a ≢ Zero → a ≢ pos 0
-some_sign a n e = n (ap sign e)
-
 pub on_one : (gs : List V3) (d : V3) → zeros (signs_of gs d) ≡ 1 → (c : V3) × Contains gs c × (dot c d ≡ pos 0) × ((g : V3) → Contains gs g → (g ≡ c) ⊎ (dot g d ≢ pos 0))
 on_one [] d e = absurd (omega (arith, e))
-on_one (h ∷ gs) d e = by_head (on_one gs d) (sign (dot h d)) refl
+on_one (h ∷ gs) d e = go (sign_zero_or (sign (dot h d))) (on_one gs d)
   where
     Found : List V3 → Type 0
     Found gs = (c : V3) × Contains gs c × (dot c d ≡ pos 0) × ((g : V3) → Contains gs g → (g ≡ c) ⊎ (dot g d ≢ pos 0))
 
-    first : zeros (signs_of gs d) ≡ 0 → dot h d ≡ pos 0 → (g : V3) → Contains (h ∷ gs) g → (g ≡ h) ⊎ (dot g d ≢ pos 0)
-    first none at g (zero, lt, p) = inl (sym p)
-    first none at g (suc k, lt, p) = inr (some_sign (dot g d) (off_all gs d none g (k, omega arith, p)))
+    first : zeros (signs_of gs d) ≡ 0 → (g : V3) → Contains (h ∷ gs) g → (g ≡ h) ⊎ (dot g d ≢ pos 0)
+    first none g (zero, lt, p) = inl (sym p)
+    first none g (suc k, lt, p) = inr (λ z. off_all gs d none g (k, omega arith, p) (ap sign z))
 
     later : (c : V3) → sign (dot h d) ≢ Zero → ((g : V3) → Contains gs g → (g ≡ c) ⊎ (dot g d ≢ pos 0)) → (g : V3) → Contains (h ∷ gs) g → (g ≡ c) ⊎ (dot g d ≢ pos 0)
     later c off only g (zero, lt, p) = inr (λ z. off (ap sign (ap (λ v. dot v d) p ∙ z)))
     later c off only g (suc k, lt, p) = only g (k, omega arith, p)
 
-    rest_of : (t : Sign) → t ≢ Zero → zeros (t ∷ signs_of gs d) ≡ 1 → zeros (signs_of gs d) ≡ 1
-    rest_of Zero n q = absurd (n refl)
-    rest_of Neg n q = let c = zeros-cons Neg (signs_of gs d) in omega (arith, q, c)
-    rest_of Pos n q = let c = zeros-cons Pos (signs_of gs d) in omega (arith, q, c)
-
-    none_of : zeros (Zero ∷ signs_of gs d) ≡ 1 → zeros (signs_of gs d) ≡ 0
-    none_of q = let c = zeros-cons Zero (signs_of gs d) in omega (arith, q, c)
-
-    further : sign (dot h d) ≢ Zero → Found gs → Found (h ∷ gs)
-    further off (c, c_in, on, only) = (c, Contains-there h c gs c_in, on, later c off only)
-
-    by_head : (zeros (signs_of gs d) ≡ 1 → Found gs) → (t : Sign) → sign (dot h d) ≡ t → Found (h ∷ gs)
-    by_head ih Zero q = let none = none_of (subst (λ t. zeros (t ∷ signs_of gs d) ≡ 1) q e) in (h, Contains-front h gs, zero_sign (dot h d) q, first none (zero_sign (dot h d) q))
-    by_head ih Neg q = further (λ z. let clash : Neg ≡ Zero = sym q ∙ z in cc) (ih (rest_of (sign (dot h d)) (λ z. let clash : Neg ≡ Zero = sym q ∙ z in cc) e))
-    by_head ih Pos q = further (λ z. let clash : Pos ≡ Zero = sym q ∙ z in cc) (ih (rest_of (sign (dot h d)) (λ z. let clash : Pos ≡ Zero = sym q ∙ z in cc) e))
+    go : (sign (dot h d) ≡ Zero) ⊎ (sign (dot h d) ≢ Zero) → (zeros (signs_of gs d) ≡ 1 → Found gs) → Found (h ∷ gs)
+    go (inl z) ih = (h, Contains-front h gs, zero_sign (dot h d) z, first (omega (arith, e, zeros_on (sign (dot h d)) (signs_of gs d) z)))
+    go (inr off) ih = let (c, c_in, on, only) = ih (sym (zeros_off (sign (dot h d)) (signs_of gs d) off) ∙ e) in (c, Contains-there h c gs c_in, on, later c off only)
 
 -- ---- the two ends
 
@@ -108,17 +92,17 @@ covers_all : (gs : List V3) (u v d : V3) → ((g : V3) → Contains gs g → (si
 covers_all [] u v d f = tt
 covers_all (g ∷ gs) u v d f = (f g (Contains-front g gs), covers_all gs u v d (λ h c. f h (Contains-there g h gs c)))
 
-border_sign : (gs : List V3) (v d : V3) → IsBorder (signs_of gs v) (signs_of gs d) → (g : V3) → Contains gs g → (sign (dot g v) ≡ sign (dot g d)) ⊎ (sign (dot g v) ≡ Zero)
-border_sign [] v d b g (k, lt, e) = absurd (omega arith)
-border_sign (h ∷ gs) v d b g (zero, lt, e) = subst (λ z. (sign (dot z v) ≡ sign (dot z d)) ⊎ (sign (dot z v) ≡ Zero)) e b.0
-border_sign (h ∷ gs) v d b g (suc k, lt, e) = border_sign gs v d b.1 g (k, omega arith, e)
-
-sorted_pair : (u v : V3) → vector_cmp u v ≡ Less → IsStrictlySortedBy vector_cmp (u ∷ v ∷ [])
-sorted_pair u v less = sorted_from_all_adjacent vector_total (u ∷ v ∷ []) u next
-  where
-    next : (k : ℕ) → k + 1 < 2 → vector_cmp (get_or (u ∷ v ∷ []) k u) (get_or (u ∷ v ∷ []) (k + 1) u) ≡ Less
-    next zero lt = less
-    next (suc k) lt = absurd (omega arith)
+-- the two, in this order, are all that has P
+pub pair_lists : (P : V3 → Type 0) (u v : V3) → vector_cmp u v ≡ Less → P u → P v → ((w : V3) → P w → (w ≡ u) ⊎ (w ≡ v)) → Lists vector_cmp P (u ∷ v ∷ [])
+unfolding IsStrictlySortedBy
+pair_lists P u v less pu pv all = record {
+  ascending = ((less, tt), (tt, tt));
+  each = λ w c. elim (Contains-cases u (v ∷ []) w c) [
+    | inl e ↦ subst P (sym e) pu
+    | inr later ↦ elim (Contains-cases v [] w later) [ inl e ↦ subst P (sym e) pv | inr none ↦ absurd (Contains-nothing w none) ]
+  ];
+  all = λ w h. elim (all w h) [ inl e ↦ (0, omega arith, sym e) | inr e ↦ (1, omega arith, sym e) ];
+}
 
 module _ (planes : List V3) (d c : V3) (axes : HoldsAxes planes) (apart : NoneParallel planes) (one : IsOnOne planes d c) (some_c : c ≢ origin) where
   square : pos 0 <ℤ dot (cross c d) (cross c d)
@@ -135,8 +119,14 @@ module _ (planes : List V3) (d c : V3) (axes : HoldsAxes planes) (apart : NonePa
       (opposite_zero (dot (negative (cross c d)) d) (dot (cross c d) d) (negative_dot (cross c d) d) (ring (values (c ∷ d ∷ []) []) (dotE (crossE v0 v1) v1) (dotE v1 (crossE v0 v1)) tt ∙ dot_cross_right c d))
       (subst (λ z. pos 0 <ℤ z) (ring (values (c ∷ d ∷ []) []) (dotE (crossE v0 v1) (crossE v0 v1)) (dotE (negativeE (crossE v0 v1)) (negativeE (crossE v0 v1))) tt) square)
 
-  front_tip : (w : V3) → IsEnd planes (signs_of planes d) w → IsTip planes d c w
-  front_tip w end = tip planes d c w one (end_corner planes d w apart end)
+  front_tip : IsTip planes d c front.v
+  front_tip = tip planes d c front.v one front.corner
+
+  rear_tip : IsTip planes d c rear.v
+  rear_tip = tip planes d c rear.v one rear.corner
+
+  end_tip : (w : V3) → IsEnd planes (signs_of planes d) w → IsTip planes d c w
+  end_tip w end = tip planes d c w one (end_corner planes d w apart end)
 
   low_side : pos 0 <ℤ dot (negative (cross c d)) rear.v → dot (cross c d) rear.v <ℤ pos 0
   low_side h = opposite_negative_back (dot (negative (cross c d)) rear.v) (dot (cross c d) rear.v) (negative_dot (cross c d) rear.v) h
@@ -144,11 +134,11 @@ module _ (planes : List V3) (d c : V3) (axes : HoldsAxes planes) (apart : NonePa
   -- one of the two is each end
   either_end : (w : V3) → IsEnd planes (signs_of planes d) w → (w ≡ front.v) ⊎ (w ≡ rear.v)
   either_end w end =
-      let tw = front_tip w end in
+      let tw = end_tip w end in
       by_lt_z {P = (w ≡ front.v) ⊎ (w ≡ rear.v)} (pos 0) (dot (cross c d) w)
-      (λ high. inl (same_tip planes d c axes one some_c w front.v tw (tip planes d c front.v one front.corner) high front.side))
+      (λ high. inl (same_tip planes d c axes one some_c w front.v tw front_tip high front.side))
       (λ not_high. by_lt_z {P = (w ≡ front.v) ⊎ (w ≡ rear.v)} (dot (cross c d) w) (pos 0)
-      (λ low. inr (same_tip_low planes d c axes one some_c w rear.v tw (tip planes d c rear.v one rear.corner) low (low_side rear.side)))
+      (λ low. inr (same_tip_low planes d c axes one some_c w rear.v tw rear_tip low (low_side rear.side)))
       (λ not_low. absurd (tip_aside planes d c axes one some_c w tw (zero_from_bounds_down (dot (cross c d) w) not_high not_low))))
 
   -- the sum of the two lies on the edge
@@ -157,62 +147,46 @@ module _ (planes : List V3) (d c : V3) (axes : HoldsAxes planes) (apart : NonePa
       let bu = border_towards planes d front.v front.corner.towards in
       let bv = border_towards planes d rear.v rear.corner.towards in
       sum_covers planes front.v rear.v (signs_of planes d)
-      (covers_all planes front.v rear.v d (λ g g_in. at g g_in (one.only g g_in) (border_sign planes front.v d bu g g_in) (border_sign planes rear.v d bv g g_in)))
+      (covers_all planes front.v rear.v d (λ g g_in. at g g_in (one.only g g_in) (border_at planes front.v d bu g g_in) (border_at planes rear.v d bv g g_in)))
       bu bv
     where
-      tu : IsTip planes d c front.v
-      tu = tip planes d c front.v one front.corner
-
-      tv : IsTip planes d c rear.v
-      tv = tip planes d c rear.v one rear.corner
-
       at : (g : V3) → Contains planes g → (g ≡ c) ⊎ (dot g d ≢ pos 0) → (sign (dot g front.v) ≡ sign (dot g d)) ⊎ (sign (dot g front.v) ≡ Zero) → (sign (dot g rear.v) ≡ sign (dot g d)) ⊎ (sign (dot g rear.v) ≡ Zero)
           → (sign (dot g front.v) ≡ sign (dot g d)) ⊎ (sign (dot g rear.v) ≡ sign (dot g d))
       at g g_in place (inl p) q = inl p
       at g g_in place (inr z) (inl q) = inr q
-      at g g_in (inl e) (inr z) (inr y) = inl (ap sign (ap (λ v. dot v front.v) e ∙ tu.on_c) ∙ sym (ap sign (ap (λ v. dot v d) e ∙ one.on)))
-      at g g_in (inr off) (inr z) (inr y) = absurd (not_both planes d c axes one some_c front.v rear.v g tu tv front.side (low_side rear.side) off (zero_sign (dot g front.v) z) (zero_sign (dot g rear.v) y))
+      at g g_in (inl e) (inr z) (inr y) = inl (ap sign (ap (λ v. dot v front.v) e ∙ front_tip.on_c) ∙ sym (ap sign (ap (λ v. dot v d) e ∙ one.on)))
+      at g g_in (inr off) (inr z) (inr y) = absurd (not_both planes d c axes one some_c front.v rear.v g front_tip rear_tip front.side (low_side rear.side) off
+          (zero_sign (dot g front.v) z) (zero_sign (dot g rear.v) y))
 
-  front_end : IsEnd planes (signs_of planes d) front.v
-  front_end = corner_end planes d front.v front.corner
-
-  rear_end : IsEnd planes (signs_of planes d) rear.v
-  rear_end = corner_end planes d rear.v rear.corner
-
-  pair_lists : (u v : V3) → IsEnd planes (signs_of planes d) u → IsEnd planes (signs_of planes d) v → ((w : V3) → IsEnd planes (signs_of planes d) w → (w ≡ u) ⊎ (w ≡ v)) → vector_cmp u v ≡ Less → Lists vector_cmp (IsEnd planes (signs_of planes d)) (u ∷ v ∷ [])
-  pair_lists u v eu ev all less = record { ascending = sorted_pair u v less; each = each; all = λ w end. ⊎_elim (λ e. (0, omega arith, sym e)) (λ e. (1, omega arith, sym e)) (all w end) }
-    where
-      each : (w : V3) → Contains (u ∷ v ∷ []) w → IsEnd planes (signs_of planes d) w
-      each w (zero, lt, e) = subst (λ z. IsEnd planes (signs_of planes d) z) e eu
-      each w (suc zero, lt, e) = subst (λ z. IsEnd planes (signs_of planes d) z) e ev
-      each w (suc (suc k), lt, e) = absurd (omega arith)
+  -- two vectors that are all ends, in this order, represent the edge by their sum
+  sum_of : (u v : V3) → vector_cmp u v ≡ Less → IsEnd planes (signs_of planes d) u → IsEnd planes (signs_of planes d) v → ((w : V3) → IsEnd planes (signs_of planes d) w → (w ≡ u) ⊎ (w ≡ v))
+      → (e : V3) × IsEdgeSum planes (signs_of planes d) e
+  sum_of u v less eu ev all = (plus u v, record { u = u; v = v; ends = pair_lists (IsEnd planes (signs_of planes d)) u v less eu ev all; is = refl })
 
   -- the edge has a representative
   has_sum : (e : V3) × IsEdgeSum planes (signs_of planes d) e
   has_sum = by_order (vector_cmp front.v rear.v) refl
     where
       different : front.v ≡ rear.v → ⊥
-      different e = clash (dot (cross c d) front.v) (dot (cross c d) rear.v) front.side (low_side rear.side) (ap (dot (cross c d)) e)
-        where
-          clash : (p q : ℤ) → pos 0 <ℤ p → q <ℤ pos 0 → p ≡ q → ⊥
-          clash p q h g e = omega (arith, ints)
+      different e = negative_nonneg_clash (dot (cross c d) rear.v) (low_side rear.side) (subst (λ v. pos 0 ≤ℤ dot (cross c d) v) e (positive_nonneg (dot (cross c d) front.v) front.side))
 
       by_order : (o : Ordering) → vector_cmp front.v rear.v ≡ o → (e : V3) × IsEdgeSum planes (signs_of planes d) e
-      by_order Less p = (plus front.v rear.v, record { u = front.v; v = rear.v; ends = pair_lists front.v rear.v front_end rear_end either_end p; is = refl })
+      by_order Less p = sum_of front.v rear.v p (corner_end planes d front.v front.corner) (corner_end planes d rear.v rear.corner) either_end
       by_order Equal p = absurd (different (vector_exact front.v rear.v p))
       by_order Greater p =
-          let less : vector_cmp rear.v front.v ≡ Less = vector_total.antisymm rear.v front.v ∙ ap ordering_reverse p in
-          (plus rear.v front.v, record { u = rear.v; v = front.v; ends = pair_lists rear.v front.v rear_end front_end (λ w end. ⊎_elim (λ e. inr e) (λ e. inl e) (either_end w end)) less; is = refl })
+          sum_of rear.v front.v (vector_total.antisymm rear.v front.v ∙ ap ordering_reverse p) (corner_end planes d rear.v rear.corner) (corner_end planes d front.v front.corner)
+          (λ w end. ⊎_elim (λ e. inr e) (λ e. inl e) (either_end w end))
 
   -- and any representative lies on the edge
   sum_in : (e : V3) → IsEdgeSum planes (signs_of planes d) e → signs_of planes e ≡ signs_of planes d
+  unfolding IsStrictlySortedBy
   sum_in e s = ap (signs_of planes) s.is ∙ go (either_end s.u (ends.each s.u (0, omega arith, refl))) (either_end s.v (ends.each s.v (1, omega arith, refl)))
     where
       ends : Lists vector_cmp (IsEnd planes (signs_of planes d)) (s.u ∷ s.v ∷ [])
       ends = s.ends
 
       apart_ends : s.u ≡ s.v → ⊥
-      apart_ends p = vector_not_below_itself s.v (subst (λ z. vector_cmp z s.v ≡ Less) p (All-contains (λ q. vector_cmp s.u q ≡ Less) (s.v ∷ []) s.v (All-after_first vector_cmp s.u (s.v ∷ []) ends.ascending) (0, omega arith, refl)))
+      apart_ends p = vector_not_below_itself s.v (subst (λ z. vector_cmp z s.v ≡ Less) p ends.ascending.0.0)
 
       go : (s.u ≡ front.v) ⊎ (s.u ≡ rear.v) → (s.v ≡ front.v) ⊎ (s.v ≡ rear.v) → signs_of planes (plus s.u s.v) ≡ signs_of planes d
       go (inl p) (inl q) = absurd (apart_ends (p ∙ sym q))

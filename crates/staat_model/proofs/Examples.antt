@@ -1,5 +1,5 @@
 -- The definitions at small examples.
-use Rattle.std.proofs.Common.{◌≡◌, ◌≢◌, ℕ, zero, suc, ◌+◌, ◌≤◌, ◌≤ℤ◌, Bool, true, List, [], ◌∷◌, map, length, All, ap, sym, subst, refl, rules, ℤ, pos, neg_ℤ, unsigned_abs, codes, lit<, lit≤, T, leb-true}
+use Rattle.std.proofs.Common.{◌≡◌, ◌≢◌, ℕ, zero, suc, ◌+◌, ◌≤◌, ◌≤ℤ◌, Bool, true, List, [], ◌∷◌, map, length, All, Contains, ap, sym, subst, refl, rules, ℤ, pos, neg_ℤ, unsigned_abs, codes, lit<, lit≤, T, leb-true}
 use Rattle.std.specs.Prelude.{Some, ◌&&◌, nat_le}
 use Rattle.std.specs.List.Sorted.{IsStrictlySortedBy}
 use Rattle.std.specs.List.{list_all}
@@ -9,7 +9,7 @@ use Rattle.std.proofs.lemmas.List.Elements.{All-from_recursion, All-weaker}
 use Rattle.std.proofs.lemmas.List.Sums.{AllPass-from_list_all}
 use Rattle.staat_vec.specs.declared.vector.V3.{V3}
 use Rattle.staat_vec.specs.declared.vector.TheConstants.{POINT}
-use Rattle.staat_vec.specs.Vectors.{IsWithin, vector, plus, minus, dot, vector_cmp}
+use Rattle.staat_vec.specs.Vectors.{IsWithin, det, dot, minus, plus, vector, vector_cmp}
 use Rattle.staat_vec.specs.Primitives.{primitive, content, canon}
 use Rattle.staat_model.specs.declared.certificate.Node.TheVariants.{Leaf, Split}
 use Rattle.staat_model.specs.declared.certificate.Body.TheVariants.{Plan}
@@ -23,7 +23,8 @@ use Rattle.staat_model.specs.Walls.{IsShown}
 use Rattle.staat_model.specs.Planes.{axes, vertices}
 use Rattle.staat_model.specs.Certificates.{walled_leaf}
 use Rattle.staat_model.specs.Lines.{IsInBounds}
-use Rattle.staat_model.specs.Texts.{IsNodeInOrder, IsReading, lines_of, text_of, whole}
+use Rattle.staat_limits.specs.Versions.{IsVersion}
+use Rattle.staat_model.specs.Texts.{IsNodeInOrder, IsReading, IsWellFormed, lines_of, text_of, whole}
 use Rattle.staat_model.proofs.WallLaws.{wall_keeps_apart}
 use Rattle.staat_vec.proofs.Truth.{and_split}
 
@@ -52,7 +53,10 @@ unfolding canon
 left_alone = refl
 
 -- the vertices of the three axes, in pair order
-pub axis_vertices : vertices axes ≡ v (pos 0) (pos 0) (pos 1) ∷ v (pos 0) (pos 0) (m 1) ∷ v (pos 0) (m 1) (pos 0) ∷ v (pos 0) (pos 1) (pos 0) ∷ v (pos 1) (pos 0) (pos 0) ∷ v (m 1) (pos 0) (pos 0) ∷ []
+abbrev pub six : List V3
+six = v (pos 0) (pos 0) (pos 1) ∷ v (pos 0) (pos 0) (m 1) ∷ v (pos 0) (m 1) (pos 0) ∷ v (pos 0) (pos 1) (pos 0) ∷ v (pos 1) (pos 0) (pos 0) ∷ v (m 1) (pos 0) (pos 0) ∷ []
+
+pub axis_vertices : vertices axes ≡ six
 unfolding primitive content
 axis_vertices = refl
 
@@ -82,18 +86,13 @@ meets_ahead = record {
   meeting = record { a = ones; b = ones; a_weights = ones_are cube refl; b_weights = ones_are neighbour refl; same_sum = refl; same_place = refl };
 }
 
+-- four points in no plane make points solid
+corner_solid : (ps : List V3) (a b c e : V3) → Contains ps a → Contains ps b → Contains ps c → Contains ps e → det (minus b a) (minus c a) (minus e a) ≢ pos 0 → IsSolid ps
+corner_solid ps a b c e a_in b_in c_in e_in apart = record { a = a; b = b; c = c; e = e; a_in = a_in; b_in = b_in; c_in = c_in; e_in = e_in; apart = apart }
+
 pub cube_solid : IsSolid cube
-cube_solid = record {
-  a = v (pos 0) (pos 0) (pos 0);
-  b = v (pos 2) (pos 0) (pos 0);
-  c = v (pos 0) (pos 2) (pos 0);
-  e = v (pos 0) (pos 0) (pos 2);
-  a_in = (0, lit< tt, refl);
-  b_in = (4, lit< tt, refl);
-  c_in = (2, lit< tt, refl);
-  e_in = (1, lit< tt, refl);
-  apart = λ h. cc;
-}
+cube_solid = corner_solid cube (v (pos 0) (pos 0) (pos 0)) (v (pos 2) (pos 0) (pos 0)) (v (pos 0) (pos 2) (pos 0)) (v (pos 0) (pos 0) (pos 2))
+    (0, lit< tt, refl) (4, lit< tt, refl) (2, lit< tt, refl) (1, lit< tt, refl) (λ h. cc)
 
 -- whether the point keeps within the bound
 abbrev keeps_within : ℕ → V3 → Bool
@@ -111,17 +110,8 @@ unfolding IsStrictlySortedBy
 neighbour_ascends = search rules
 
 neighbour_solid : IsSolid neighbour
-neighbour_solid = record {
-  a = v (pos 2) (pos 0) (pos 0);
-  b = v (pos 4) (pos 0) (pos 0);
-  c = v (pos 2) (pos 2) (pos 0);
-  e = v (pos 2) (pos 0) (pos 2);
-  a_in = (0, lit< tt, refl);
-  b_in = (4, lit< tt, refl);
-  c_in = (2, lit< tt, refl);
-  e_in = (1, lit< tt, refl);
-  apart = λ h. cc;
-}
+neighbour_solid = corner_solid neighbour (v (pos 2) (pos 0) (pos 0)) (v (pos 4) (pos 0) (pos 0)) (v (pos 2) (pos 2) (pos 0)) (v (pos 2) (pos 0) (pos 2))
+    (0, lit< tt, refl) (4, lit< tt, refl) (2, lit< tt, refl) (1, lit< tt, refl) (λ h. cc)
 
 pub cube_piece : IsPiece cube
 cube_piece = record { ascending = cube_ascends; at_least = lit≤ tt; at_most = lit≤ tt; within = by_test (keeps_within POINT) (IsWithin POINT) (within_by_test POINT) cube refl; solid = cube_solid }
@@ -160,23 +150,23 @@ never_above = wall_keeps_apart cube neighbour (v (pos 0) (pos 0) (pos 1)) (v (po
 
 -- ---- the smallest certificate
 
-abbrev smallest : Certificate
-smallest = record { version = 1; parts = 1; body = Plan (Leaf 0 ∷ []) }
+abbrev pub smallest : ℕ → Certificate
+smallest version = record { version = version; parts = 1; body = Plan (Leaf 0 ∷ []) }
 
-smallest_lines : lines_of smallest ≡ line.Head 1 ∷ line.Parts 1 ∷ line.Plan ∷ line.Leaf 0 ∷ line.End ∷ []
+smallest_lines : lines_of (smallest 1) ≡ line.Head 1 ∷ line.Parts 1 ∷ line.Plan ∷ line.Leaf 0 ∷ line.End ∷ []
 smallest_lines = refl
 
-smallest_text : text_of smallest ≡ codes "STAAT 1\nparts 1\nplan\nleaf 0\nend\n"
+smallest_text : text_of (smallest 1) ≡ codes "STAAT 1\nparts 1\nplan\nleaf 0\nend\n"
 smallest_text = rw (decimal_digit 1 (lit< tt), decimal_digit 0 (lit< tt)) refl
 
-smallest_read : IsReading (codes "STAAT 1\nparts 1\nplan\nleaf 0\nend\n") (whole smallest)
-smallest_read = record {
-  form = record {
-    lines = All-from_recursion IsInBounds (lines_of smallest) ((lit≤ tt, lit≤ tt), ((lit≤ tt, lit≤ tt), (tt, (lit< tt, (tt, tt)))));
-    body = record { tree = walled_leaf 0; is = refl; most = lit≤ tt; each = All-from_recursion IsNodeInOrder (Leaf 0 ∷ []) (tt, tt) };
-  };
-  is = sym smallest_text;
+pub smallest_form : (version : ℕ) → IsVersion version → IsWellFormed (smallest version)
+smallest_form version is = record {
+  lines = All-from_recursion IsInBounds (lines_of (smallest version)) (is, ((lit≤ tt, lit≤ tt), (tt, (lit< tt, (tt, tt)))));
+  body = record { tree = walled_leaf 0; is = refl; most = lit≤ tt; each = All-from_recursion IsNodeInOrder (Leaf 0 ∷ []) (tt, tt) };
 }
+
+smallest_read : IsReading (codes "STAAT 1\nparts 1\nplan\nleaf 0\nend\n") (whole (smallest 1))
+smallest_read = record { form = smallest_form 1 (lit≤ tt, lit≤ tt); is = sym smallest_text }
 
 -- the plan that takes the two cubes apart, and its lines
 abbrev two_cubes : Certificate

@@ -2,32 +2,27 @@
 use Rattle.std.proofs.Common.{◌≡◌, ◌↔◌, ℕ, ◌*◌, ◌≢◌, ◌≤◌, sym, ap, subst, ◌∙◌, arith, ℤ, pos, negsuc, ◌*ℤ◌, ◌≤ℤ◌, ◌<ℤ◌, ◌⊎◌, inl, inr, ⊎_elim, List, [], ◌∷◌, mul-le-mul}
 use Rattle.std.proofs.lemmas.Int.{ints, by_lt_z}
 use Rattle.staat_vec.specs.declared.vector.V3.{V3}
-use Rattle.staat_vec.specs.Vectors.{dot, cross, times, negative, origin}
+use Rattle.staat_vec.specs.Vectors.{dot, cross, minus, plus, times, negative, origin}
 use Rattle.staat_vec.specs.Primitives.{IsPrimitive, IsPrimitiveOf, primitive}
-use Rattle.staat_vec.proofs.Ring.{Ex, num, ◌⊖◌, ring_by_two, zero-mul_ℤ}
-use Rattle.staat_vec.proofs.VecRing.{VEx, dotE, crossE, timesE, values, v0, v1, v2, scale, same_vector, cross_turned}
-use Rattle.staat_vec.proofs.Order.{as_positive, cancel_zero}
+use Rattle.staat_vec.proofs.Ring.{at, num}
+use Rattle.staat_vec.proofs.VecRing.{VEx, dotE, crossE, minusE, originE, plusE, ring3, timesE, values, v0, v1, v2, scale, cross_turned}
+use Rattle.staat_vec.proofs.Order.{as_positive}
 use Rattle.staat_model.specs.Cones.{IsSpanning, IsConeFacet, IsCrossing, IsReached}
 use Rattle.staat_vec.proofs.Primitives.{IsPrimitive-some, primitive-is, primitive-only, same_primitive}
 use Rattle.staat_model.proofs.FarkasLemmas.{farkas_lemma}
-use Rattle.staat_vec.proofs.Integers.{zero_from_bounds_down}
+use Rattle.staat_vec.proofs.Integers.{positive_pos, zero_from_bounds_down}
 use Rattle.staat_model.proofs.Edge.{cross_swap}
-use Rattle.staat_vec.proofs.VectorLaws.{times_twice, some_square}
+use Rattle.staat_vec.proofs.VectorLaws.{times_twice, some_square, unscaled}
 
 -- (f.f) n = (n.f) f for f = g x h
 pub along : (n g h : V3) → dot g n ≡ pos 0 → dot h n ≡ pos 0 → scale (dot (cross g h) (cross g h)) n ≡ scale (dot n (cross g h)) (cross g h)
 along n g h e f =
-    let ρ = values (n ∷ g ∷ h ∷ []) [] in
     let c : VEx = crossE v1 v2 in
-    let l : VEx = timesE (dotE c c) v0 in
-    let r : VEx = timesE (dotE v0 c) c in
-    let a : VEx = crossE c v1 in
-    let b : VEx = crossE c v2 in
-    let o : Ex = num (pos 0) in
-    same_vector (scale (dot (cross g h) (cross g h)) n) (scale (dot n (cross g h)) (cross g h))
-    (ring_by_two ρ l.x r.x (o ⊖ b.x) (dotE v1 v0) o a.x (dotE v2 v0) o e f tt)
-    (ring_by_two ρ l.y r.y (o ⊖ b.y) (dotE v1 v0) o a.y (dotE v2 v0) o e f tt)
-    (ring_by_two ρ l.z r.z (o ⊖ b.z) (dotE v1 v0) o a.z (dotE v2 v0) o e f tt)
+    let f' = cross g h in
+    ring3 (values (n ∷ g ∷ h ∷ []) []) (timesE (dotE c c) v0)
+    (plusE (timesE (dotE v0 c) c) (minusE (timesE (dotE v2 v0) (crossE c v1)) (timesE (dotE v1 v0) (crossE c v2)))) (tt, tt, tt)
+    ∙ (λ i. plus (scale (dot n f') f') (minus (scale (f i) (cross f' g)) (scale (e i) (cross f' h))))
+    ∙ ring3 (values (f' ∷ cross f' g ∷ cross f' h ∷ []) (dot n f' ∷ [])) (plusE (timesE (at 9) v0) (minusE (timesE (num (pos 0)) v1) (timesE (num (pos 0)) v2))) (timesE (at 9) v0) (tt, tt, tt)
 
 -- where n looks along f = g x h
 pub looks_along : (n g h : V3) → IsPrimitive n → dot g n ≡ pos 0 → dot h n ≡ pos 0 → cross g h ≢ origin → pos 0 <ℤ dot n (cross g h) → IsPrimitiveOf (cross g h) n
@@ -46,12 +41,8 @@ looks_along n g h prim e f some side =
 pub not_across : (n g h : V3) → IsPrimitive n → dot g n ≡ pos 0 → dot h n ≡ pos 0 → cross g h ≢ origin → dot n (cross g h) ≡ pos 0 → ⊥
 not_across n g h prim e f some flat =
     let c = cross g h in
-    let a = as_positive (dot c c) (some_square c some) in
-    let whole : times a.0 n ≡ times 0 c = ap (λ z. scale z n) (sym a.2) ∙ along n g h e f ∙ ap (λ z. scale z c) flat in
-    IsPrimitive-some n prim (same_vector n origin
-    (cancel_zero a.0 n.x a.1 (ap (λ v. v.x) whole ∙ zero-mul_ℤ c.x))
-    (cancel_zero a.0 n.y a.1 (ap (λ v. v.y) whole ∙ zero-mul_ℤ c.y))
-    (cancel_zero a.0 n.z a.1 (ap (λ v. v.z) whole ∙ zero-mul_ℤ c.z)))
+    IsPrimitive-some n prim (unscaled (dot c c) n (some_square c some)
+    (along n g h e f ∙ ap (λ z. scale z c) flat ∙ ring3 (values (c ∷ []) []) (timesE (num (pos 0)) v0) originE (tt, tt, tt)))
 
 pub swap_zero : (g h : V3) → cross h g ≡ origin → cross g h ≡ origin
 swap_zero g h e = cross_turned g h ∙ ap negative e
@@ -79,7 +70,7 @@ facet_crosses_lemma vs n f =
 
 -- a positive multiple of a vector other than zero is none
 times_some : (k : ℕ) (p : V3) → 1 ≤ k → p ≢ origin → times k p ≢ origin
-times_some k p one some e = some (same_vector p origin (cancel_zero k p.x one (ap (λ v. v.x) e)) (cancel_zero k p.y one (ap (λ v. v.y) e)) (cancel_zero k p.z one (ap (λ v. v.z) e)))
+times_some k p one some e = some (unscaled (pos k) p (positive_pos k one) e)
 
 -- a vector other than zero has one primitive vector, and zero has none
 pub one_primitive_lemma : (v p : V3) → IsPrimitiveOf v p ↔ ((v ≢ origin) × (p ≡ primitive v))

@@ -1,46 +1,23 @@
 -- The members of a list that spans space add up, with numbers of at least 1, to a multiple of d, or a facet stands in the way of d, and not both.
-use Rattle.std.proofs.Common.{◌≡◌, ℕ, ◌+◌, ◌*◌, ◌≤◌, ◌≢◌, max, sym, ap, subst, ◌∙◌, arith, ℤ, pos, ◌-ℤ◌, ◌*ℤ◌, ◌≤ℤ◌, ◌<ℤ◌, unsigned_abs, ◌⊎◌, inl, inr, List, [], ◌∷◌, length, map, All, Contains, le_trans, le_refl}
+use Rattle.std.proofs.Common.{◌≡◌, ℕ, ◌+◌, ◌*◌, ◌≤◌, ◌≢◌, sym, ap, subst, ◌∙◌, arith, ℤ, pos, ◌-ℤ◌, ◌*ℤ◌, ◌≤ℤ◌, ◌<ℤ◌, unsigned_abs, ◌⊎◌, inl, inr, List, [], ◌∷◌, length, map, All, le_trans}
+use Rattle.std.specs.Prelude.{sum_by}
 use Rattle.std.proofs.lemmas.Int.{ints, by_lt_z}
 use Rattle.std.proofs.lemmas.List.{length-map}
-use Rattle.std.proofs.lemmas.List.Elements.{All-nil, All-cons, All-head, All-tail, All-contains, All-weaker, All-map}
+use Rattle.std.proofs.lemmas.List.Elements.{All-nil, All-cons, All-head, All-tail, All-map}
 use Rattle.staat_vec.specs.declared.vector.V3.{V3}
 use Rattle.staat_vec.specs.Vectors.{dot, cross, plus, times, negative, origin}
 use Rattle.staat_vec.specs.Primitives.{primitive}
 use Rattle.staat_vec.proofs.Ring.{at, ◌⊕◌, ◌⊖◌, ◌⊗◌, ring}
 use Rattle.staat_vec.proofs.VecRing.{dotE, plusE, timesE, negativeE, originE, values, v0, v1, v2, ring3, dot_comm, dot_cross_left, dot_cross_right}
-use Rattle.staat_vec.proofs.Order.{bounded, split_sum, tight_factor, not_positive_mul, cancel_not_positive, cancel_zero, nonneg_mul, nonneg_pos}
+use Rattle.staat_vec.proofs.Order.{bounded, split_sum, tight_factor, not_positive_mul, cancel_not_positive, nonneg_mul, nonneg_pos}
 use Rattle.staat_model.specs.Meeting.{mix}
 use Rattle.staat_model.specs.Cones.{IsAbove, IsSpanning, IsCombined, IsReached, IsStopped, ExactlyOne}
-use Rattle.staat_model.proofs.Mixes.{square_vector, dot_step, mix_above}
+use Rattle.staat_model.proofs.Mixes.{dot_step, mix_above}
 use Rattle.staat_model.proofs.Alternative.{IsSeparated, alternative}
-use Rattle.staat_model.proofs.Edge.{edge_below}
+use Rattle.staat_model.proofs.Members.{member_le}
+use Rattle.staat_model.proofs.Edge.{IsEdge, edge_below}
 use Rattle.staat_vec.proofs.Primitives.{IsPrimitive-some, primitive-is}
-use Rattle.staat_model.proofs.CornerLemmas.{above_primitive, dot_multiple}
-use Rattle.staat_vec.proofs.Integers.{negative_nonneg_clash}
-use Rattle.staat_vec.proofs.Unique.{Contains-front}
-use Rattle.staat_vec.proofs.ListLaws.{Contains-there}
-
--- some member is bad, or one bound serves all members
-search_all : {X : Type 0} (B : X → Type 0) (P : X → ℕ → Type 0) → ((x : X) (k l : ℕ) → k ≤ l → P x k → P x l) → ((x : X) → B x ⊎ ((k : ℕ) × P x k)) → (xs : List X) → ((x : X) × Contains xs x × B x) ⊎ ((k : ℕ) × All (λ x. P x k) xs)
-search_all B P more f [] = inr (0, All-nil (λ x. P x 0))
-search_all {X} B P more f (x ∷ xs) = go (f x) (search_all B P more f xs)
-  where
-    go : B x ⊎ ((k : ℕ) × P x k) → ((x : X) × Contains xs x × B x) ⊎ ((k : ℕ) × All (λ x. P x k) xs) → ((y : X) × Contains (x ∷ xs) y × B y) ⊎ ((k : ℕ) × All (λ y. P y k) (x ∷ xs))
-    go (inl b) r = inl (x, Contains-front x xs, b)
-    go (inr p) (inl (y, c, b)) = inl (y, Contains-there x y xs c, b)
-    go (inr (k, p)) (inr (l, q)) =
-        let top = max k l in
-        inr (top, All-cons (λ y. P y top) x xs (more x k top (omega arith) p) (All-weaker (λ y. P y l) (λ y. P y top) (λ y r. more y l top (omega arith) r) xs q))
-
-decide_above : (f : V3) (vs : List V3) → IsAbove f vs ⊎ (IsAbove f vs → ⊥)
-decide_above f [] = inl (All-nil (λ v. pos 0 ≤ℤ dot v f))
-decide_above f (v ∷ vs) = go (decide_above f vs)
-  where
-    go : IsAbove f vs ⊎ (IsAbove f vs → ⊥) → IsAbove f (v ∷ vs) ⊎ (IsAbove f (v ∷ vs) → ⊥)
-    go (inr n) = inr (λ h. n (All-tail (λ v. pos 0 ≤ℤ dot v f) v vs h))
-    go (inl y) = by_lt_z {P = IsAbove f (v ∷ vs) ⊎ (IsAbove f (v ∷ vs) → ⊥)} (dot v f) (pos 0)
-        (λ neg. inr (λ h. negative_nonneg_clash (dot v f) neg (All-head (λ v. pos 0 ≤ℤ dot v f) v vs h)))
-        (λ nonneg. inl (All-cons (λ v. pos 0 ≤ℤ dot v f) v vs nonneg y))
+use Rattle.staat_model.proofs.CornerLemmas.{above_primitive, across_primitive, dot_multiple}
 
 total : List V3 → V3
 total [] = origin
@@ -76,42 +53,8 @@ moved_back k n d s =
     (timesE (at 6 ⊗ at 7) v0) (tt, tt, tt)
 
 module _ (vs : List V3) (d : V3) where
-  -- the cross product of g and h is on the positive side of all, and not of d
-  IsBad : V3 → V3 → Type 0
-  IsBad g h = IsAbove (cross g h) vs × (cross g h ≢ origin) × (dot d (cross g h) ≤ℤ pos 0)
-
-  -- from k on, the multiples of d lie far enough
-  IsFar : V3 → V3 → ℕ → Type 0
-  IsFar g h k = IsAbove (cross g h) vs → (cross g h ≢ origin) → (l : ℕ) → k ≤ l → dot (total vs) (cross g h) ≤ℤ (pos l *ℤ dot d (cross g h))
-
-  pair_case : (g h : V3) → IsBad g h ⊎ ((k : ℕ) × IsFar g h k)
-  unfolding IsBad IsFar
-  pair_case g h = go (decide_above (cross g h) vs) (square_vector (cross g h))
-    where
-      go : IsAbove (cross g h) vs ⊎ (IsAbove (cross g h) vs → ⊥) → (cross g h ≡ origin) ⊎ (pos 0 <ℤ dot (cross g h) (cross g h)) → IsBad g h ⊎ ((k : ℕ) × IsFar g h k)
-      go (inr not_up) q = inr (0, λ up some l le. absurd (not_up up))
-      go (inl up) (inl e) = inr (0, λ u some l le. absurd (some e))
-      go (inl up) (inr p) = by_lt_z {P = IsBad g h ⊎ ((k : ℕ) × IsFar g h k)} (pos 0) (dot d (cross g h))
-          (λ far. inr (unsigned_abs (dot (total vs) (cross g h)), λ u some l le. bounded (dot (total vs) (cross g h)) (dot d (cross g h)) l le far))
-          (λ low. inl (up, apart (cross g h) p, low))
-        where
-          apart : (f : V3) → pos 0 <ℤ dot f f → f ≡ origin → ⊥
-          apart f p e = let none : pos 0 <ℤ dot origin origin = subst (λ f. pos 0 <ℤ dot f f) e p in absurd none.lt
-
-  far_more : (g h : V3) (k l : ℕ) → k ≤ l → IsFar g h k → IsFar g h l
-  unfolding IsFar
-  far_more g h k l le f up some m le' = f up some m (le_trans le le')
-
-  search_pairs : ((g : V3) × Contains vs g × ((h : V3) × Contains vs h × IsBad g h)) ⊎ ((k : ℕ) × All (λ g. All (λ h. IsFar g h k) vs) vs)
-  search_pairs =
-      search_all (λ g. (h : V3) × Contains vs h × IsBad g h) (λ g k. All (λ h. IsFar g h k) vs)
-      (λ g k l le p. All-weaker (λ h. IsFar g h k) (λ h. IsFar g h l) (λ h. far_more g h k l le) vs p)
-      (λ g. search_all (IsBad g) (IsFar g) (far_more g) (pair_case g) vs)
-      vs
-
-  stopped_from : (g h : V3) → Contains vs g → Contains vs h → IsBad g h → IsStopped vs d
-  unfolding IsBad
-  stopped_from g h in_g in_h (up, some, low) =
+  stopped_from : (g h : V3) → IsEdge vs g h → dot d (cross g h) ≤ℤ pos 0 → IsStopped vs d
+  stopped_from g h (in_g, in_h, some, up) low =
       let n = primitive (cross g h) in
       let p = primitive-is (cross g h) some in
       record {
@@ -125,8 +68,8 @@ module _ (vs : List V3) (d : V3) where
             u_in = in_g;
             v_in = in_h;
             independent = some;
-            u_on = cancel_zero p.factor (dot g n) p.positive (sym (dot_multiple g (cross g h) n p.factor p.multiple) ∙ dot_cross_left g h);
-            v_on = cancel_zero p.factor (dot h n) p.positive (sym (dot_multiple h (cross g h) n p.factor p.multiple) ∙ dot_cross_right g h);
+            u_on = across_primitive g (cross g h) some (dot_cross_left g h);
+            v_on = across_primitive h (cross g h) some (dot_cross_right g h);
           };
         };
         away = subst (λ z. z ≤ℤ pos 0) (dot_comm d n) (cancel_not_positive p.factor (dot d n) p.positive (subst (λ z. z ≤ℤ pos 0) (dot_multiple d (cross g h) n p.factor p.multiple) low));
@@ -146,23 +89,23 @@ module _ (vs : List V3) (d : V3) where
   not_below : (p q r : ℤ) → r ≡ p -ℤ q → q ≤ℤ p → r <ℤ pos 0 → ⊥
   not_below p q r e h g = omega (arith, ints)
 
-  far_case : IsSpanning vs → (n : ℕ) → All (λ g. All (λ h. IsFar g h n) vs) vs → IsSeparated vs (moved n d (total vs)) → ⊥
-  unfolding IsFar
-  far_case spans n far (x, up, low) =
-      let (g, h, (in_g, in_h, some, above), side) = edge_below vs x (moved n d (total vs)) spans up low in
-      let f : IsFar g h n = All-contains (λ h. IsFar g h n) vs h (All-contains (λ g. All (λ h. IsFar g h n) vs) vs g far in_g) in_h in
-      not_below (pos n *ℤ dot d (cross g h)) (dot (total vs) (cross g h)) (dot (moved n d (total vs)) (cross g h)) (moved_dot n d (total vs) (cross g h)) (f above some n (le_refl n)) side
+  -- as many times d lies at least as far as the sum of all members, wherever d lies ahead
+  abbrev far : ℕ
+  far = sum_by (λ g. sum_by (λ h. unsigned_abs (dot (total vs) (cross g h))) vs) vs
+
+  stopped_or : IsSpanning vs → IsSeparated vs (moved far d (total vs)) → IsStopped vs d
+  stopped_or spans (x, up, low) =
+      let (g, h, edge, side) = edge_below vs x (moved far d (total vs)) spans up low in
+      let f = cross g h in
+      let size : V3 → V3 → ℕ = λ g h. unsigned_abs (dot (total vs) (cross g h)) in
+      let small : size g h ≤ far = le_trans (member_le (size g) vs h edge.1) (member_le (λ g. sum_by (size g) vs) vs g edge.0) in
+      by_lt_z {P = IsStopped vs d} (pos 0) (dot d f)
+      (λ ahead. absurd (not_below (pos far *ℤ dot d f) (dot (total vs) f) (dot (moved far d (total vs)) f) (moved_dot far d (total vs) f)
+      (bounded (dot (total vs) f) (dot d f) far small ahead) side))
+      (stopped_from g h edge)
 
   farkas_one : IsSpanning vs → IsReached vs d ⊎ IsStopped vs d
-  farkas_one spans = go search_pairs
-    where
-      last : (n : ℕ) → All (λ g. All (λ h. IsFar g h n) vs) vs → IsCombined vs (moved n d (total vs)) ⊎ IsSeparated vs (moved n d (total vs)) → IsReached vs d ⊎ IsStopped vs d
-      last n far (inl c) = inl (reached_from n c)
-      last n far (inr s) = absurd (far_case spans n far s)
-
-      go : ((g : V3) × Contains vs g × ((h : V3) × Contains vs h × IsBad g h)) ⊎ ((k : ℕ) × All (λ g. All (λ h. IsFar g h k) vs) vs) → IsReached vs d ⊎ IsStopped vs d
-      go (inl (g, in_g, (h, in_h, bad))) = inr (stopped_from g h in_g in_h bad)
-      go (inr (n, far)) = last n far (alternative vs (moved n d (total vs)))
+  farkas_one spans = elim (alternative vs (moved far d (total vs))) [ inl c ↦ inl (reached_from far c) | inr s ↦ inr (stopped_or spans s) ]
 
 -- a sum of positive multiples that is not above n: all members are across n
 pub all_across : (n : V3) (ms : List ℕ) (vs : List V3) → length ms ≡ length vs → All (λ m. 1 ≤ m) ms → IsAbove n vs → dot (mix ms vs) n ≤ℤ pos 0 → All (λ v. dot v n ≡ pos 0) vs

@@ -7,23 +7,17 @@ use Rattle.staat_vec.specs.Vectors.{vector, origin, minus, dot, cross}
 use Rattle.staat_model.specs.Pieces.{IsSolid}
 use Rattle.staat_vec.proofs.Ring.{at, num, opp, ring, from_zero}
 use Rattle.staat_vec.proofs.VecRing.{same_vector, values, vectorE, dotE, crossE, v0, v1}
-use Rattle.staat_model.proofs.Spanning.{square_to_three}
-use Rattle.staat_model.proofs.WallLaws.{dot-minus, level}
+use Rattle.staat_model.proofs.Differences.{level_solid}
+use Rattle.staat_model.proofs.WallLaws.{dot-minus}
 use Rattle.staat_vec.proofs.VectorLaws.{det_dot}
 
 -- a normal of a plane that solid points share is zero
-level_solid : (n a : V3) (ps : List V3) → All (λ p. dot n (minus p a) ≡ pos 0) ps → IsSolid ps → n ≡ origin
-level_solid n a ps all solid =
-    let at : (p : V3) → Contains ps p → dot n p ≡ dot n a = λ p k. omega (arith, ints, dot-minus n p a, All-contains (λ q. dot n (minus q a) ≡ pos 0) ps p all k) in
-    let ea = at solid.a solid.a_in in
-    square_to_three n (minus solid.b solid.a) (minus solid.c solid.a) (minus solid.e solid.a)
-    (level n solid.a solid.b (dot n a) ea (at solid.b solid.b_in))
-    (level n solid.a solid.c (dot n a) ea (at solid.c solid.c_in))
-    (level n solid.a solid.e (dot n a) ea (at solid.e solid.e_in))
-    solid.apart
+shared_plane : (n a : V3) (ps : List V3) → All (λ p. dot n (minus p a) ≡ pos 0) ps → IsSolid ps → n ≡ origin
+shared_plane n a ps all solid =
+    level_solid n (dot n a) ps solid (λ p k. omega (arith, ints, dot-minus n p a, All-contains (λ q. dot n (minus q a) ≡ pos 0) ps p all k))
 
 pub on_plane : (n a : V3) (ps : List V3) → n ≢ origin → All (λ p. dot n (minus p a) ≡ pos 0) ps → IsSolid ps → ⊥
-on_plane n a ps ne all solid = ne (level_solid n a ps all solid)
+on_plane n a ps ne all solid = ne (shared_plane n a ps all solid)
 
 dot-across : (u w : V3) → cross u w ≡ origin → dot (vector (pos 0) u.z (neg_ℤ u.y)) w ≡ pos 0
 dot-across u w e = ring (values (u ∷ w ∷ []) []) (dotE (vectorE (num (pos 0)) (at 2) (opp (at 1))) v1) (opp (crossE v0 v1).x) tt ∙ ap (λ (v : V3). neg_ℤ v.x) e
@@ -35,8 +29,8 @@ pub on_line : (u a : V3) (ps : List V3) → u ≢ origin → All (λ p. cross u 
 on_line u a ps ne all solid =
     let n = vector (pos 0) u.z (neg_ℤ u.y) in
     let m = vector u.z (pos 0) (neg_ℤ u.x) in
-    let en = level_solid n a ps (All-weaker (λ p. cross u (minus p a) ≡ origin) (λ p. dot n (minus p a) ≡ pos 0) (λ p. dot-across u (minus p a)) ps all) solid in
-    let em = level_solid m a ps (All-weaker (λ p. cross u (minus p a) ≡ origin) (λ p. dot m (minus p a) ≡ pos 0) (λ p. dot-along u (minus p a)) ps all) solid in
+    let en = shared_plane n a ps (All-weaker (λ p. cross u (minus p a) ≡ origin) (λ p. dot n (minus p a) ≡ pos 0) (λ p. dot-across u (minus p a)) ps all) solid in
+    let em = shared_plane m a ps (All-weaker (λ p. cross u (minus p a) ≡ origin) (λ p. dot m (minus p a) ≡ pos 0) (λ p. dot-along u (minus p a)) ps all) solid in
     let x : u.x ≡ pos 0 = omega (arith, ints, ap (λ (v : V3). v.z) em) in
     let y : u.y ≡ pos 0 = omega (arith, ints, ap (λ (v : V3). v.z) en) in
     let z : u.z ≡ pos 0 = ap (λ (v : V3). v.x) em in
@@ -45,11 +39,9 @@ on_line u a ps ne all solid =
 pub at_place : (a : V3) (ps : List V3) → All (λ p. p ≡ a) ps → IsSolid ps → ⊥
 at_place a ps all solid =
     let u = vector (pos 1) (pos 0) (pos 0) in
-    on_line u a ps (λ e. one_is_not_zero e) (All-weaker (λ p. p ≡ a) (λ p. cross u (minus p a) ≡ origin) (λ p e. ap (λ q. cross u (minus q a)) e ∙ still a) ps all) solid
+    on_line u a ps (λ e. absurd (omega (arith, ints, ap (λ (v : V3). v.x) e)))
+    (All-weaker (λ p. p ≡ a) (λ p. cross u (minus p a) ≡ origin) (λ p e. ap (λ q. cross u (minus q a)) e ∙ still a) ps all) solid
   where
-    one_is_not_zero : vector (pos 1) (pos 0) (pos 0) ≡ origin → ⊥
-    one_is_not_zero e = absurd (omega (arith, ints, ap (λ (v : V3). v.x) e))
-
     still : (a : V3) → cross (vector (pos 1) (pos 0) (pos 0)) (minus a a) ≡ origin
     still a = same_vector (cross (vector (pos 1) (pos 0) (pos 0)) (minus a a)) origin (omega (arith, ints)) (omega (arith, ints)) (omega (arith, ints))
 

@@ -8,24 +8,22 @@ use Rattle.staat_model.specs.declared.set.PartSet.{PartSet}
 use Rattle.staat_model.specs.Outcomes.{IsMinimalBy, IsMovedSideBy}
 use Rattle.staat_model.specs.Removal.{IsFreeBy}
 use Rattle.staat_model.specs.Sets.{Has, IsSubset}
+use Rattle.staat_model.proofs.Decisions.{carried}
 use Rattle.staat_model.proofs.SetMembers.{has-difference, has-intersection}
 use Rattle.staat_model.proofs.SetWords.{same_members}
 
+-- a test passes or not
+passes_or : (b : Bool) → (b ≡ true) ⊎ (b ≡ true → ⊥)
+passes_or true = inl refl
+passes_or false = inr (λ h. cc)
+
 -- a number is in the set or not
 pub member_or : (s : PartSet) (p : ℕ) → Has s p ⊎ (Has s p → ⊥)
-member_or s p = by_test (set.contains s p) refl
-  where
-    by_test : (b : Bool) → set.contains s p ≡ b → Has s p ⊎ (Has s p → ⊥)
-    by_test true e = inl e
-    by_test false e = inr (λ h. let wrong : true ≡ false = sym h ∙ e in cc)
+member_or s p = passes_or (set.contains s p)
 
 -- a set lies within another or not
 pub subset_or : (s t : PartSet) → IsSubset s t ⊎ (IsSubset s t → ⊥)
-subset_or s t = by_test (set.is_subset s t) refl
-  where
-    by_test : (b : Bool) → set.is_subset s t ≡ b → IsSubset s t ⊎ (IsSubset s t → ⊥)
-    by_test true e = inl (set.is_subset-contains nat_cmp_total s t e)
-    by_test false e = inr (λ all. let wrong : true ≡ false = sym (set.contains-is_subset nat_cmp_total s t all) ∙ e in cc)
+subset_or s t = carried (set.is_subset-contains nat_cmp_total s t) (set.contains-is_subset nat_cmp_total s t) (passes_or (set.is_subset s t))
 
 pub free_both : {R : List V3 → List V3 → V3 → Type 0} (parts : List Part) (w s t : PartSet) (d : V3) → IsFreeBy R parts s (set.difference w s) d
     → IsFreeBy R parts t (set.difference w t) d → IsFreeBy R parts (set.intersection s t) (set.difference w (set.intersection s t)) d

@@ -1,8 +1,7 @@
 -- Nodes that stay whole are held together along each direction, where a core does so at each vertex of its planes.
 use Rattle.std.proofs.Common.{◌≡◌, ◌≢◌, ℕ, zero, suc, ◌≤◌, ◌<◌, refl, sym, subst, ◌∙◌, arith}
-use Rattle.std.proofs.Common.{inl, inr, List, [], ◌∷◌, All, Contains, length, pos}
+use Rattle.std.proofs.Common.{inl, inr, List, [], ◌∷◌, All, Contains, pos}
 use Rattle.std.specs.FinSet as set
-use Rattle.std.specs.Ordering.{nat_cmp}
 use Rattle.staat_vec.specs.declared.vector.V3.{V3}
 use Rattle.staat_vec.specs.Vectors.{dot, origin}
 use Rattle.staat_model.specs.declared.assembly.Part.{Part}
@@ -20,9 +19,8 @@ use Rattle.staat_model.specs.Sets.{Has, IsNonempty, IsSubset, single}
 use Rattle.staat_model.proofs.CoreLemmas.{free_at_crossing_lemma, free_at_vertex_lemma}
 use Rattle.staat_model.proofs.WholeLemmas.{left_within, moves_whole_lemma, right_within}
 use Rattle.staat_model.proofs.RestrictLemmas.{nonempty_or}
-use Rattle.staat_model.proofs.SetMembers.{has-empty, has-single}
-use Rattle.staat_model.proofs.SetSizes.{many}
-use Rattle.staat_model.proofs.SetWords.{same_members}
+use Rattle.staat_model.proofs.SetMembers.{has-single}
+use Rattle.staat_model.proofs.SetSizes.{len_below, many}
 use Rattle.staat_vec.proofs.Unique.{Contains-front}
 use Rattle.staat_vec.proofs.ListLaws.{Contains-there}
 
@@ -64,18 +62,13 @@ node_nonempty parts t (inl (p, e)) = (p, subst (λ (u : PartSet). Has u p) (sym 
 node_nonempty parts t (inr stuck) = elim (nonempty_or t) [
   | inl one ↦ one
   | inr none ↦
-      let same : t ≡ set.empty =
-      same_members t set.empty (λ q h. absurd (none q h)) (λ q h. absurd (has-empty q h)) in
-      let no_members : set.len t ≡ 0 =
-      subst (λ (u : PartSet). set.len u ≡ 0) (sym same) (set.len-empty nat_cmp) in
+      let few = len_below 0 t (λ q h. absurd (none q h)) in
       let two : 2 ≤ set.len t = stuck.two in
-      absurd (omega (arith, no_members, two))
+      absurd (omega (arith, few, two))
 ]
 
 -- two nodes that are apart have two parts
 two_parts : (parts : List Part) (nodes : List PartSet) → AreNodes parts nodes → 2 ≤ set.len (union_of nodes)
-two_parts parts [] are = let two : 2 ≤ length {A = PartSet} [] = are.two in absurd (omega (arith, two))
-two_parts parts (s ∷ []) are = let two : 2 ≤ length (s ∷ []) = are.two in absurd (omega (arith, two))
 two_parts parts (s ∷ t ∷ rest) are =
     let nodes : List PartSet = s ∷ t ∷ rest in
     let s_in : Contains nodes s = Contains-front s (t ∷ rest) in
@@ -88,6 +81,7 @@ two_parts parts (s ∷ t ∷ rest) are =
     apart.0 t (Contains-front t rest) p p_in (subst (Has t) same q_in) in
     let more : 1 < set.len (union_of nodes) = many (union_of nodes) p (within_union nodes s s_in p p_in) other in
     omega (arith, more)
+two_parts parts nodes are = let two = are.two in absurd (omega (arith, two))
 
 pub nodes_stuck_lemma : (parts : List Part) (core : List Arc) (nodes : List PartSet) (planes : List V3)
     → All IsPart parts → AreNodes parts nodes → HasCorePlanes parts core planes
@@ -97,7 +91,7 @@ nodes_stuck_lemma parts core nodes planes sound are has at_vertices = record {
   held = λ s d side free.
       let held = nodes_hold_lemma parts core nodes planes d sound has at_vertices free.moves in
       let whole = free_keeps_whole parts nodes s d are.each free in
-      held s side whole (λ arc listed a_in b_in m. free.clear arc a_in b_in m);
+      held s side whole (λ arc listed. free.clear arc);
 }
 
 -- ---- on a plane
@@ -117,4 +111,4 @@ nodes_none_lemma parts core nodes planes g d sound are has g_some at_crossings o
     let free = serves.free in
     let whole = free_keeps_whole parts nodes serves.side d are.each free in
     let held = nodes_on_plane_lemma parts core nodes planes g d sound has g_some at_crossings free.moves on in
-    held serves.side serves.is_side whole (λ arc listed a_in b_in m. free.clear arc a_in b_in m)
+    held serves.side serves.is_side whole (λ arc listed. free.clear arc)

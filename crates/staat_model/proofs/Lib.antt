@@ -1,5 +1,4 @@
 pub mod Flat
-pub mod Spanning
 pub mod WallLaws
 pub mod Members
 pub mod Mixes
@@ -28,6 +27,7 @@ pub mod OneReason
 pub mod PieceFacets
 pub mod Reversed
 pub mod RestrictLemmas
+pub mod SetTests
 pub mod GraphLemmas
 pub mod VertexLemmas
 pub mod CoreLemmas

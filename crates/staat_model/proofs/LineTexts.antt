@@ -18,6 +18,7 @@ use Rattle.staat_model.specs.Lines.{members, members_from, vector_numbers, word_
 use Rattle.staat_model.specs.Sets.{Has, IsSubset, below}
 use Rattle.staat_model.specs.Texts.{HasNoFeed, IsLine}
 use Rattle.staat_model.proofs.Decimals.{IsSmall, natural_length, signed_length, signed_plain, signed_same}
+use Rattle.staat_model.proofs.Members.{cut_once}
 use Rattle.staat_model.proofs.SetBits.{has-below}
 use Rattle.staat_model.proofs.SetMembers.{has-empty, has-insert}
 use Rattle.staat_model.proofs.SetWords.{same_members}
@@ -25,22 +26,7 @@ use Rattle.staat_vec.proofs.Truth.{and_split}
 
 -- there is one way to cut a word from what follows
 pub one_cut : (xs ys p q : List ℕ) → ArePlain xs → ArePlain ys → IsParted p → IsParted q → xs ++ p ≡ ys ++ q → (xs ≡ ys) × (p ≡ q)
-one_cut [] [] p q a b c d e = (refl, e)
-one_cut [] (y ∷ ys) [] q a b c d e = cc
-one_cut [] (y ∷ ys) (n ∷ p) q a b c d e =
-    let same : n ≡ y = cc in
-    let high : 32 < y = All-head (λ b. 32 < b) y ys b in
-    absurd (omega (arith, c))
-one_cut (x ∷ xs) [] p [] a b c d e = cc
-one_cut (x ∷ xs) [] p (n ∷ q) a b c d e =
-    let same : x ≡ n = cc in
-    let high : 32 < x = All-head (λ b. 32 < b) x xs a in
-    absurd (omega (arith, d))
-one_cut (x ∷ xs) (y ∷ ys) p q a b c d e =
-    let first : x ≡ y = cc in
-    let others : xs ++ p ≡ ys ++ q = cc in
-    let rest = one_cut xs ys p q (All-tail (λ b. 32 < b) x xs a) (All-tail (λ b. 32 < b) y ys b) c d others in
-    (λ i. first i ∷ rest.0 i, rest.1)
+one_cut = cut_once (λ b. 32 < b) IsParted (λ b p low high. omega (arith, low, high))
 
 pub parted_spaced : (zs : List ℤ) → IsParted (spaced zs)
 parted_spaced [] = omega arith
@@ -119,18 +105,8 @@ members_again w small = same_members (set_from (map pos (members_from 0 32 w))) 
 
 line_again : (l : Line) → IsInBounds l → line_from (word_of l) (numbers_in l) ≡ l
 unfolding line_from
-line_again (line.Head version) h = refl
-line_again (line.Parts n) h = refl
-line_again line.Plan h = refl
 line_again (line.Stuck w) h = ap line.Stuck (members_again w h.1)
-line_again (line.Leaf p) h = refl
-line_again (line.Split d) h = refl
-line_again (line.Sep sep) h = refl
-line_again (line.Witness k) h = refl
-line_again (line.Out arc) h = refl
-line_again (line.In arc) h = refl
-line_again (line.Dir dir) h = refl
-line_again line.End h = refl
+line_again l h = refl
 
 -- ---- words
 
@@ -139,73 +115,78 @@ all_plain [] e = All-nil (λ b. 32 < b)
 all_plain (b ∷ bs) e = let t = and_split (nat_lt 32 b) (list_all (λ c. nat_lt 32 c) bs) e in All-cons (λ c. 32 < c) b bs (ltb-true 32 b t.0) (all_plain bs t.1)
 
 pub word_plain : (l : Line) → ArePlain (word_of l)
-word_plain (line.Head version) = all_plain (codes "STAAT") refl
-word_plain (line.Parts n) = all_plain (codes "parts") refl
-word_plain line.Plan = all_plain (codes "plan") refl
-word_plain (line.Stuck w) = all_plain (codes "stuck") refl
-word_plain (line.Leaf p) = all_plain (codes "leaf") refl
-word_plain (line.Split d) = all_plain (codes "split") refl
-word_plain (line.Sep sep) = all_plain (codes "sep") refl
-word_plain (line.Witness k) = all_plain (codes "witness") refl
-word_plain (line.Out arc) = all_plain (codes "out") refl
-word_plain (line.In arc) = all_plain (codes "in") refl
-word_plain (line.Dir dir) = all_plain (codes "dir") refl
 word_plain line.End = all_plain (codes "end") refl
+word_plain l = all_plain (word_of l) refl
 
 word_length : (l : Line) → length (word_of l) ≤ 7
-word_length (line.Head version) = omega arith
-word_length (line.Parts n) = omega arith
-word_length line.Plan = omega arith
-word_length (line.Stuck w) = omega arith
-word_length (line.Leaf p) = omega arith
-word_length (line.Split d) = omega arith
-word_length (line.Sep sep) = omega arith
-word_length (line.Witness k) = omega arith
-word_length (line.Out arc) = omega arith
-word_length (line.In arc) = omega arith
-word_length (line.Dir dir) = omega arith
 word_length line.End = omega arith
+word_length l = omega arith
 
 -- ---- numbers
 
-small_cons : (z : ℤ) (zs : List ℤ) → IsSmall z → All IsSmall zs → All IsSmall (z ∷ zs)
-small_cons = All-cons IsSmall
+-- the bytes before the line feed
+abbrev pub bare : List ℤ → List ℕ
+bare [] = []
+bare (z ∷ zs) = 32 ∷ (signed_decimal z ++ bare zs)
 
-small_nil : All IsSmall []
-small_nil = All-nil IsSmall
+pub bare_more : (z : ℤ) (zs : List ℤ) (m n : ℕ) → length (signed_decimal z) ≤ m → length (bare zs) ≤ n → length (bare (z ∷ zs)) ≤ m + n + 1
+bare_more z zs m n h k = omega (arith, length-append (signed_decimal z) (bare zs))
 
-arc_small : (arc : Arc) (zs : List ℤ) → IsArcInBounds arc → All IsSmall zs → All IsSmall (pos arc.a ∷ pos arc.i ∷ pos arc.b ∷ pos arc.j ∷ zs)
-arc_small arc zs h k =
-    small_cons (pos arc.a) (pos arc.i ∷ pos arc.b ∷ pos arc.j ∷ zs) (omega (arith, h.a))
-    (small_cons (pos arc.i) (pos arc.b ∷ pos arc.j ∷ zs) (omega (arith, h.i))
-    (small_cons (pos arc.b) (pos arc.j ∷ zs) (omega (arith, h.b))
-    (small_cons (pos arc.j) zs (omega (arith, h.j)) k)))
+-- numbers that are small, with at most n bytes
+record AreShort (n : ℕ) (zs : List ℤ) : Type 0 where
+  small : All IsSmall zs
+  most : length (bare zs) ≤ n
 
-vector_small : (m : ℕ) (v : V3) (zs : List ℤ) → m < 10 ^ 64 → IsWithin m v → All IsSmall zs → All IsSmall (v.x ∷ v.y ∷ v.z ∷ zs)
-vector_small m v zs l h k = small_cons v.x (v.y ∷ v.z ∷ zs) (omega (arith, h.x)) (small_cons v.y (v.z ∷ zs) (omega (arith, h.y)) (small_cons v.z zs (omega (arith, h.z)) k))
+no_numbers : AreShort 0 []
+no_numbers = record { small = All-nil IsSmall; most = omega arith }
 
-members_small : (n s : ℕ) (w : PartSet) → s + n ≤ 32 → All IsSmall (map pos (members_from s n w))
-members_small zero s w h = small_nil
-members_small (suc n) s w h = go (set.contains w s) (members_small n (suc s) w (omega arith))
+one_more : (k n : ℕ) (z : ℤ) (zs : List ℤ) → IsSmall z → length (signed_decimal z) ≤ k → AreShort n zs → AreShort (k + n + 1) (z ∷ zs)
+one_more k n z zs small few t = record { small = All-cons IsSmall z zs small t.small; most = bare_more z zs k n few t.most }
+
+natural_more : (k n m : ℕ) (zs : List ℤ) → 0 < k → m < 10 ^ k → m < 10 ^ 64 → AreShort n zs → AreShort (k + n + 1) (pos m ∷ zs)
+natural_more k n m zs some h wide t = one_more k n (pos m) zs wide (natural_length k m some h wide) t
+
+arc_more : (n : ℕ) (arc : Arc) (zs : List ℤ) → IsArcInBounds arc → AreShort n zs → AreShort (2 + (2 + (2 + (2 + n + 1) + 1) + 1) + 1) (pos arc.a ∷ pos arc.i ∷ pos arc.b ∷ pos arc.j ∷ zs)
+arc_more n arc zs h t =
+    natural_more 2 _ arc.a _ (omega arith) (omega (arith, h.a)) (omega (arith, h.a))
+    (natural_more 2 _ arc.i _ (omega arith) (omega (arith, h.i)) (omega (arith, h.i))
+    (natural_more 2 _ arc.b _ (omega arith) (omega (arith, h.b)) (omega (arith, h.b))
+    (natural_more 2 n arc.j zs (omega arith) (omega (arith, h.j)) (omega (arith, h.j)) t)))
+
+vector_more : (m k n : ℕ) (v : V3) (zs : List ℤ) → 0 < k → m < 10 ^ k → m < 10 ^ 64 → IsWithin m v → AreShort n zs → AreShort (k + 1 + (k + 1 + (k + 1 + n + 1) + 1) + 1) (v.x ∷ v.y ∷ v.z ∷ zs)
+vector_more m k n v zs some l wide h t =
+    one_more (k + 1) _ v.x _ (omega (arith, h.x)) (signed_length k v.x some (omega (arith, h.x)) (omega (arith, h.x)))
+    (one_more (k + 1) _ v.y _ (omega (arith, h.y)) (signed_length k v.y some (omega (arith, h.y)) (omega (arith, h.y)))
+    (one_more (k + 1) n v.z zs (omega (arith, h.z)) (signed_length k v.z some (omega (arith, h.z)) (omega (arith, h.z))) t))
+
+members_short : (n s : ℕ) (w : PartSet) → s + n ≤ 32 → AreShort (3 * n) (map pos (members_from s n w))
+members_short zero s w h = no_numbers
+members_short (suc n) s w h = go (set.contains w s) (members_short n (suc s) w (omega arith))
   where
-    go : (b : Bool) → All IsSmall (map pos (members_from (suc s) n w)) → All IsSmall (map pos (if b then s ∷ members_from (suc s) n w else members_from (suc s) n w))
-    go true k = small_cons (pos s) _ (omega arith) k
-    go false k = k
+    go : (b : Bool) → AreShort (3 * n) (map pos (members_from (suc s) n w)) → AreShort (3 * suc n) (map pos (if b then s ∷ members_from (suc s) n w else members_from (suc s) n w))
+    go true t = let more = natural_more 2 (3 * n) s _ (omega arith) (omega arith) (omega arith) t in record { small = more.small; most = omega (arith, more.most) }
+    go false t = record { small = t.small; most = omega (arith, t.most) }
 
-pub numbers_small : (l : Line) → IsInBounds l → All IsSmall (numbers_in l)
+-- directions of 25 digits and normals of 12 leave room
+numbers_short : (l : Line) → IsInBounds l → (n : ℕ) × (n ≤ 110) × AreShort n (numbers_in l)
 unfolding members
-numbers_small (line.Head version) h = small_cons (pos version) [] (omega (arith, h.1)) small_nil
-numbers_small (line.Parts n) h = small_cons (pos n) [] (omega (arith, h.1)) small_nil
-numbers_small line.Plan h = small_nil
-numbers_small (line.Stuck w) h = members_small 32 0 w (omega arith)
-numbers_small (line.Leaf p) h = small_cons (pos p) [] (omega arith) small_nil
-numbers_small (line.Split d) h = vector_small DIRECTION d [] (omega arith) h small_nil
-numbers_small (line.Sep sep) h = arc_small sep.arc (vector_numbers sep.n) h.0 (vector_small NORMAL sep.n [] (omega arith) h.1 small_nil)
-numbers_small (line.Witness k) h = small_cons (pos k) [] (omega arith) small_nil
-numbers_small (line.Out arc) h = arc_small arc [] h small_nil
-numbers_small (line.In arc) h = arc_small arc [] h small_nil
-numbers_small (line.Dir dir) h = vector_small DIRECTION dir.d (pos dir.witness ∷ []) (omega arith) h.0 (small_cons (pos dir.witness) [] (omega (arith, h.1)) small_nil)
-numbers_small line.End h = small_nil
+numbers_short (line.Head version) h = (_, omega arith, natural_more 1 0 version [] (omega arith) (omega (arith, h.1)) (omega (arith, h.1)) no_numbers)
+numbers_short (line.Parts n) h = (_, omega arith, natural_more 2 0 n [] (omega arith) (omega (arith, h.1)) (omega (arith, h.1)) no_numbers)
+numbers_short line.Plan h = (0, omega arith, no_numbers)
+numbers_short (line.Stuck w) h = (96, omega arith, members_short 32 0 w (omega arith))
+numbers_short (line.Leaf p) h = (_, omega arith, natural_more 2 0 p [] (omega arith) (omega arith) (omega arith) no_numbers)
+numbers_short (line.Split d) h = (_, omega arith, vector_more DIRECTION 25 0 d [] (omega arith) (omega arith) (omega arith) h no_numbers)
+numbers_short (line.Sep sep) h = (_, omega arith, arc_more _ sep.arc (vector_numbers sep.n) h.0 (vector_more NORMAL 12 0 sep.n [] (omega arith) (omega arith) (omega arith) h.1 no_numbers))
+numbers_short (line.Witness k) h = (_, omega arith, natural_more 8 0 k [] (omega arith) (omega arith) (omega arith) no_numbers)
+numbers_short (line.Out arc) h = (_, omega arith, arc_more 0 arc [] h no_numbers)
+numbers_short (line.In arc) h = (_, omega arith, arc_more 0 arc [] h no_numbers)
+numbers_short (line.Dir dir) h =
+    let number = natural_more 8 0 dir.witness [] (omega arith) (omega (arith, h.1)) (omega (arith, h.1)) no_numbers in
+    (_, omega arith, vector_more DIRECTION 25 _ dir.d (pos dir.witness ∷ []) (omega arith) (omega arith) (omega arith) h.0 number)
+numbers_short line.End h = (0, omega arith, no_numbers)
+
+numbers_small : (l : Line) → IsInBounds l → All IsSmall (numbers_in l)
+numbers_small l h = AreShort.small (numbers_short l h).2
 
 -- no line has the text of another
 pub one_line : (l m : Line) → IsInBounds l → IsInBounds m → line_text l ≡ line_text m → l ≡ m
@@ -215,10 +196,6 @@ one_line l m f g e =
     sym (line_again l f) ∙ (λ i. line_from (cuts.0 i) (same i)) ∙ line_again m g
 
 -- ---- the bytes before the line feed
-
-abbrev pub bare : List ℤ → List ℕ
-bare [] = []
-bare (z ∷ zs) = 32 ∷ (signed_decimal z ++ bare zs)
 
 pub spaced_bare : (zs : List ℤ) → spaced zs ≡ bare zs ++ 10 ∷ []
 spaced_bare [] = refl
@@ -249,51 +226,6 @@ line_whole l h = record { front = line_front l; is = line_is l; no_feed = line_n
 
 -- ---- lengths
 
-pub bare_more : (z : ℤ) (zs : List ℤ) (m n : ℕ) → length (signed_decimal z) ≤ m → length (bare zs) ≤ n → length (bare (z ∷ zs)) ≤ m + n + 1
-bare_more z zs m n h k = omega (arith, length-append (signed_decimal z) (bare zs))
-
-arc_length : (arc : Arc) (zs : List ℤ) (n : ℕ) → IsArcInBounds arc → length (bare zs) ≤ n → length (bare (pos arc.a ∷ pos arc.i ∷ pos arc.b ∷ pos arc.j ∷ zs)) ≤ 12 + n
-arc_length arc zs n h k =
-    let one = bare_more (pos arc.j) zs 2 n (natural_length 2 arc.j (omega arith) (omega (arith, h.j)) (omega (arith, h.j))) k in
-    let two = bare_more (pos arc.b) (pos arc.j ∷ zs) 2 (n + 3) (natural_length 2 arc.b (omega arith) (omega (arith, h.b)) (omega (arith, h.b))) (omega (arith, one)) in
-    let three = bare_more (pos arc.i) (pos arc.b ∷ pos arc.j ∷ zs) 2 (n + 6) (natural_length 2 arc.i (omega arith) (omega (arith, h.i)) (omega (arith, h.i))) (omega (arith, two)) in
-    let four = bare_more (pos arc.a) (pos arc.i ∷ pos arc.b ∷ pos arc.j ∷ zs) 2 (n + 9) (natural_length 2 arc.a (omega arith) (omega (arith, h.a)) (omega (arith, h.a))) (omega (arith, three)) in
-    omega (arith, four)
-
-vector_length : (m k : ℕ) (v : V3) (zs : List ℤ) (n : ℕ) → 0 < k → m < 10 ^ k → m < 10 ^ 64 → IsWithin m v → length (bare zs) ≤ n → length (bare (v.x ∷ v.y ∷ v.z ∷ zs)) ≤ 3 * k + 6 + n
-vector_length m k v zs n some l wide h b =
-    let one = bare_more v.z zs (k + 1) n (signed_length k v.z some (omega (arith, h.z)) (omega (arith, h.z))) b in
-    let two = bare_more v.y (v.z ∷ zs) (k + 1) (k + n + 2) (signed_length k v.y some (omega (arith, h.y)) (omega (arith, h.y))) (omega (arith, one)) in
-    let three = bare_more v.x (v.y ∷ v.z ∷ zs) (k + 1) (k + k + n + 4) (signed_length k v.x some (omega (arith, h.x)) (omega (arith, h.x))) (omega (arith, two)) in
-    omega (arith, three)
-
-members_length : (n s : ℕ) (w : PartSet) → s + n ≤ 32 → length (bare (map pos (members_from s n w))) ≤ 3 * n
-members_length zero s w h = omega arith
-members_length (suc n) s w h = go (set.contains w s) (members_length n (suc s) w (omega arith))
-  where
-    go : (b : Bool) → length (bare (map pos (members_from (suc s) n w))) ≤ 3 * n → length (bare (map pos (if b then s ∷ members_from (suc s) n w else members_from (suc s) n w))) ≤ 3 * suc n
-    go true k = let more = bare_more (pos s) (map pos (members_from (suc s) n w)) 2 (3 * n) (natural_length 2 s (omega arith) (omega arith) (omega arith)) k in omega (arith, more)
-    go false k = omega arith
-
-one_length : (k n : ℕ) → 0 < k → n < 10 ^ k → n < 10 ^ 64 → length (bare (pos n ∷ [])) ≤ k + 1
-one_length k n some h wide = let more = bare_more (pos n) [] k 0 (natural_length k n some h wide) (omega arith) in omega (arith, more)
-
--- directions of 25 digits and normals of 12 leave room
-numbers_length : (l : Line) → IsInBounds l → length (bare (numbers_in l)) ≤ 110
-unfolding members
-numbers_length (line.Head version) h = omega (arith, one_length 1 version (omega arith) (omega (arith, h.1)) (omega (arith, h.1)))
-numbers_length (line.Parts n) h = omega (arith, one_length 2 n (omega arith) (omega (arith, h.1)) (omega (arith, h.1)))
-numbers_length line.Plan h = omega arith
-numbers_length (line.Stuck w) h = omega (arith, members_length 32 0 w (omega arith))
-numbers_length (line.Leaf p) h = omega (arith, one_length 2 p (omega arith) (omega arith) (omega arith))
-numbers_length (line.Split d) h = omega (arith, vector_length DIRECTION 25 d [] 0 (omega arith) (omega arith) (omega arith) h (omega arith))
-numbers_length (line.Sep sep) h = omega (arith, arc_length sep.arc (sep.n.x ∷ sep.n.y ∷ sep.n.z ∷ []) 42 h.0 (omega (arith, vector_length NORMAL 12 sep.n [] 0 (omega arith) (omega arith) (omega arith) h.1 (omega arith))))
-numbers_length (line.Witness k) h = omega (arith, one_length 8 k (omega arith) (omega arith) (omega arith))
-numbers_length (line.Out arc) h = omega (arith, arc_length arc [] 0 h (omega arith))
-numbers_length (line.In arc) h = omega (arith, arc_length arc [] 0 h (omega arith))
-numbers_length (line.Dir dir) h = omega (arith, vector_length DIRECTION 25 dir.d (pos dir.witness ∷ []) 9 (omega arith) (omega arith) (omega arith) h.0 (omega (arith, one_length 8 dir.witness (omega arith) (omega (arith, h.1)) (omega (arith, h.1)))))
-numbers_length line.End h = omega arith
-
 pub line_length : (l : Line) → IsInBounds l → length (line_front l) < 127
 unfolding line_front
-line_length l h = omega (arith, length-append (word_of l) (bare (numbers_in l)), word_length l, numbers_length l h)
+line_length l h = let (n, few, t) = numbers_short l h in omega (arith, length-append (word_of l) (bare (numbers_in l)), word_length l, few, t.most)

@@ -1,12 +1,14 @@
 -- Sums of each number times its vector, and squares of vectors.
-use Rattle.std.proofs.Common.{◌≡◌, ℕ, ◌*◌, ap, ◌∙◌, ℤ, pos, ◌+ℤ◌, ◌*ℤ◌, ◌≤ℤ◌, ◌<ℤ◌, ◌⊎◌, inl, inr, List, [], ◌∷◌, map, arith}
-use Rattle.std.proofs.lemmas.Int.{ints}
+use Rattle.std.proofs.Common.{◌≡◌, ℕ, ◌*◌, ap, ◌∙◌, ℤ, pos, ◌+ℤ◌, ◌*ℤ◌, ◌≤ℤ◌, ◌<ℤ◌, ◌⊎◌, inl, inr, List, [], ◌∷◌, map}
 use Rattle.std.proofs.lemmas.List.Elements.{All-head, All-tail}
 use Rattle.staat_vec.specs.declared.vector.V3.{V3}
-use Rattle.staat_vec.specs.Vectors.{dot, plus, times, origin}
+use Rattle.staat_vec.specs.Vectors.{dot, plus, times, origin, vector_cmp}
 use Rattle.staat_vec.proofs.Ring.{at, num, ◌⊕◌, ◌⊗◌, ring}
-use Rattle.staat_vec.proofs.VecRing.{dotE, plusE, timesE, originE, values, v0, v1, v2, scale, same_vector, ring3}
-use Rattle.staat_vec.proofs.Order.{nonneg_is, nonneg_mul, nonneg_pos, nonneg_sum, square_nonneg, square_sign}
+use Rattle.staat_vec.proofs.VecRing.{dotE, plusE, timesE, originE, values, v0, v1, v2, scale, ring3}
+use Rattle.staat_vec.proofs.Order.{nonneg_is, nonneg_mul, nonneg_pos, nonneg_sum}
+use Rattle.staat_vec.proofs.VectorLaws.{some_square}
+use Rattle.staat_vec.proofs.VectorOrder.{vector_exact, vector_total}
+use Rattle.staat_model.proofs.Decisions.{equal_or}
 use Rattle.staat_model.specs.Meeting.{mix}
 use Rattle.staat_model.specs.Cones.{IsAbove}
 
@@ -36,21 +38,6 @@ mix_above x (c ∷ cs) (v ∷ vs) h =
     (nonneg_mul (pos c) (dot v x) (nonneg_pos c) (All-head (λ v. pos 0 ≤ℤ dot v x) v vs h))
     (mix_above x cs vs (All-tail (λ v. pos 0 ≤ℤ dot v x) v vs h))
 
-positive_first : (p q r : ℤ) → pos 0 <ℤ p → pos 0 ≤ℤ q → pos 0 ≤ℤ r → pos 0 <ℤ ((p +ℤ q) +ℤ r)
-positive_first p q r h i j = omega (arith, ints)
-
-positive_second : (p q r : ℤ) → pos 0 ≤ℤ p → pos 0 <ℤ q → pos 0 ≤ℤ r → pos 0 <ℤ ((p +ℤ q) +ℤ r)
-positive_second p q r h i j = omega (arith, ints)
-
-positive_third : (p q r : ℤ) → pos 0 ≤ℤ p → pos 0 ≤ℤ q → pos 0 <ℤ r → pos 0 <ℤ ((p +ℤ q) +ℤ r)
-positive_third p q r h i j = omega (arith, ints)
-
 -- a vector is zero, or its square is positive
 pub square_vector : (h : V3) → (h ≡ origin) ⊎ (pos 0 <ℤ dot h h)
-square_vector h = pick (square_sign h.x) (square_sign h.y) (square_sign h.z)
-  where
-    pick : (h.x ≡ pos 0) ⊎ (pos 0 <ℤ (h.x *ℤ h.x)) → (h.y ≡ pos 0) ⊎ (pos 0 <ℤ (h.y *ℤ h.y)) → (h.z ≡ pos 0) ⊎ (pos 0 <ℤ (h.z *ℤ h.z)) → (h ≡ origin) ⊎ (pos 0 <ℤ dot h h)
-    pick (inl a) (inl b) (inl c) = inl (same_vector h origin a b c)
-    pick (inr a) q r = inr (positive_first (h.x *ℤ h.x) (h.y *ℤ h.y) (h.z *ℤ h.z) a (square_nonneg h.y) (square_nonneg h.z))
-    pick (inl a) (inr b) r = inr (positive_second (h.x *ℤ h.x) (h.y *ℤ h.y) (h.z *ℤ h.z) (square_nonneg h.x) b (square_nonneg h.z))
-    pick (inl a) (inl b) (inr c) = inr (positive_third (h.x *ℤ h.x) (h.y *ℤ h.y) (h.z *ℤ h.z) (square_nonneg h.x) (square_nonneg h.y) c)
+square_vector h = elim (equal_or vector_cmp vector_total vector_exact h origin) [ inl e ↦ inl e | inr some ↦ inr (some_square h some) ]

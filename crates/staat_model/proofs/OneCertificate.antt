@@ -2,7 +2,7 @@
 use Rattle.std.proofs.Common.{◌≡◌, ℕ, ◌≤◌, List, [], ◌∷◌, map, length, All, arith, ap, sym, ◌∙◌, subst, refl}
 use Rattle.std.proofs.lemmas.List.{length-map}
 use Rattle.std.specs.Prelude.{Some, slice_get}
-use Rattle.std.proofs.lemmas.List.Elements.{All-contains, All-head, All-tail}
+use Rattle.std.proofs.lemmas.List.Elements.{All-contains}
 use Rattle.std.specs.FinSet as set
 use Rattle.staat_vec.specs.declared.vector.V3.{V3}
 use Rattle.staat_vec.specs.Vectors.{vector_cmp}
@@ -26,6 +26,7 @@ use Rattle.staat_model.specs.Plans.{Plan, parts_of}
 use Rattle.staat_model.specs.Removal.{Blocks, MeetsAlong}
 use Rattle.staat_model.specs.Sets.{Has, single}
 use Rattle.staat_model.proofs.FirstUse.{StandForSame, same_numbers, same_values}
+use Rattle.staat_model.proofs.Members.{known_by}
 use Rattle.staat_model.proofs.OneTable.{ArePlanes-unique}
 use Rattle.staat_vec.proofs.VectorOrder.{vector_exact, vector_total}
 use Rattle.staat_model.proofs.Orders.{arc_exact, arc_total}
@@ -35,22 +36,14 @@ use Rattle.staat_vec.proofs.ListLaws.{place_in_map, map_at_place}
 
 -- ---- plans
 
-walls_from_arcs : (parts : List Part) (d : V3) (xs ys : List Sep) → map (λ sep. sep.arc) xs ≡ map (λ sep. sep.arc) ys
-    → All (λ sep. IsLeast vector_cmp (IsFacetAway parts d sep.arc) sep.n) xs → All (λ sep. IsLeast vector_cmp (IsFacetAway parts d sep.arc) sep.n) ys → xs ≡ ys
-walls_from_arcs parts d [] [] e f g = refl
-walls_from_arcs parts d [] (y ∷ ys) e f g = absurd cc
-walls_from_arcs parts d (x ∷ xs) [] e f g = absurd cc
-walls_from_arcs parts d (x ∷ xs) (y ∷ ys) e f g =
-    let Least : Sep → Type 0 = λ sep. IsLeast vector_cmp (IsFacetAway parts d sep.arc) sep.n in
-    let heads : x.arc ≡ y.arc = cc in
-    let tails : map (λ sep. sep.arc) xs ≡ map (λ sep. sep.arc) ys = cc in
-    let normals : x.n ≡ y.n = IsLeast-unique vector_cmp vector_total vector_exact (IsFacetAway parts d y.arc) x.n y.n (subst (λ (a : Arc). IsLeast vector_cmp (IsFacetAway parts d a) x.n) heads (All-head Least x xs f)) (All-head Least y ys g) in
-    let rest : xs ≡ ys = walls_from_arcs parts d xs ys tails (All-tail Least x xs f) (All-tail Least y ys g) in
-    λ i. record { arc = heads i; n = normals i } ∷ rest i
-
 walls_unique : (parts : List Part) (s r : PartSet) (d : V3) (xs ys : List Sep) → AreLeastWalls parts s r d xs → AreLeastWalls parts s r d ys → xs ≡ ys
 walls_unique parts s r d xs ys a b =
-    walls_from_arcs parts d xs ys (Lists-unique arc_cmp arc_total arc_exact (IsAcross parts s r) (map (λ sep. sep.arc) xs) (map (λ sep. sep.arc) ys) a.arcs b.arcs) a.least b.least
+    known_by (λ sep. sep.arc) (λ sep. IsLeast vector_cmp (IsFacetAway parts d sep.arc) sep.n)
+    (λ x y arcs f g i. record {
+      arc = arcs i;
+      n = IsLeast-unique vector_cmp vector_total vector_exact (IsFacetAway parts d y.arc) x.n y.n (subst (λ (a : Arc). IsLeast vector_cmp (IsFacetAway parts d a) x.n) arcs f) g i;
+    })
+    xs ys (Lists-unique arc_cmp arc_total arc_exact (IsAcross parts s r) (map (λ sep. sep.arc) xs) (map (λ sep. sep.arc) ys) a.arcs b.arcs) a.least b.least
 
 walled_unique : (parts : List Part) (t u : WalledPlan) → unwalled t ≡ unwalled u → HasLeastWalls parts t → HasLeastWalls parts u → t ≡ u
 walled_unique parts (walled_leaf p) (walled_leaf q) e f g = let same : p ≡ q = cc in ap walled_leaf same
@@ -99,27 +92,12 @@ least_arc_unique parts d x y ea eb f g = IsLeast-unique arc_cmp arc_total arc_ex
   least = λ z h. g.least z (h.0 ∙ ea, h.1 ∙ eb, h.2);
 })
 
-outs_unique : (parts : List Part) (d : V3) (xs ys : List Arc) → map outward xs ≡ map outward ys → All (IsLeastArc parts d) xs → All (IsLeastArc parts d) ys → xs ≡ ys
-outs_unique parts d [] [] e f g = refl
-outs_unique parts d [] (y ∷ ys) e f g = absurd cc
-outs_unique parts d (x ∷ xs) [] e f g = absurd cc
-outs_unique parts d (x ∷ xs) (y ∷ ys) e f g =
-    let heads : outward x ≡ outward y = cc in
-    let tails : map outward xs ≡ map outward ys = cc in
-    let front : x ≡ y = least_arc_unique parts d x y (ap (λ (p : ℕ × ℕ). p.0) heads) (ap (λ (p : ℕ × ℕ). p.1) heads) (All-head (IsLeastArc parts d) x xs f) (All-head (IsLeastArc parts d) y ys g) in
-    let rest : xs ≡ ys = outs_unique parts d xs ys tails (All-tail (IsLeastArc parts d) x xs f) (All-tail (IsLeastArc parts d) y ys g) in
-    λ i. front i ∷ rest i
-
-ins_unique : (parts : List Part) (d : V3) (xs ys : List Arc) → map inward xs ≡ map inward ys → All (IsLeastArc parts d) xs → All (IsLeastArc parts d) ys → xs ≡ ys
-ins_unique parts d [] [] e f g = refl
-ins_unique parts d [] (y ∷ ys) e f g = absurd cc
-ins_unique parts d (x ∷ xs) [] e f g = absurd cc
-ins_unique parts d (x ∷ xs) (y ∷ ys) e f g =
-    let heads : inward x ≡ inward y = cc in
-    let tails : map inward xs ≡ map inward ys = cc in
-    let front : x ≡ y = least_arc_unique parts d x y (ap (λ (p : ℕ × ℕ). p.1) heads) (ap (λ (p : ℕ × ℕ). p.0) heads) (All-head (IsLeastArc parts d) x xs f) (All-head (IsLeastArc parts d) y ys g) in
-    let rest : xs ≡ ys = ins_unique parts d xs ys tails (All-tail (IsLeastArc parts d) x xs f) (All-tail (IsLeastArc parts d) y ys g) in
-    λ i. front i ∷ rest i
+-- the arcs of a tree are known by the parts that they join
+arcs_unique : (parts : List Part) (w : PartSet) (d : V3) (R : ℕ → ℕ → Type 0) (step : Arc → ℕ × ℕ) → ((x y : Arc) → step x ≡ step y → (x.a ≡ y.a) × (x.b ≡ y.b))
+    → (reached : PartSet) (xs ys : List Arc)
+    → IsTree R w reached (map step xs) → IsTree R w reached (map step ys) → All (IsLeastArc parts d) xs → All (IsLeastArc parts d) ys → xs ≡ ys
+arcs_unique parts w d R step joins reached xs ys a b =
+    known_by step (IsLeastArc parts d) (λ x y e. least_arc_unique parts d x y (joins x y e).0 (joins x y e).1) xs ys (tree_unique R w reached (map step xs) (map step ys) a b)
 
 -- ---- refusals
 
@@ -128,8 +106,10 @@ witness_unique parts w d x y a b =
     let low : a.root ≤ b.root = a.root_is.least b.root b.root_is.has in
     let high : b.root ≤ a.root = b.root_is.least a.root a.root_is.has in
     let roots : a.root ≡ b.root = omega arith in
-    let outs : x.outs ≡ y.outs = outs_unique parts d x.outs y.outs (tree_unique (Blocks parts d) w (single b.root) (map outward x.outs) (map outward y.outs) (subst (λ (r : ℕ). IsTree (Blocks parts d) w (single r) (map outward x.outs)) roots a.outs) b.outs) a.outs_least b.outs_least in
-    let ins : x.ins ≡ y.ins = ins_unique parts d x.ins y.ins (tree_unique (λ p q. Blocks parts d q p) w (single b.root) (map inward x.ins) (map inward y.ins) (subst (λ (r : ℕ). IsTree (λ p q. Blocks parts d q p) w (single r) (map inward x.ins)) roots a.ins) b.ins) a.ins_least b.ins_least in
+    let outs : x.outs ≡ y.outs = arcs_unique parts w d (Blocks parts d) outward (λ x y e. (ap (λ (p : ℕ × ℕ). p.0) e, ap (λ (p : ℕ × ℕ). p.1) e)) (single b.root) x.outs y.outs
+    (subst (λ (r : ℕ). IsTree (Blocks parts d) w (single r) (map outward x.outs)) roots a.outs) b.outs a.outs_least b.outs_least in
+    let ins : x.ins ≡ y.ins = arcs_unique parts w d (λ p q. Blocks parts d q p) inward (λ x y e. (ap (λ (p : ℕ × ℕ). p.1) e, ap (λ (p : ℕ × ℕ). p.0) e)) (single b.root) x.ins y.ins
+    (subst (λ (r : ℕ). IsTree (λ p q. Blocks parts d q p) w (single r) (map inward x.ins)) roots a.ins) b.ins a.ins_least b.ins_least in
     λ i. record { outs = outs i; ins = ins i }
 
 dirs_same : (xs ys : List Dir) → map (λ dir. dir.d) xs ≡ map (λ dir. dir.d) ys → map (λ dir. dir.witness) xs ≡ map (λ dir. dir.witness) ys → xs ≡ ys

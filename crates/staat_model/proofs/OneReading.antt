@@ -2,13 +2,14 @@
 use Rattle.std.proofs.Common.{◌≡◌, ◌≢◌, ◌⊎◌, ℕ, suc, ◌+◌, ◌<◌, List, [], ◌∷◌, ◌++◌, map, length, All, ap, sym, subst, refl, ◌∙◌, arith, inl, inr, append_assoc, append-nil}
 use Rattle.std.specs.Prelude.{flat_map}
 use Rattle.std.proofs.lemmas.Grind.{flat_map-append}
-use Rattle.std.proofs.lemmas.List.Elements.{All-cons, All-head, All-tail}
+use Rattle.std.proofs.lemmas.List.Elements.{All-head, All-tail}
 use Rattle.staat_model.specs.declared.certificate.Certificate.{Certificate}
 use Rattle.staat_model.specs.declared.line.Line.{Line}
 use Rattle.staat_model.specs.Lines.{IsInBounds, line_text}
 use Rattle.staat_model.specs.Texts.{lines_of, text_of, IsTextOf, IsWellFormed, BeginsText, HasNoFeed, IsLine, joined, IsBadAfter, IsFirstBadLine, Reading, whole, bad_line, too_short, IsReading}
 use Rattle.staat_model.proofs.CertificateLines.{lines_end, one_by_lines}
-use Rattle.staat_model.proofs.LineTexts.{line_front, line_is, line_length, line_whole, one_line}
+use Rattle.staat_model.proofs.LineTexts.{line_front, line_is, line_length, line_whole, one_line, tails_of}
+use Rattle.staat_model.proofs.Members.{all_back, all_front, cut_once}
 use Rattle.staat_vec.proofs.ListLaws.{long_not_nil}
 
 abbrev pub text : List Line → List ℕ
@@ -18,14 +19,12 @@ text ls = flat_map line_text ls
 
 -- the bytes before the first line feed are the only ones
 pub first_line : (xs ys p q : List ℕ) → HasNoFeed xs → HasNoFeed ys → xs ++ 10 ∷ p ≡ ys ++ 10 ∷ q → (xs ≡ ys) × (p ≡ q)
-first_line [] [] p q a b e = let rest : p ≡ q = cc in (refl, rest)
-first_line [] (y ∷ ys) p q a b e = absurd (All-head (λ b. b ≢ 10) y ys b (let same : 10 ≡ y = cc in sym same))
-first_line (x ∷ xs) [] p q a b e = absurd (All-head (λ b. b ≢ 10) x xs a (let same : x ≡ 10 = cc in same))
-first_line (x ∷ xs) (y ∷ ys) p q a b e =
-    let first : x ≡ y = cc in
-    let others : xs ++ 10 ∷ p ≡ ys ++ 10 ∷ q = cc in
-    let rest = first_line xs ys p q (All-tail (λ b. b ≢ 10) x xs a) (All-tail (λ b. b ≢ 10) y ys b) others in
-    (λ i. first i ∷ rest.0 i, rest.1)
+first_line xs ys p q a b e =
+    let cuts = cut_once (λ b. b ≢ 10) (λ l. (t : List ℕ) × (l ≡ 10 ∷ t)) (λ b t feed other. other (let same : b ≡ 10 = first_of feed.1 in same)) xs ys (10 ∷ p) (10 ∷ q) a b (p, refl) (q, refl) e in
+    (cuts.0, tails_of 10 p q cuts.1)
+  where
+    first_of : {b : ℕ} {t u : List ℕ} → b ∷ t ≡ 10 ∷ u → b ≡ 10
+    first_of h = cc
 
 pub with_feed : (front p : List ℕ) → (front ++ 10 ∷ []) ++ p ≡ front ++ 10 ∷ p
 with_feed front p = append_assoc front (10 ∷ []) p
@@ -70,12 +69,13 @@ goes_more l m few many ahead rest e g = record { back = g.back; is = λ i. sym e
 pub nested : (xs ys : List Line) (p q : List ℕ) → All IsInBounds xs → All IsInBounds ys → text xs ++ p ≡ text ys ++ q → GoesOn xs ys p q ⊎ GoesOn ys xs q p
 nested [] ys p q a b e = inl (record { back = ys; is = refl; ahead_is = e })
 nested (x ∷ xs) [] p q a b e = inr (record { back = x ∷ xs; is = refl; ahead_is = sym e })
-nested (x ∷ xs) (y ∷ ys) p q a b e = go (λ k. nested xs ys p q (All-tail IsInBounds x xs a) (All-tail IsInBounds y ys b) k)
-  where
-    go : (text xs ++ p ≡ text ys ++ q → GoesOn xs ys p q ⊎ GoesOn ys xs q p) → GoesOn (x ∷ xs) (y ∷ ys) p q ⊎ GoesOn (y ∷ ys) (x ∷ xs) q p
-    go rest =
-        let once = cut_line x y (text xs ++ p) (text ys ++ q) (All-head IsInBounds x xs a) (All-head IsInBounds y ys b) (sym (append_assoc (line_text x) (text xs) p) ∙ e ∙ append_assoc (line_text y) (text ys) q) in
-        elim (rest once.1) [ inl g ↦ inl (goes_more x y xs ys p q once.0 g) | inr g ↦ inr (goes_more y x ys xs q p (sym once.0) g) ]
+nested (x ∷ xs) (y ∷ ys) p q a b e =
+    let once = cut_line x y (text xs ++ p) (text ys ++ q) (All-head IsInBounds x xs a) (All-head IsInBounds y ys b)
+    (sym (append_assoc (line_text x) (text xs) p) ∙ e ∙ append_assoc (line_text y) (text ys) q) in
+    elim (nested xs ys p q (All-tail IsInBounds x xs a) (All-tail IsInBounds y ys b) once.1) [
+      | inl g ↦ inl (goes_more x y xs ys p q once.0 g)
+      | inr g ↦ inr (goes_more y x ys xs q p (sym once.0) g)
+    ]
 
 pub text_some : (l : Line) (ls : List Line) (p : List ℕ) → IsInBounds l → [] ≡ text (l ∷ ls) ++ p → ⊥
 text_some l ls p f e = line_some (line_text l) (text ls ++ p) (line_whole l f) (sym (append_assoc (line_text l) (text ls) p) ∙ sym e)
@@ -108,12 +108,9 @@ lines_more l ls m ms e f = record { front = m ∷ f.front; back = f.back; is = a
 pub begin_lines : (ls : List (List ℕ)) (ms : List Line) (more : List ℕ) → All IsLine ls → All IsInBounds ms → joined ls ++ more ≡ text ms → AreLines ls ms
 begin_lines [] ms more a b e = record { front = []; back = ms; is = refl; lines = refl }
 begin_lines (l ∷ ls) [] more a b e = absurd (line_some l (joined ls ++ more) (All-head IsLine l ls a) (sym (append_assoc l (joined ls) more) ∙ e))
-begin_lines (l ∷ ls) (m ∷ ms) more a b e = go (λ k. begin_lines ls ms more (All-tail IsLine l ls a) (All-tail IsInBounds m ms b) k)
-  where
-    go : (joined ls ++ more ≡ text ms → AreLines ls ms) → AreLines (l ∷ ls) (m ∷ ms)
-    go rest =
-        let once = lines_once l (line_text m) (joined ls ++ more) (text ms) (All-head IsLine l ls a) (line_whole m (All-head IsInBounds m ms b)) (sym (append_assoc l (joined ls) more) ∙ e) in
-        lines_more l ls m ms once.0 (rest once.1)
+begin_lines (l ∷ ls) (m ∷ ms) more a b e =
+    let once = lines_once l (line_text m) (joined ls ++ more) (text ms) (All-head IsLine l ls a) (line_whole m (All-head IsInBounds m ms b)) (sym (append_assoc l (joined ls) more) ∙ e) in
+    lines_more l ls m ms once.0 (begin_lines ls ms more (All-tail IsLine l ls a) (All-tail IsInBounds m ms b) once.1)
 
 pub begun : (ls : List (List ℕ)) → All IsLine ls → (h : BeginsText (joined ls)) → AreLines ls (lines_of h.certificate)
 begun ls a h = begin_lines ls (lines_of h.certificate) h.more a h.form.lines (sym h.is)
@@ -126,18 +123,10 @@ pub texts_count : (ls : List Line) → length (map line_text ls) ≡ length ls
 texts_count [] = refl
 texts_count (l ∷ ls) = ap suc (texts_count ls)
 
-pub front_in_bounds : (xs ys : List Line) → All IsInBounds (xs ++ ys) → All IsInBounds xs
-front_in_bounds [] ys h = λ k d lt. absurd (omega arith)
-front_in_bounds (x ∷ xs) ys h = All-cons IsInBounds x xs (All-head IsInBounds x (xs ++ ys) h) (front_in_bounds xs ys (All-tail IsInBounds x (xs ++ ys) h))
-
-pub one_in_bounds : (xs : List Line) (y : Line) (ys : List Line) → All IsInBounds (xs ++ y ∷ ys) → IsInBounds y
-one_in_bounds [] y ys h = All-head IsInBounds y ys h
-one_in_bounds (x ∷ xs) y ys h = one_in_bounds xs y ys (All-tail IsInBounds x (xs ++ y ∷ ys) h)
-
 -- where a certificate has the line l after these, and the bytes ahead begin with it, no bad line follows
 pub not_bad : (c : Certificate) (few : List Line) (l : Line) (back : List Line) (ahead rest : List ℕ) → IsWellFormed c → lines_of c ≡ few ++ l ∷ back → ahead ≡ line_text l ++ rest → IsBadAfter (text few) ahead → ⊥
 not_bad c few l back ahead rest form is a (inl w) =
-    let fits : IsInBounds l = one_in_bounds few l back (subst (All IsInBounds) is form.lines) in
+    let fits : IsInBounds l = All-head IsInBounds l back (all_back IsInBounds few (l ∷ back) (subst (All IsInBounds) is form.lines)) in
     let once = lines_once w.line (line_text l) w.rest rest w.whole (line_whole l fits) (sym w.is ∙ a) in
     w.wrong (record {
       certificate = c;
@@ -146,10 +135,11 @@ not_bad c few l back ahead rest form is a (inl w) =
       is = ap text is ∙ flat_map-append line_text few (l ∷ back) ∙ ap (λ t. text few ++ (t ++ text back)) (sym once.0) ∙ sym (append_assoc (text few) w.line (text back));
     })
 not_bad c few l back ahead rest form is a (inr (inl long)) =
-    let fits : IsInBounds l = one_in_bounds few l back (subst (All IsInBounds) is form.lines) in
+    let fits : IsInBounds l = All-head IsInBounds l back (all_back IsInBounds few (l ∷ back) (subst (All IsInBounds) is form.lines)) in
     no_feed_stops long.line (line_front l) long.rest rest long.no_feed (omega (arith, line_length l fits, long.long)) (sym long.is ∙ a ∙ ap (λ t. t ++ rest) (line_is l) ∙ with_feed (line_front l) rest)
 not_bad c few l back ahead rest form is a (inr (inr more)) =
-    let same : few ≡ lines_of more.certificate = lines_by_text few (lines_of more.certificate) (front_in_bounds few (l ∷ back) (subst (All IsInBounds) is form.lines)) more.whole.form.lines more.whole.is in
+    let same : few ≡ lines_of more.certificate = lines_by_text few (lines_of more.certificate)
+    (all_front IsInBounds few (l ∷ back) (subst (All IsInBounds) is form.lines)) more.whole.form.lines more.whole.is in
     lines_end more.certificate c l back (is ∙ ap (λ ls. ls ++ l ∷ back) same)
 
 -- what a first bad line says of the lines before it
@@ -181,7 +171,7 @@ before bytes k h =
     }
 
 pub front_bounds : (bytes : List ℕ) (k : ℕ) (b : Before bytes k) → All IsInBounds b.front
-front_bounds bytes k b = front_in_bounds b.front b.back (subst (All IsInBounds) b.is b.form.lines)
+front_bounds bytes k b = all_front IsInBounds b.front b.back (subst (All IsInBounds) b.is b.form.lines)
 
 -- a bad line after fewer lines of the same bytes
 earlier : (few many back : List Line) (c : Certificate) (behind : List Line) (ahead rest : List ℕ) → IsWellFormed c → lines_of c ≡ many ++ behind → IsBadAfter (text few) ahead → many ≡ few ++ back → ahead ≡ text back ++ rest → length few ≡ length many

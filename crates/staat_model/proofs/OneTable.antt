@@ -1,6 +1,5 @@
 -- There is one plane table, one list of cells, and one list of directions to try.
-use Rattle.std.proofs.Common.{◌≡◌, ◌≢◌, Bool, true, false, List, [], ◌∷◌, ◌++◌, map, All, Contains, ap, sym, ◌∙◌, subst, refl}
-use Rattle.std.proofs.lemmas.List.Elements.{All-head, All-tail}
+use Rattle.std.proofs.Common.{◌≡◌, ◌≢◌, Bool, true, false, List, [], ◌∷◌, ◌++◌, map, Contains, ap, sym, ◌∙◌, subst}
 use Rattle.staat_vec.specs.declared.vector.V3.{V3}
 use Rattle.staat_vec.specs.declared.vector.Sign.{Sign}
 use Rattle.staat_vec.specs.Vectors.{plus, vector_cmp}
@@ -13,6 +12,7 @@ use Rattle.staat_model.specs.Planes.{ArePlanes, IsFacetPlane, axes, vertices}
 use Rattle.staat_model.specs.Cells.{signs_of, signs_cmp, kind_of, IsCell, IsEnd, IsEdgeSum, IsBorderEdge, IsOpenSum, IsRepresentative, CellEntry, IsEntry, AreCellsOf}
 use Rattle.staat_model.specs.Outcomes.{Try, try_vertex, try_cell, AreTries}
 use Rattle.staat_vec.proofs.VectorOrder.{vector_total, vector_exact}
+use Rattle.staat_model.proofs.Members.{known_by}
 use Rattle.staat_model.proofs.Orders.{signs_total, signs_exact}
 use Rattle.staat_vec.proofs.Unique.{IsFirst-unique, IsLeast-unique, Lists-unique}
 
@@ -44,21 +44,10 @@ entry_unique planes kind c e same a b =
     let ds : c.d ≡ e.d = representative_unique kind planes e.signs c.d e.d (subst (λ s. IsRepresentative kind planes s c.d) same a.representative) b.representative in
     λ i. record { kind = kinds i; d = ds i; signs = same i }
 
--- entries of one kind are known by their signs
-seen : (planes : List V3) (kind : Kind) (xs ys : List CellEntry) → All (IsEntry planes kind) xs → All (IsEntry planes kind) ys → map (λ c. c.signs) xs ≡ map (λ c. c.signs) ys → xs ≡ ys
-seen planes kind [] [] f g e = refl
-seen planes kind [] (y ∷ ys) f g e = absurd cc
-seen planes kind (x ∷ xs) [] f g e = absurd cc
-seen planes kind (x ∷ xs) (y ∷ ys) f g e =
-    let heads : x.signs ≡ y.signs = cc in
-    let tails : map (λ c. c.signs) xs ≡ map (λ c. c.signs) ys = cc in
-    let front : x ≡ y = entry_unique planes kind x y heads (All-head (IsEntry planes kind) x xs f) (All-head (IsEntry planes kind) y ys g) in
-    let rest : xs ≡ ys = seen planes kind xs ys (All-tail (IsEntry planes kind) x xs f) (All-tail (IsEntry planes kind) y ys g) tails in
-    λ i. front i ∷ rest i
-
 pub AreCellsOf-unique : (planes : List V3) (kind : Kind) (xs ys : List CellEntry) → AreCellsOf planes kind xs → AreCellsOf planes kind ys → xs ≡ ys
 AreCellsOf-unique planes kind xs ys a b =
-    seen planes kind xs ys a.each b.each (Lists-unique signs_cmp signs_total signs_exact (λ s. IsCell planes s × (kind_of s ≡ kind)) (map (λ c. c.signs) xs) (map (λ c. c.signs) ys) a.signs b.signs)
+    known_by (λ c. c.signs) (IsEntry planes kind) (entry_unique planes kind) xs ys
+    (Lists-unique signs_cmp signs_total signs_exact (λ s. IsCell planes s × (kind_of s ≡ kind)) (map (λ c. c.signs) xs) (map (λ c. c.signs) ys) a.signs b.signs) a.each b.each
 
 pub tries_unique : (robust : Bool) (parts : List Part) (w : PartSet) (xs ys : List Try) → AreTries robust parts w xs → AreTries robust parts w ys → xs ≡ ys
 tries_unique false parts w xs ys a b = a.is ∙ ap (λ ps. map try_vertex (vertices ps)) (ArePlanes-unique parts w a.planes b.planes a.planes_are b.planes_are) ∙ sym b.is

@@ -28,14 +28,9 @@ arc_exact p q e =
 
 sign_exact : IsAntisymmetric (λ (s t : Sign). nat_cmp (sign_place s) (sign_place t))
 sign_exact Neg Neg e = refl
-sign_exact Neg Zero e = absurd cc
-sign_exact Neg Pos e = absurd cc
-sign_exact Zero Neg e = absurd cc
 sign_exact Zero Zero e = refl
-sign_exact Zero Pos e = absurd cc
-sign_exact Pos Neg e = absurd cc
-sign_exact Pos Zero e = absurd cc
 sign_exact Pos Pos e = refl
+sign_exact s t e = absurd cc
 
 pub signs_total : IsTotalOrder signs_cmp
 signs_total = lists_total (on_total sign_place nat_cmp_total)

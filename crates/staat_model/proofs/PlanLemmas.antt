@@ -1,5 +1,5 @@
 -- A plan that keeps its rules is right: it takes all parts apart, and no interiors ever meet.
-use Rattle.std.proofs.Common.{◌≡◌, ℕ, zero, suc, ◌<◌, refl, sym, ap, subst, ◌∙◌, arith, ◌⊎◌, inl, inr, ⊎_elim, List, [], ◌∷◌, ◌++◌, length}
+use Rattle.std.proofs.Common.{◌≡◌, ℕ, zero, suc, ◌+◌, ◌<◌, refl, sym, ap, subst, ◌∙◌, arith, ◌⊎◌, inl, inr, ⊎_elim, List, [], ◌∷◌, ◌++◌, length}
 use Rattle.std.specs.Prelude.{Some, slice_get, option_map, unwrap_or, option_and_then}
 use Rattle.std.proofs.lemmas.Option.{option_and_then_some, same_Some, slice_get_within}
 use Rattle.std.proofs.lemmas.List.Elements.{All-contains}
@@ -27,37 +27,20 @@ use Rattle.std.proofs.Common.{None, Option}
 
 -- ---- places in a list that is put together
 
--- the place in xs ++ ys of place k in ys
-after : {X : Type 0} → List X → ℕ → ℕ
-after [] k = k
-after (x ∷ xs) k = suc (after xs k)
+get_behind : {X : Type 0} (xs ys : List X) (k m : ℕ) (x : X) → m ≡ length xs + k → slice_get ys k ≡ Some x → slice_get (xs ++ ys) m ≡ Some x
+get_behind [] ys k m x p e = subst (λ j. slice_get ys j ≡ Some x) (let same : k ≡ m = omega (arith, p) in same) e
+get_behind (y ∷ xs) ys k zero x p e = absurd (omega (arith, p))
+get_behind (y ∷ xs) ys k (suc m) x p e = get_behind xs ys k m x (omega (arith, p)) e
 
-after_same : {X : Type 0} (xs : List X) (k m : ℕ) → after xs k ≡ after xs m → k ≡ m
-unfolding after
-after_same [] k m e = e
-after_same (x ∷ xs) k m e = after_same xs k m (omega (arith, e))
-
-get_right : {X : Type 0} (xs ys : List X) (k : ℕ) (x : X) → slice_get ys k ≡ Some x → slice_get (xs ++ ys) (after xs k) ≡ Some x
-unfolding after
-get_right [] ys k x e = e
-get_right (y ∷ xs) ys k x e = get_right xs ys k x e
-
--- the two are different places
-left_not_right : {X : Type 0} (xs : List X) (k m : ℕ) (x : X) → slice_get xs k ≡ Some x → k ≡ after xs m → ⊥
-unfolding after
-left_not_right [] k m x e p = cc
-left_not_right (y ∷ xs) zero m x e p = omega (arith, p)
-left_not_right (y ∷ xs) (suc k) m x e p = left_not_right xs k m x e (omega (arith, p))
-
-get_either : {X : Type 0} (xs ys : List X) (k : ℕ) (x : X) → slice_get (xs ++ ys) k ≡ Some x → ((i : ℕ) × (slice_get xs i ≡ Some x)) ⊎ ((i : ℕ) × (slice_get ys i ≡ Some x))
-get_either [] ys k x e = inr (k, e)
-get_either (y ∷ xs) ys zero x e = inl (0, e)
-get_either (y ∷ xs) ys (suc k) x e = ⊎_elim (λ (i, p). inl (suc i, p)) (λ h. inr h) (get_either xs ys k x e)
+pub place_cases : {X : Type 0} (xs ys : List X) (k : ℕ) (x : X) → slice_get (xs ++ ys) k ≡ Some x → (slice_get xs k ≡ Some x) ⊎ ((i : ℕ) × (k ≡ length xs + i) × (slice_get ys i ≡ Some x))
+place_cases [] ys k x e = inr (k, omega arith, e)
+place_cases (y ∷ xs) ys zero x e = inl e
+place_cases (y ∷ xs) ys (suc k) x e = ⊎_elim (λ h. inl h) (λ (i, n, h). inr (i, omega (arith, n), h)) (place_cases xs ys k x e)
 
 -- ---- the leaves of a plan
 
 -- each part stands at one leaf at most
-Once : List Node → Type 0
+abbrev Once : List Node → Type 0
 Once nodes = (k m p : ℕ) → IsLeafAt nodes k p → IsLeafAt nodes m p → k ≡ m
 
 pub no_leaf : (d : V3) (seps : List Sep) (p : ℕ) → Some (Split d seps) ≡ Some (Leaf p) → ⊥
@@ -73,14 +56,14 @@ leaf_has (walled_leaf q) (suc k) p e = cc
 leaf_has (walled_split d seps moved rest) zero p e = absurd (no_leaf d seps p e)
 leaf_has (walled_split d seps moved rest) (suc k) p e =
     (has-union (walled_parts moved) (walled_parts rest) p).1
-    (⊎_elim (λ (i, q). inl (leaf_has moved i p q)) (λ (i, q). inr (leaf_has rest i p q)) (get_either (nodes_of moved) (nodes_of rest) k (Leaf p) e))
+    (⊎_elim (λ q. inl (leaf_has moved k p q)) (λ (i, n, q). inr (leaf_has rest i p q)) (place_cases (nodes_of moved) (nodes_of rest) k (Leaf p) e))
 
 pub has_leaf : (t : WalledPlan) (p : ℕ) → Has (walled_parts t) p → (k : ℕ) × IsLeafAt (nodes_of t) k p
 has_leaf (walled_leaf q) p h = (0, ap (λ n. Some (Leaf n)) (sym ((has-single q p).0 h)))
 has_leaf (walled_split d seps moved rest) p h =
     ⊎_elim
     (λ m. let (k, e) = has_leaf moved p m in (suc k, get_front (nodes_of moved) (nodes_of rest) k (Leaf p) e))
-    (λ r. let (k, e) = has_leaf rest p r in (suc (after (nodes_of moved) k), get_right (nodes_of moved) (nodes_of rest) k (Leaf p) e))
+    (λ r. let (k, e) = has_leaf rest p r in (suc (length (nodes_of moved) + k), get_behind (nodes_of moved) (nodes_of rest) k _ (Leaf p) refl e))
     ((has-union (walled_parts moved) (walled_parts rest) p).0 h)
 
 -- ---- a split
@@ -107,22 +90,26 @@ split_free parts s r d seps is split = record {
 }
 
 plan_good : (parts : List Part) (t : WalledPlan) → IsAssembly parts → SplitsHold parts t → Once (nodes_of t) → IsGood parts (walled_parts t) (unwalled t)
-unfolding Once
 plan_good parts (walled_leaf p) is splits once = refl
-plan_good parts (walled_split d seps moved rest) is (here, splits_moved, splits_rest) once = (
-  refl,
-  (λ p in_moved in_rest.
-      let (k, e) = has_leaf moved p in_moved in
-      let (m, f) = has_leaf rest p in_rest in
-      left_not_right (nodes_of moved) k m (Leaf p) e (suc_same k (after (nodes_of moved) m) (once (suc k) (suc (after (nodes_of moved) m)) p (get_front (nodes_of moved) (nodes_of rest) k (Leaf p) e) (get_right (nodes_of moved) (nodes_of rest) m (Leaf p) f)))),
-  split_free parts (walled_parts moved) (walled_parts rest) d seps is here,
-  plan_good parts moved is splits_moved (λ k m p e f. suc_same k m (once (suc k) (suc m) p (get_front (nodes_of moved) (nodes_of rest) k (Leaf p) e) (get_front (nodes_of moved) (nodes_of rest) m (Leaf p) f))),
-  plan_good parts rest is splits_rest (λ k m p e f. after_same (nodes_of moved) k m (suc_same (after (nodes_of moved) k) (after (nodes_of moved) m) (once (suc (after (nodes_of moved) k)) (suc (after (nodes_of moved) m)) p (get_right (nodes_of moved) (nodes_of rest) k (Leaf p) e) (get_right (nodes_of moved) (nodes_of rest) m (Leaf p) f)))),
-)
+plan_good parts (walled_split d seps moved rest) is (here, splits_moved, splits_rest) once =
+    let ms = nodes_of moved in
+    let rs = nodes_of rest in
+    let at_front : (k p : ℕ) → IsLeafAt ms k p → IsLeafAt (ms ++ rs) k p = λ k p e. get_front ms rs k (Leaf p) e in
+    let behind : (k p : ℕ) → IsLeafAt rs k p → IsLeafAt (ms ++ rs) (length ms + k) p = λ k p e. get_behind ms rs k _ (Leaf p) refl e in (
+      refl,
+      (λ p in_moved in_rest.
+          let (k, e) = has_leaf moved p in_moved in
+          let (m, f) = has_leaf rest p in_rest in
+          let same = once (suc k) (suc (length ms + m)) p (at_front k p e) (behind m p f) in
+          let low = slice_get_within ms k (Leaf p) e in
+          omega (arith, same, low)),
+      split_free parts (walled_parts moved) (walled_parts rest) d seps is here,
+      plan_good parts moved is splits_moved (λ k m p e f. suc_same k m (once (suc k) (suc m) p (at_front k p e) (at_front m p f))),
+      plan_good parts rest is splits_rest (λ k m p e f. omega (arith, once (suc (length ms + k)) (suc (length ms + m)) p (behind k p e) (behind m p f))),
+    )
 
 pub plan_is_right_lemma : (parts : List Part) (stated : ℕ) (nodes : List Node) → IsAssembly parts → PlanHolds parts stated nodes
     → (tree : WalledPlan) × (nodes ≡ nodes_of tree) × IsGood parts (below (length parts)) (unwalled tree)
-unfolding Once
 plan_is_right_lemma parts stated nodes is holds =
     let t = holds.tree in
     let leaves = holds.leaves in

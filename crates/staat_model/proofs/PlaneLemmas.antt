@@ -1,5 +1,5 @@
 -- No two planes of a set of parts are parallel.
-use Rattle.std.proofs.Common.{◌≡◌, ◌≢◌, ℕ, zero, suc, refl, sym, ap, subst, ◌∙◌, arith, pos, negsuc, ℤ, List, [], ◌∷◌, ◌++◌, All, Contains, ⊎_elim}
+use Rattle.std.proofs.Common.{◌≡◌, ◌≢◌, ℕ, zero, suc, refl, sym, ap, subst, ◌∙◌, arith, pos, negsuc, List, [], ◌∷◌, ◌++◌, All, Contains, ⊎_elim}
 use Rattle.std.proofs.lemmas.Int.{ints}
 use Rattle.std.proofs.lemmas.List.Elements.{All-cons, All-contains, Contains-append_cases}
 use Rattle.std.proofs.lemmas.Map.Views.{All-after_first}
@@ -44,20 +44,11 @@ sorted_apart (g ∷ gs) normal s = (
 
 -- ---- the axes
 
-one_unit : (d : ℕ) → Prim.Native.Nat.◌∣◌ d 1 → d ≡ 1
-one_unit d h = eq-one_of_dvd-one h
-
 pub axis_normal : (g : V3) → Contains axes g → IsNormal g
-axis_normal g (zero, lt, e) = subst IsNormal e (record { primitive = λ d p q r. one_unit d p; canonical = omega (arith, ints) })
-axis_normal g (suc zero, lt, e) = subst IsNormal e (record { primitive = λ d p q r. one_unit d q; canonical = omega (arith, ints) })
-axis_normal g (suc (suc zero), lt, e) = subst IsNormal e (record { primitive = λ d p q r. one_unit d r; canonical = omega (arith, ints) })
+axis_normal g (zero, lt, e) = subst IsNormal e (record { primitive = λ d p q r. eq-one_of_dvd-one p; canonical = omega (arith, ints) })
+axis_normal g (suc zero, lt, e) = subst IsNormal e (record { primitive = λ d p q r. eq-one_of_dvd-one q; canonical = omega (arith, ints) })
+axis_normal g (suc (suc zero), lt, e) = subst IsNormal e (record { primitive = λ d p q r. eq-one_of_dvd-one r; canonical = omega (arith, ints) })
 axis_normal g (suc (suc (suc k)), lt, e) = absurd (omega arith)
-
-one_zero : ◌≡◌ {A = ℤ} (pos 1) (pos 0) → ⊥
-one_zero e = omega (arith, ints)
-
-minus_zero : ◌≡◌ {A = ℤ} (negsuc 0) (pos 0) → ⊥
-minus_zero e = omega (arith, ints)
 
 pub with_axes : (others : List V3) → ((g : V3) → Contains others g → IsNormal g) → ((g : V3) → Contains others g → Contains axes g → ⊥) → NoneParallel others → NoneParallel (axes ++ others)
 with_axes others normal none rest =
@@ -65,8 +56,9 @@ with_axes others normal none rest =
     let y : V3 = record { x = pos 0; y = pos 1; z = pos 0 } in
     let z : V3 = record { x = pos 0; y = pos 0; z = pos 1 } in
     let all : (axis : V3) → Contains axes axis → All (λ h. cross axis h ≢ origin) others = λ axis a. All-from_members (λ h. cross axis h ≢ origin) others (λ h c. off axis h a c) in (
-      All-cons (λ h. cross x h ≢ origin) y (z ∷ others) (λ e. one_zero (ap (λ v. v.z) e)) (All-cons (λ h. cross x h ≢ origin) z others (λ e. minus_zero (ap (λ v. v.y) e)) (all x (0, omega arith, refl))),
-      (All-cons (λ h. cross y h ≢ origin) z others (λ e. one_zero (ap (λ v. v.x) e)) (all y (1, omega arith, refl)), (all z (2, omega arith, refl), rest)),
+      All-cons (λ h. cross x h ≢ origin) y (z ∷ others) (λ e. let wrong : pos 1 ≡ pos 0 = ap (λ (v : V3). v.z) e in cc)
+          (All-cons (λ h. cross x h ≢ origin) z others (λ e. let wrong : negsuc 0 ≡ pos 0 = ap (λ (v : V3). v.y) e in cc) (all x (0, omega arith, refl))),
+      (All-cons (λ h. cross y h ≢ origin) z others (λ e. let wrong : pos 1 ≡ pos 0 = ap (λ (v : V3). v.x) e in cc) (all y (1, omega arith, refl)), (all z (2, omega arith, refl), rest)),
     )
   where
     off : (axis h : V3) → Contains axes axis → Contains others h → cross axis h ≢ origin

@@ -1,13 +1,12 @@
 -- A direction on two planes is a positive multiple of a vertex; and the representative of a cell lies in it.
-use Rattle.std.proofs.Common.{◌≡◌, ◌≢◌, ℕ, zero, suc, ◌≤◌, refl, sym, ap, subst, ◌∙◌, arith, pos, ◌⊎◌, inl, inr, ⊎_elim, List, [], ◌∷◌, Contains}
+use Rattle.std.proofs.Common.{◌≡◌, ◌≢◌, ℕ, zero, suc, ◌≤◌, sym, ap, ◌∙◌, arith, pos, ◌⊎◌, inl, inr, ⊎_elim, List, [], ◌∷◌, Contains}
 use Rattle.std.proofs.lemmas.List.Elements.{All-contains}
 use Rattle.staat_vec.specs.declared.vector.V3.{V3}
 use Rattle.staat_vec.specs.declared.vector.Sign.{Sign}
-use Rattle.staat_vec.specs.declared.vector.Sign.TheVariants.{Neg, Zero, Pos}
+use Rattle.staat_vec.specs.declared.vector.Sign.TheVariants.{Zero}
 use Rattle.staat_vec.specs.Vectors.{dot, cross, origin, sign}
 use Rattle.staat_vec.specs.Primitives.{primitive}
 use Rattle.staat_vec.proofs.VecRing.{cross_turned}
-use Rattle.staat_vec.proofs.Order.{cancel_zero}
 use Rattle.staat_vec.proofs.Primitives.{primitive-is, primitive-negative}
 use Rattle.staat_model.specs.declared.assembly.Part.{Part}
 use Rattle.staat_model.specs.declared.set.PartSet.{PartSet}
@@ -15,11 +14,11 @@ use Rattle.staat_model.specs.declared.tree.Kind.{Kind}
 use Rattle.staat_model.specs.declared.tree.Kind.TheVariants.{Point, Edge, Open}
 use Rattle.staat_model.specs.Planes.{ArePlanes, vertices}
 use Rattle.staat_model.specs.Cells.{signs_of, kind_of, kind_by_count, IsCell, IsEdgeSum, IsRepresentative}
-use Rattle.staat_model.proofs.CornerLemmas.{dot_multiple}
+use Rattle.staat_model.proofs.CornerLemmas.{across_primitive}
 use Rattle.staat_model.proofs.FacetLemmas.{across_crosses}
 use Rattle.staat_model.proofs.VertexLemmas.{holds_axes, in_vertices}
 use Rattle.staat_model.proofs.PlaneLemmas.{NoneParallel, planes_apart, plane_some}
-use Rattle.staat_model.proofs.CellLemmas.{zeros, zeros-cons, edges_add_up_lemma}
+use Rattle.staat_model.proofs.CellLemmas.{zeros, zeros_off, zeros_on, edges_add_up_lemma}
 use Rattle.staat_model.proofs.EndLemmas.{edge_has_sum, edge_sum_in}
 use Rattle.staat_vec.proofs.Unique.{IsFirst-in, Contains-front}
 use Rattle.staat_vec.proofs.Signs.{sign_zero_or, zero_sign}
@@ -27,21 +26,13 @@ use Rattle.staat_vec.proofs.ListLaws.{Contains-there}
 
 -- ---- two planes through a point
 
-one_more : (t : Sign) (s : List Sign) (n : ℕ) → t ≢ Zero → n ≤ zeros (t ∷ s) → n ≤ zeros s
-one_more Zero s n off h = absurd (off refl)
-one_more Neg s n off h = let c = zeros-cons Neg s in omega (arith, h, c)
-one_more Pos s n off h = let c = zeros-cons Pos s in omega (arith, h, c)
-
-one_less : (s : List Sign) (n : ℕ) → suc n ≤ zeros (Zero ∷ s) → n ≤ zeros s
-one_less s n h = let c = zeros-cons Zero s in omega (arith, h, c)
-
 one_plane : (gs : List V3) (d : V3) → 1 ≤ zeros (signs_of gs d) → (g : V3) × Contains gs g × (dot g d ≡ pos 0)
 one_plane [] d h = absurd (omega (arith, h))
 one_plane (g ∷ gs) d h = go (sign_zero_or (sign (dot g d))) (one_plane gs d)
   where
     go : (sign (dot g d) ≡ Zero) ⊎ (sign (dot g d) ≢ Zero) → (1 ≤ zeros (signs_of gs d) → (g : V3) × Contains gs g × (dot g d ≡ pos 0)) → (m : V3) × Contains (g ∷ gs) m × (dot m d ≡ pos 0)
     go (inl e) ih = (g, Contains-front g gs, zero_sign (dot g d) e)
-    go (inr n) ih = let (m, c, on) = ih (one_more (sign (dot g d)) (signs_of gs d) 1 n h) in (m, Contains-there g m gs c, on)
+    go (inr n) ih = let (m, c, on) = ih (omega (arith, h, zeros_off (sign (dot g d)) (signs_of gs d) n)) in (m, Contains-there g m gs c, on)
 
 -- two planes of the list that d lies on
 record OnTwo (gs : List V3) (d : V3) : Type 0 where
@@ -59,12 +50,10 @@ two_planes (g ∷ gs) d (head, rest) h = go (sign_zero_or (sign (dot g d))) (two
   where
     go : (sign (dot g d) ≡ Zero) ⊎ (sign (dot g d) ≢ Zero) → (2 ≤ zeros (signs_of gs d) → OnTwo gs d) → OnTwo (g ∷ gs) d
     go (inl e) ih =
-        let (m, c, on) = one_plane gs d (one_less (signs_of gs d) 1 (at_zero e)) in
+        let (m, c, on) = one_plane gs d (omega (arith, h, zeros_on (sign (dot g d)) (signs_of gs d) e)) in
         record { g = g; h = m; g_in = Contains-front g gs; h_in = Contains-there g m gs c; independent = All-contains (λ h. cross g h ≢ origin) gs m head c; on_g = zero_sign (dot g d) e; on_h = on }
-      where
-        at_zero : sign (dot g d) ≡ Zero → 2 ≤ zeros (Zero ∷ signs_of gs d)
-        at_zero e = subst (λ t. 2 ≤ zeros (t ∷ signs_of gs d)) e h
-    go (inr n) ih = let o = ih (one_more (sign (dot g d)) (signs_of gs d) 2 n h) in record { g = o.g; h = o.h; g_in = Contains-there g o.g gs o.g_in; h_in = Contains-there g o.h gs o.h_in; independent = o.independent; on_g = o.on_g; on_h = o.on_h }
+    go (inr n) ih = let o = ih (omega (arith, h, zeros_off (sign (dot g d)) (signs_of gs d) n)) in
+        record { g = o.g; h = o.h; g_in = Contains-there g o.g gs o.g_in; h_in = Contains-there g o.h gs o.h_in; independent = o.independent; on_g = o.on_g; on_h = o.on_h }
 
 pub point_two_zeros : (n : ℕ) → kind_by_count n ≡ Point → 2 ≤ n
 point_two_zeros zero e = cc
@@ -79,9 +68,9 @@ point_is_vertex_lemma parts w planes d are some point =
     let o = two_planes planes d (planes_apart parts w planes are) (point_zeros (signs_of planes d) point) in
     let p = primitive-is d some in
     let n = primitive d in
-    let flat : (g : V3) → dot g d ≡ pos 0 → dot g n ≡ pos 0 = λ g on. cancel_zero p.factor (dot g n) p.positive (sym (dot_multiple g d n p.factor p.multiple) ∙ on) in
     in_vertices planes o.g o.h n o.g_in o.h_in o.independent
-    (⊎_elim (λ e. inl e) (λ e. inr (e ∙ ap primitive (cross_turned o.h o.g) ∙ primitive-negative (cross o.g o.h))) (across_crosses n o.g o.h p.primitive o.independent (flat o.g o.on_g) (flat o.h o.on_h)))
+    (⊎_elim (λ e. inl e) (λ e. inr (e ∙ ap primitive (cross_turned o.h o.g) ∙ primitive-negative (cross o.g o.h)))
+    (across_crosses n o.g o.h p.primitive o.independent (across_primitive o.g d some o.on_g) (across_primitive o.h d some o.on_h)))
 
 -- ---- representatives
 

@@ -1,9 +1,9 @@
 -- A refusal that keeps its rules is right: its set is stuck, and no plan takes all parts apart.
-use Rattle.std.proofs.Common.{◌≡◌, ℕ, sym, subst, ◌⊎◌, inl, inr, List, [], ◌∷◌, map, length, All, Contains}
+use Rattle.std.proofs.Common.{◌⊎◌, ℕ, pos, ◌<ℤ◌, sym, subst, inl, inr, ⊎_elim, List, [], ◌∷◌, map, length, All, Contains}
 use Rattle.std.specs.FinSet as set
 use Rattle.std.proofs.lemmas.List.Elements.{All-contains}
 use Rattle.staat_vec.specs.declared.vector.V3.{V3}
-use Rattle.staat_vec.specs.Vectors.{negative}
+use Rattle.staat_vec.specs.Vectors.{dot, negative}
 use Rattle.staat_model.specs.declared.assembly.Part.{Part}
 use Rattle.staat_model.specs.declared.set.PartSet.{PartSet}
 use Rattle.staat_model.specs.declared.certificate.Arc.{Arc}
@@ -11,6 +11,8 @@ use Rattle.staat_model.specs.declared.certificate.Dir.{Dir}
 use Rattle.staat_model.specs.declared.certificate.Witness.{Witness}
 use Rattle.staat_model.specs.Sets.{Has, IsSide, single, below}
 use Rattle.staat_model.specs.Assemblies.{IsAssembly}
+use Rattle.staat_model.specs.Facets.{IsFacet}
+use Rattle.staat_model.specs.Meeting.{Meets}
 use Rattle.staat_model.specs.Removal.{IsFree, MeetsAlong}
 use Rattle.staat_model.specs.Plans.{Plan, IsGood, IsStuck}
 use Rattle.staat_model.specs.Planes.{vertices}
@@ -19,7 +21,7 @@ use Rattle.staat_model.proofs.Differences.{from_map}
 use Rattle.staat_model.proofs.SetMembers.{has-difference, has-insert, has-single}
 use Rattle.staat_model.proofs.SetWords.{same_members}
 use Rattle.staat_model.proofs.PieceFacets.{meets_by_facets_lemma}
-use Rattle.staat_model.proofs.GraphLemmas.{piece_is}
+use Rattle.staat_model.proofs.GraphLemmas.{at_pieces}
 use Rattle.staat_model.proofs.OtherSides.{other_free, other_side}
 use Rattle.staat_model.proofs.VertexLemmas.{stuck_at_vertices_lemma}
 use Rattle.staat_model.proofs.RestrictLemmas.{restrict_lemma}
@@ -34,33 +36,18 @@ reached_all : (w : PartSet) (P : ℕ → Type 0) (step : Arc → ℕ × ℕ) (ar
     → (reached : PartSet) → ((p : ℕ) → Has reached p → P p) → ReachesAll w reached (map step arcs) → (p : ℕ) → Has w p → P p
 reached_all w P step [] pass reached known r p h = known p (subst (λ s. Has s p) (sym r) h)
 reached_all w P step (arc ∷ arcs) pass reached known (from, to, new, rest) p h =
-    reached_all w P step arcs (λ other c. pass other (Contains-there arc other arcs c)) (set.insert reached (step arc).1) known_next rest p h
-  where
-    known_next : (q : ℕ) → Has (set.insert reached (step arc).1) q → P q
-    known_next q has = pick ((has-insert reached (step arc).1 q).0 has)
-      where
-        pick : (q ≡ (step arc).1) ⊎ Has reached q → P q
-        pick (inl e) = subst P (sym e) (pass arc (Contains-front arc arcs) (known (step arc).0 from))
-        pick (inr old) = known q old
+    reached_all w P step arcs (λ other c. pass other (Contains-there arc other arcs c)) (set.insert reached (step arc).1)
+    (λ q has. ⊎_elim (λ e. subst P (sym e) (pass arc (Contains-front arc arcs) (known (step arc).0 from))) (known q) ((has-insert reached (step arc).1 q).0 has)) rest p h
 
 module _ (parts : List Part) (is : IsAssembly parts) (w s : PartSet) (v : V3) (side : IsSide w s) (free : IsFree parts s (set.difference w s) v) (witness : Witness) (holds : IsWitness parts w witness)
     (outs : All (IsBlocking parts v) witness.outs) (ins : All (IsBlocking parts v) witness.ins) where
   meets : (arc : Arc) → IsBlocking parts v arc → MeetsAlong parts v arc
-  meets arc b = record {
-    p = b.p;
-    q = b.q;
-    p_is = b.p_is;
-    q_is = b.q_is;
-    holds = (meets_by_facets_lemma b.p b.q v (piece_is parts arc.a arc.i b.p is b.p_is) (piece_is parts arc.b arc.j b.q is b.q_is)).1 b.holds;
-  }
+  meets arc b = at_pieces parts arc (λ p q. (n : V3) → IsFacet p q n → pos 0 <ℤ dot n v) (λ p q. Meets p q v) is.each
+      (λ p q p_is q_is is_p is_q ahead. (meets_by_facets_lemma p q v is_p is_q).1 ahead) b
 
   -- no arc leads out of the side
   stays : (arc : Arc) → IsBlocking parts v arc → Has w arc.b → Has s arc.a → Has s arc.b
-  stays arc b in_w in_s = go (member_or s arc.b)
-    where
-      go : Has s arc.b ⊎ (Has s arc.b → ⊥) → Has s arc.b
-      go (inl h) = h
-      go (inr n) = absurd (free.clear arc in_s ((has-difference w s arc.b).1 (in_w, n)) (meets arc b))
+  stays arc b in_w in_s = ⊎_elim (λ h. h) (λ n. absurd (free.clear arc in_s ((has-difference w s arc.b).1 (in_w, n)) (meets arc b))) (member_or s arc.b)
 
   all_in : Has s holds.root → (p : ℕ) → Has w p → Has s p
   all_in at_root =

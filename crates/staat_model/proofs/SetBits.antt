@@ -1,7 +1,7 @@
 -- What the operations on words do to the sets that they stand for.
-use Rattle.std.proofs.Math.Nat.{mod-eq_of_lt, mod-one}
-use Rattle.std.proofs.Common.{◌≢◌, one-mul, ◌≡◌, ℕ, zero, suc, ◌+◌, ◌<◌, ◌≤◌, ◌-◌, ◌*◌, ◌/◌, ◌%◌, ◌^◌, max, min, Bool, true, arith, ap, sym, ◌∙◌}
-use Rattle.std.specs.Prelude.{bit_and, bit_or, if◌then◌else◌, nat_eq, nat_lt, ◌==◌, ◌&&◌, ◌||◌, ◌↔◌, not, false, refl}
+use Rattle.std.proofs.Math.Nat.{mod-eq_of_lt, mod-one, pow-le-pow_right}
+use Rattle.std.proofs.Common.{one-mul, ◌≡◌, ℕ, zero, suc, ◌+◌, ◌<◌, ◌≤◌, ◌-◌, ◌*◌, ◌/◌, ◌%◌, ◌^◌, max, min, Bool, true, arith, ap, sym, subst, inl, inr, ◌∙◌}
+use Rattle.std.specs.Prelude.{bit_and, bit_or, if◌then◌else◌, nat_eq, nat_lt, ◌==◌, ◌&&◌, ◌||◌, ◌↔◌, false, refl}
 use Rattle.std.specs.Int.{bit_at, w32}
 use Rattle.std.proofs.lemmas.Bool.Decides.{nat_tests}
 use Rattle.std.proofs.lemmas.Nat.{and_mask, pow_below, pow_pos, mod-pow-add, ones_cat}
@@ -13,7 +13,9 @@ use Rattle.std.specs.Int.Count.{ones}
 use Rattle.staat_model.specs.Bits.{members_below, set_of_word}
 use Rattle.staat_model.specs.SetFacts.{contains-members_below, contains-set_of_word}
 use Rattle.staat_model.specs.Sets.{Has, below, single}
-use Rattle.staat_vec.proofs.Truth.{and_zero_is_one}
+use Rattle.staat_vec.proofs.Naturals.{lt_or_le, same_or}
+use Rattle.staat_model.proofs.SetMembers.{bit_has, bit_has_low, has-difference, has-single, has_bit}
+use Rattle.staat_model.proofs.SetWords.{same_members}
 
 same : (s t : set.FinSet nat_cmp) → ((q : ℕ) → set.contains s q ≡ set.contains t q) → s ≡ t
 same s t each = set.same_set nat_cmp_total set.nat_cmp-IsAntisymmetric s t each
@@ -34,44 +36,31 @@ contains-word bits p lt =
     let inside : nat_lt p 32 ≡ true = grind (arith, nat_tests) in
     ap (λ n. nat_eq n 1) low ∙ sym (contains-set_of_word bits p ∙ ap (λ t. t && (bit_at bits p == 1)) inside)
 
-apart : (l : Bool) (a b : ℕ) → a < 2 → b < 2 → (l && (min a (1 - b) == 1)) ≡ ((l && (a == 1)) && not (l && (b == 1)))
-apart l a b la lb = grind (arith, nat_tests)
-
-clear_below : (a b q : ℕ) → b < 2 ^ 32 → (nat_lt q 32 && (bit_at (bit_and a (4294967295 - b)) q == 1)) ≡ (nat_lt q 32 && (min (bit_at a q) (1 - bit_at b q) == 1))
-clear_below a b q small = by_test (nat_lt q 32) refl
-  where
-    by_test : (t : Bool) → nat_lt q 32 ≡ t → (t && (bit_at (bit_and a (4294967295 - b)) q == 1)) ≡ (t && (min (bit_at a q) (1 - bit_at b q) == 1))
-    by_test true is =
-        let lt : q < 32 = grind (arith, nat_tests) in
-        ap (λ n. n == 1) (bit_at_and a (4294967295 - b) q ∙ ap (min (bit_at a q)) (bit_at_not w32 b q small lt))
-    by_test false is = refl
-
 pub set_of_word-without : (a b : ℕ) → b < 2 ^ 32 → set_of_word (bit_and a (4294967295 - b)) ≡ set.difference (set_of_word a) (set_of_word b)
-set_of_word-without a b small = same _ _ (λ q.
-    contains-set_of_word (bit_and a (4294967295 - b)) q
-    ∙ clear_below a b q small
-    ∙ apart (nat_lt q 32) (bit_at a q) (bit_at b q) (bit_at-lt a q) (bit_at-lt b q)
-    ∙ sym (set.contains-difference nat_cmp_total (set_of_word a) (set_of_word b) q ∙ (λ i. contains-set_of_word a q i && not (contains-set_of_word b q i))))
-
-one_bit : (p q : ℕ) → p < 32 → (nat_lt q 32 && (bit_at (2 ^ p) q == 1)) ≡ (nat_eq q p || false)
-one_bit p q lt = by_test (nat_eq q p) refl
+set_of_word-without a b small = same_members (set_of_word (bit_and a (4294967295 - b))) (set.difference (set_of_word a) (set_of_word b))
+    (λ q h.
+    let (lt, one) = has_bit (bit_and a (4294967295 - b)) q h in
+    let m = left q lt in
+    (has-difference (set_of_word a) (set_of_word b) q).1 (bit_has_low a q lt (omega (arith, m, one, bit_at-lt a q)), λ in_b. let other = (has_bit b q in_b).1 in omega (arith, m, one, other)))
+    (λ q h.
+    let t = (has-difference (set_of_word a) (set_of_word b) q).0 h in
+    let (lt, one) = has_bit a q t.0 in
+    bit_has_low (bit_and a (4294967295 - b)) q lt (elim (same_or (bit_at b q) 1) [
+      | inl in_b ↦ absurd (t.1 (bit_has_low b q lt in_b))
+      | inr out ↦ omega (arith, left q lt, one, out, bit_at-lt b q)
+    ]))
   where
-    by_test : (t : Bool) → nat_eq q p ≡ t → (nat_lt q 32 && (bit_at (2 ^ p) q == 1)) ≡ (t || false)
-    by_test true is =
-        let e : q ≡ p = grind (arith, nat_tests) in
-        let inside : nat_lt q 32 ≡ true = grind (arith, nat_tests) in
-        (λ i. inside i && (bit_at (2 ^ p) (e i) == 1)) ∙ ap (λ n. n == 1) (bit_at-pow_same p)
-    by_test false is =
-        let e : q ≢ p = grind (arith, nat_tests) in
-        ap (λ n. nat_lt q 32 && (n == 1)) (bit_at-pow_other p q e) ∙ grind (arith, nat_tests)
+    left : (q : ℕ) → q < 32 → bit_at (bit_and a (4294967295 - b)) q ≡ min (bit_at a q) (1 - bit_at b q)
+    left q lt = bit_at_and a (4294967295 - b) q ∙ ap (min (bit_at a q)) (bit_at_not w32 b q small lt)
 
+-- a power of two has one bit
 pub set_of_word-pow : (p : ℕ) → p < 32 → set_of_word (1 * 2 ^ p % 4294967296) ≡ single p
 set_of_word-pow p lt =
     let below : 2 ^ p < 4294967296 = pow_below p 32 lt in
     let is : 1 * 2 ^ p % 4294967296 ≡ 2 ^ p = ap (λ n. n % 4294967296) (one-mul (2 ^ p)) ∙ mod-eq_of_lt below in
-    ap set_of_word is ∙ same _ _ (λ q.
-    contains-set_of_word (2 ^ p) q ∙ one_bit p q lt
-    ∙ sym (set.contains-insert nat_cmp_total set.empty p q ∙ (λ i. unsigned_tied q p i || set.contains-empty nat_cmp q i)))
+    ap set_of_word is ∙ same_members (set_of_word (2 ^ p)) (single p)
+    (λ q h. (has-single p q).1 (elim (same_or q p) [ inl e ↦ e | inr ne ↦ absurd (let z = bit_at-pow_other p q ne in let one = (has_bit (2 ^ p) q h).1 in omega (arith, z, one)) ]))
+    (λ q h. subst (Has (set_of_word (2 ^ p))) (sym ((has-single p q).0 h)) (bit_has (2 ^ p) p below (bit_at-pow_same p)))
 
 both_bits : (l : Bool) (a b : ℕ) → a < 2 → b < 2 → (l && (min a b == 1)) ≡ ((l && (a == 1)) && (l && (b == 1)))
 both_bits l a b la lb = grind (arith, nat_tests)
@@ -94,18 +83,17 @@ contains-below (suc n) q =
     ∙ (λ i. unsigned_tied q n i || contains-below n q i)
     ∙ sym (next_below q n)
 
-ones_of : (n q : ℕ) → n ≤ 32 → (b : Bool) → nat_lt q n ≡ b → (nat_lt q 32 && (bit_at (2 ^ n - 1) q == 1)) ≡ nat_lt q n
-ones_of n q le true e =
-    let lt : q < n = grind (arith, nat_tests) in
-    let inside : nat_lt q 32 ≡ true = grind (arith, nat_tests) in
-    (λ i. inside i && (bit_at_ones n q lt i == 1)) ∙ sym e
-ones_of n q le false e =
-    let above : n ≤ q = grind (arith, nat_tests) in
-    ap (λ t. nat_lt q 32 && (t == 1)) (bit_at_ones_above n q above) ∙ and_zero_is_one (nat_lt q 32) ∙ sym e
+pub has-below : (n q : ℕ) → Has (below n) q ↔ (q < n)
+has-below n q = (λ h. let t : nat_lt q n ≡ true = sym (contains-below n q) ∙ h in grind (arith, nat_tests), λ lt. contains-below n q ∙ grind (arith, nat_tests))
 
 -- the lowest n bits are those of the numbers below n
 pub set_of_word-ones : (n : ℕ) → n ≤ 32 → set_of_word (2 ^ n - 1) ≡ below n
-set_of_word-ones n le = same _ _ (λ q. contains-set_of_word (2 ^ n - 1) q ∙ ones_of n q le (nat_lt q n) refl ∙ sym (contains-below n q))
+set_of_word-ones n le =
+    let top : 2 ^ n ≤ 2 ^ 32 = pow-le-pow_right (omega arith) le in
+    let small : 2 ^ n - 1 < 2 ^ 32 = omega (arith, top) in
+    same_members (set_of_word (2 ^ n - 1)) (below n)
+    (λ q h. (has-below n q).1 (elim (lt_or_le q n) [ inl lt ↦ lt | inr above ↦ absurd (let z = bit_at_ones_above n q above in let one = (has_bit (2 ^ n - 1) q h).1 in omega (arith, z, one)) ]))
+    (λ q h. bit_has (2 ^ n - 1) q small (bit_at_ones n q ((has-below n q).0 h)))
 
 -- as many members as bits
 len_step : (n bits m : ℕ) (s : set.FinSet nat_cmp) → set.contains s n ≡ false → set.len s ≡ m → (b : Bool) → set.len (if b then set.insert s n else s) ≡ (if b then m + 1 else m)
@@ -137,9 +125,6 @@ len-members_below (suc n) bits =
 pub len-set_of_word : (bits : ℕ) → bits < 2 ^ 32 → set.len (set_of_word bits) ≡ ones bits
 unfolding set_of_word
 len-set_of_word bits small = len-members_below 32 bits ∙ ap ones (mod-eq_of_lt small)
-
-pub has-below : (n q : ℕ) → Has (below n) q ↔ (q < n)
-has-below n q = (λ h. let t : nat_lt q n ≡ true = sym (contains-below n q) ∙ h in grind (arith, nat_tests), λ lt. contains-below n q ∙ grind (arith, nat_tests))
 
 -- what the code computes for the lowest n bits
 pub first_bits : (n : ℕ) → n ≤ 32 → 1 * 2 ^ n % 18446744073709551616 - 1 ≡ 2 ^ n - 1

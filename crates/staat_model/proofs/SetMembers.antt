@@ -1,18 +1,18 @@
 -- The members of a set and the bits of its word.
-use Rattle.std.proofs.Common.{◌≡◌, ℕ, zero, suc, ◌<◌, ◌≤◌, ◌-◌, ◌^◌, min, Bool, true, false, arith, ap, sym, ◌∙◌, subst, refl, inl, inr, ◌⊎◌, true≢false}
-use Rattle.std.specs.Prelude.{bit_and, nat_eq, nat_lt, ◌==◌, ◌&&◌, ◌||◌, not, IsTrue}
+use Rattle.std.proofs.Common.{◌≡◌, ℕ, ◌<◌, ◌^◌, Bool, true, false, arith, ap, sym, ◌∙◌, subst, refl, inl, inr, ◌⊎◌, true≢false, ⊎_elim, eq-eqb, eqb-true}
+use Rattle.std.specs.Prelude.{nat_eq, nat_lt, ◌==◌, ◌&&◌, ◌||◌, not}
 use Rattle.std.specs.Int.{bit_at, w32, trailing_zeros}
 use Rattle.std.proofs.lemmas.Bool.Decides.{nat_tests}
-use Rattle.std.proofs.lemmas.Nat.{and_le_l}
-use Rattle.std.proofs.lemmas.Nat.Bits.{bit_at-lt, bit_at_and, bit_at_not, bit_at-zero, bit_at_above, bit_at-trailing_zeros, same_from_bits}
+use Rattle.std.proofs.lemmas.Nat.Bits.{bit_at-zero, bit_at_above, bit_at-trailing_zeros}
 use Rattle.std.specs.Ordering.{nat_cmp}
 use Rattle.std.specs.Cmp.{nat_cmp_total, unsigned_tied}
 use Rattle.std.specs.FinSet as set
-use Rattle.staat_model.specs.Bits.{set_of_word}
-use Rattle.staat_model.specs.SetFacts.{contains-set_of_word}
+use Rattle.staat_model.specs.Bits.{set_of_word, word_of_set}
+use Rattle.staat_model.specs.SetFacts.{contains-set_of_word, word_of_set-set_of_word}
+use Rattle.staat_model.proofs.SetWords.{same_members}
 use Rattle.staat_model.specs.declared.set.PartSet.{PartSet}
-use Rattle.staat_model.specs.Sets.{Has, IsSubset, IsNonempty, IsLeastOf, single}
-use Rattle.staat_vec.proofs.Truth.{and_zero_is_one, and_split}
+use Rattle.staat_model.specs.Sets.{Has, IsNonempty, IsLeastOf, single}
+use Rattle.staat_vec.proofs.Truth.{and_zero_is_one, and_split, not_true_clash}
 use Rattle.std.proofs.lemmas.Bool.{or_cases}
 use Rattle.staat_vec.proofs.Naturals.{lt_or_le}
 
@@ -23,18 +23,11 @@ has_bit bits q h =
     let b : (bit_at bits q == 1) ≡ true = t.1 in
     (grind (arith, nat_tests), grind (arith, nat_tests))
 
-pub bit_has : (bits q : ℕ) → bits < 2 ^ 32 → bit_at bits q ≡ 1 → Has (set_of_word bits) q
-bit_has bits q small b = contains-set_of_word bits q ∙ go (inside (nat_lt q 32) refl)
-  where
-    inside : (t : Bool) → nat_lt q 32 ≡ t → nat_lt q 32 ≡ true
-    inside true e = e
-    inside false e =
-        let le : 32 ≤ q = grind (arith, nat_tests) in
-        let z : bit_at bits q ≡ 0 = bit_at_above bits 32 q small le in
-        absurd (omega arith)
+pub bit_has_low : (bits q : ℕ) → q < 32 → bit_at bits q ≡ 1 → Has (set_of_word bits) q
+bit_has_low bits q low b = contains-set_of_word bits q ∙ grind (arith, nat_tests)
 
-    go : nat_lt q 32 ≡ true → (nat_lt q 32 && (bit_at bits q == 1)) ≡ true
-    go e = ap (λ t. t && (bit_at bits q == 1)) e ∙ grind (arith, nat_tests)
+pub bit_has : (bits q : ℕ) → bits < 2 ^ 32 → bit_at bits q ≡ 1 → Has (set_of_word bits) q
+bit_has bits q small b = bit_has_low bits q (elim (lt_or_le q 32) [ inl lt ↦ lt | inr le ↦ absurd (let z = bit_at_above bits 32 q small le in omega (arith, z, b)) ]) b
 
 pub has_of : (bits : ℕ) (s : PartSet) → set_of_word bits ≡ s → (q : ℕ) → Has s q → (q < 32) × (bit_at bits q ≡ 1)
 has_of bits s e q h = has_bit bits q (subst (λ t. Has t q) (sym e) h)
@@ -46,59 +39,29 @@ pub set_of_word-zero : set_of_word 0 ≡ set.empty
 set_of_word-zero = set.same_set nat_cmp_total set.nat_cmp-IsAntisymmetric _ _ (λ q.
     contains-set_of_word 0 q ∙ ap (λ t. nat_lt q 32 && (t == 1)) (bit_at-zero q) ∙ and_zero_is_one (nat_lt q 32) ∙ sym (set.contains-empty nat_cmp q))
 
-module _ (a b : ℕ) (s o : PartSet) (sa : set_of_word a ≡ s) (so : set_of_word b ≡ o) (la : a < 2 ^ 32) (lb : b < 2 ^ 32) where
-  pub within_of_zero : bit_and a (4294967295 - b) ≡ 0 → IsSubset s o
-  within_of_zero z q h =
-      let (lt, one) = has_of a s sa q h in
-      let low : bit_at (bit_and a (4294967295 - b)) q ≡ 0 = ap (λ n. bit_at n q) z ∙ bit_at-zero q in
-      let e : min (bit_at a q) (1 - bit_at b q) ≡ 0 = sym (bit_at_and a (4294967295 - b) q ∙ ap (min (bit_at a q)) (bit_at_not w32 b q lb lt)) ∙ low in
-      let two : bit_at b q < 2 = bit_at-lt b q in
-      let is : bit_at b q ≡ 1 = omega arith in
-      of_bit b o so lb q is
+-- a word is zero exactly where its set has no members
+pub zero_none : (n : ℕ) (s : PartSet) → set_of_word n ≡ s → n ≡ 0 → (q : ℕ) → Has s q → ⊥
+zero_none n s is z q h = true≢false (sym h ∙ ap (λ t. set.contains t q) (sym is ∙ ap set_of_word z ∙ set_of_word-zero) ∙ set.contains-empty nat_cmp q)
 
-  pub zero_of_within : IsSubset s o → bit_and a (4294967295 - b) ≡ 0
-  zero_of_within h = same_from_bits _ _ (λ q. bit q ∙ sym (bit_at-zero q))
-    where
-      bit : (q : ℕ) → bit_at (bit_and a (4294967295 - b)) q ≡ 0
-      bit q = by_bit (bit_at a q) refl (bit_at-lt a q)
-        where
-          by_bit : (n : ℕ) → bit_at a q ≡ n → n < 2 → bit_at (bit_and a (4294967295 - b)) q ≡ 0
-          by_bit zero e lt = let m : bit_at (bit_and a (4294967295 - b)) q ≡ min (bit_at a q) (bit_at (4294967295 - b) q) = bit_at_and a (4294967295 - b) q in omega arith
-          by_bit (suc zero) e lt =
-              let (small, is) = has_of b o so q (h q (of_bit a s sa la q e)) in
-              let n : bit_at (4294967295 - b) q ≡ 1 - bit_at b q = bit_at_not w32 b q lb small in
-              let m : bit_at (bit_and a (4294967295 - b)) q ≡ min (bit_at a q) (bit_at (4294967295 - b) q) = bit_at_and a (4294967295 - b) q in
-              omega arith
-          by_bit (suc (suc n)) e lt = absurd (omega arith)
+pub none_zero : (n : ℕ) (s : PartSet) → set_of_word n ≡ s → n < 2 ^ 32 → ((q : ℕ) → Has s q → ⊥) → n ≡ 0
+none_zero n s is small none =
+    let empty : s ≡ set.empty = same_members s set.empty (λ q h. absurd (none q h)) (λ q h. absurd (true≢false (sym h ∙ set.contains-empty nat_cmp q))) in
+    sym (word_of_set-set_of_word n small) ∙ ap word_of_set (is ∙ empty ∙ sym set_of_word-zero) ∙ word_of_set-set_of_word 0 (omega arith)
 
 module _ (a : ℕ) (s : PartSet) (sa : set_of_word a ≡ s) (la : a < 2 ^ 32) (some : IsNonempty s) where
   pub positive : 0 < a
-  positive = by_zero a refl
-    where
-      by_zero : (n : ℕ) → a ≡ n → 0 < a
-      by_zero zero e = let (lt, is) = has_of a s sa some.0 some.1 in let z : bit_at a some.0 ≡ 0 = ap (λ n. bit_at n some.0) e ∙ bit_at-zero some.0 in absurd (omega arith)
-      by_zero (suc n) e = omega arith
+  positive = elim (lt_or_le 0 a) [ inl lt ↦ lt | inr le ↦ absurd (zero_none a s sa (omega (arith, le)) some.0 some.1) ]
 
   pub least_of : IsLeastOf s (trailing_zeros w32 a)
   least_of =
       let (lt, one, none) = bit_at-trailing_zeros w32 a positive la in
       record {
         has = of_bit a s sa la (trailing_zeros w32 a) one;
-        least = λ q h. let (small, is) = has_of a s sa q h in go q (trailing_zeros w32 a) is (none q);
+        least = λ q h. let (small, is) = has_of a s sa q h in elim (lt_or_le q (trailing_zeros w32 a)) [ inl less ↦ absurd (let z = none q less in omega (arith, is, z)) | inr le ↦ le ];
       }
-    where
-      go : (q t : ℕ) → bit_at a q ≡ 1 → (q < t → bit_at a q ≡ 0) → t ≤ q
-      go q t one zero' = by_case (lt_or_le q t)
-        where
-          by_case : (q < t) ⊎ (t ≤ q) → t ≤ q
-          by_case (inl lt) = let z = zero' lt in absurd (omega arith)
-          by_case (inr le) = le
 
   pub least_small : trailing_zeros w32 a < 32
   least_small = (bit_at-trailing_zeros w32 a positive la).0
-
-pub zero_of_test : (n : ℕ) → nat_eq n 0 ≡ true → n ≡ 0
-zero_of_test n h = grind (arith, nat_tests)
 
 either_or : (a b : Bool) → (a ≡ true) ⊎ (b ≡ true) → (a || b) ≡ true
 either_or true b h = refl
@@ -111,21 +74,16 @@ has-union s t q = (
   λ h. set.contains-union nat_cmp_total s t q ∙ either_or (set.contains s q) (set.contains t q) h,
 )
 
-and_not : (a b : Bool) → (a && not b) ≡ true → (a ≡ true) × (b ≡ true → ⊥)
-and_not true true h = absurd (true≢false (sym h))
-and_not true false h = (refl, λ e. true≢false (sym e))
-and_not false b h = absurd (true≢false (sym h))
-
-not_and : (a b : Bool) → a ≡ true → (b ≡ true → ⊥) → (a && not b) ≡ true
-not_and true true h n = absurd (n refl)
-not_and true false h n = refl
-not_and false b h n = absurd (true≢false (sym h))
+pub not_from : (b : Bool) → (b ≡ true → ⊥) → not b ≡ true
+not_from true n = absurd (n refl)
+not_from false n = refl
 
 pub has-difference : (s t : PartSet) (q : ℕ) → (Has (set.difference s t) q → Has s q × (Has t q → ⊥)) × (Has s q × (Has t q → ⊥) → Has (set.difference s t) q)
-has-difference s t q = (
-  λ h. and_not (set.contains s q) (set.contains t q) (sym (set.contains-difference nat_cmp_total s t q) ∙ h),
-  λ h. set.contains-difference nat_cmp_total s t q ∙ not_and (set.contains s q) (set.contains t q) h.0 h.1,
-)
+has-difference s t q =
+    let e = set.contains-difference nat_cmp_total s t q in (
+      λ h. let both = and_split (set.contains s q) (not (set.contains t q)) (sym e ∙ h) in (both.0, not_true_clash (set.contains t q) both.1),
+      λ h. e ∙ (λ i. h.0 i && not_from (set.contains t q) h.1 i),
+    )
 
 pub has-intersection : (s t : PartSet) (q : ℕ) → (Has (set.intersection s t) q → Has s q × Has t q) × (Has s q × Has t q → Has (set.intersection s t) q)
 has-intersection s t q = (
@@ -133,57 +91,15 @@ has-intersection s t q = (
   λ h. set.contains-intersection nat_cmp_total s t q ∙ (λ i. h.0 i && h.1 i),
 )
 
-eq_or : (q p : ℕ) (b : Bool) → (nat_eq q p || b) ≡ true → (q ≡ p) ⊎ (b ≡ true)
-eq_or q p b h = go (or_cases (nat_eq q p) b h)
-  where
-    go : (nat_eq q p ≡ true) ⊎ (b ≡ true) → (q ≡ p) ⊎ (b ≡ true)
-    go (inl e) = let same : q ≡ p = grind (arith, nat_tests) in inl same
-    go (inr e) = inr e
-
-or_eq : (q p : ℕ) (b : Bool) → (q ≡ p) ⊎ (b ≡ true) → (nat_eq q p || b) ≡ true
-or_eq q p b (inl e) = let same : nat_eq q p ≡ true = grind (arith, nat_tests) in either_or (nat_eq q p) b (inl same)
-or_eq q p b (inr e) = either_or (nat_eq q p) b (inr e)
-
 pub has-insert : (s : PartSet) (p q : ℕ) → (Has (set.insert s p) q → (q ≡ p) ⊎ Has s q) × ((q ≡ p) ⊎ Has s q → Has (set.insert s p) q)
 has-insert s p q =
-    let e : set.contains (set.insert s p) q ≡ (nat_eq q p || set.contains s q) = set.contains-insert nat_cmp_total s p q ∙ ap (λ t. t || set.contains s q) (unsigned_tied q p) in
-    (λ h. eq_or q p (set.contains s q) (sym e ∙ h), λ h. e ∙ or_eq q p (set.contains s q) h)
+    let e : set.contains (set.insert s p) q ≡ (nat_eq q p || set.contains s q) = set.contains-insert nat_cmp_total s p q ∙ ap (λ t. t || set.contains s q) (unsigned_tied q p) in (
+      λ h. ⊎_elim (λ is. inl (eqb-true q p is)) (λ old. inr old) (or_cases (nat_eq q p) (set.contains s q) (sym e ∙ h)),
+      λ h. e ∙ either_or (nat_eq q p) (set.contains s q) (⊎_elim (λ is. inl (eq-eqb q p is)) (λ old. inr old) h),
+    )
 
 pub has-empty : (q : ℕ) → Has set.empty q → ⊥
 has-empty q h = true≢false (sym h ∙ set.contains-empty nat_cmp q)
 
 pub has-single : (p q : ℕ) → (Has (single p) q → q ≡ p) × (q ≡ p → Has (single p) q)
-has-single p q = (λ h. go ((has-insert set.empty p q).0 h), λ e. (has-insert set.empty p q).1 (inl e))
-  where
-    go : (q ≡ p) ⊎ Has set.empty q → q ≡ p
-    go (inl e) = e
-    go (inr h) = absurd (has-empty q h)
-
-module _ (a b : ℕ) (s o : PartSet) (sa : set_of_word a ≡ s) (so : set_of_word b ≡ o) (la : a < 2 ^ 32) (lb : b < 2 ^ 32) where
-  common : (q : ℕ) → bit_at (bit_and a b) q ≡ 1 → Has s q × Has o q
-  common q h =
-      let m : min (bit_at a q) (bit_at b q) ≡ 1 = sym (bit_at_and a b q) ∙ h in
-      let ta : bit_at a q < 2 = bit_at-lt a q in
-      let tb : bit_at b q < 2 = bit_at-lt b q in
-      let ea : bit_at a q ≡ 1 = omega arith in
-      let eb : bit_at b q ≡ 1 = omega arith in
-      (of_bit a s sa la q ea, of_bit b o so lb q eb)
-
-  pub meet_of_some : IsTrue (not (nat_eq (bit_and a b) 0)) → (q : ℕ) × Has s q × Has o q
-  meet_of_some h =
-      let pos : 0 < bit_and a b = grind (arith, nat_tests) in
-      let small : bit_and a b < 2 ^ 32 = let le : bit_and a b ≤ a = and_le_l a b in omega (arith, le, la) in
-      let t = bit_at-trailing_zeros w32 (bit_and a b) pos small in
-      let m = common (trailing_zeros w32 (bit_and a b)) t.1 in
-      (trailing_zeros w32 (bit_and a b), m.0, m.1)
-
-  pub some_of_meet : (q : ℕ) → Has s q → Has o q → IsTrue (not (nat_eq (bit_and a b) 0))
-  some_of_meet q ha hb =
-      let (lt, ea) = has_of a s sa q ha in
-      let (lt2, eb) = has_of b o so q hb in
-      let m : bit_at (bit_and a b) q ≡ min (bit_at a q) (bit_at b q) = bit_at_and a b q in
-      go (bit_and a b) refl m ea eb
-    where
-      go : (n : ℕ) → bit_and a b ≡ n → bit_at (bit_and a b) q ≡ min (bit_at a q) (bit_at b q) → bit_at a q ≡ 1 → bit_at b q ≡ 1 → IsTrue (not (nat_eq n 0))
-      go zero e m ea eb = let z : bit_at (bit_and a b) q ≡ 0 = ap (λ n. bit_at n q) e ∙ bit_at-zero q in absurd (omega arith)
-      go (suc n) e m ea eb = grind (arith, nat_tests)
+has-single p q = (λ h. ⊎_elim (λ e. e) (λ none. absurd (has-empty q none)) ((has-insert set.empty p q).0 h), λ e. (has-insert set.empty p q).1 (inl e))

@@ -1,22 +1,19 @@
 -- Sets with one member.
-use Rattle.std.proofs.Common.{◌≡◌, ◌≢◌, ℕ, zero, suc, ◌+◌, ◌-◌, ◌<◌, ◌≤◌, Bool, true, false, arith, ap, sym, ◌∙◌, subst, refl, ⊎_elim, ◌⊎◌, true≢false}
+use Rattle.std.proofs.Common.{◌≡◌, ◌≢◌, ℕ, zero, suc, ◌+◌, ◌-◌, ◌<◌, ◌≤◌, Bool, true, false, arith, ap, sym, ◌∙◌, subst, refl, ⊎_elim, eq-eqb, eqb-true}
 use Rattle.std.specs.Prelude.{nat_eq, not, ◌&&◌, cond}
 use Rattle.std.specs.FinSet as set
 use Rattle.std.specs.Ordering.{nat_cmp}
 use Rattle.std.specs.Cmp.{nat_cmp_total, unsigned_tied}
-use Rattle.std.proofs.lemmas.Bool.Decides.{nat_tests}
 use Rattle.staat_model.specs.declared.set.PartSet.{PartSet}
 use Rattle.staat_model.specs.Sets.{Has, IsSubset, single}
-use Rattle.staat_model.proofs.SetMembers.{has-single, has-empty}
+use Rattle.staat_model.proofs.SetMembers.{has-single, has-empty, not_from}
 use Rattle.staat_model.proofs.SetWords.{same_members}
-use Rattle.staat_vec.proofs.Naturals.{same_or}
+use Rattle.staat_vec.proofs.Naturals.{lt_or_le, same_or}
+use Rattle.staat_vec.proofs.Truth.{and_split, not_true_clash}
 
 has-remove : (s : PartSet) (p q : ℕ) → q ≢ p → Has s q → Has (set.remove s p) q
-has-remove s p q ne h = set.contains-remove nat_cmp_total s p q ∙ ap (λ b. not b && set.contains s q) (unsigned_tied q p) ∙ go (nat_eq q p) (let e : nat_eq q p ≡ false = grind (arith, nat_tests) in e)
-  where
-    go : (b : Bool) → b ≡ false → (not b && set.contains s q) ≡ true
-    go true e = absurd (true≢false e)
-    go false e = h
+has-remove s p q ne h =
+    set.contains-remove nat_cmp_total s p q ∙ ap (λ b. not b && set.contains s q) (unsigned_tied q p) ∙ (λ i. not_from (nat_eq q p) (λ t. ne (eqb-true q p t)) i && h i)
 
 pub len_remove : (s : PartSet) (p : ℕ) → Has s p → set.len (set.remove s p) ≡ set.len s - 1
 len_remove s p h = set.len-remove nat_cmp_total s p ∙ ap (λ b. cond b (set.len s - 1) (set.len s)) h
@@ -30,18 +27,13 @@ one_within s p h le q m = ⊎_elim (λ e. (has-single p q).1 e)
 pub one_is : (s : PartSet) (p : ℕ) → Has s p → IsSubset s (single p) → s ≡ single p
 one_is s p h within = same_members s (single p) within (λ q m. subst (Has s) (sym ((has-single p q).0 m)) h)
 
-le_or : (n : ℕ) → (1 < n) ⊎ (n ≤ 1)
-le_or n = grind arith
-
 pub many : (s : PartSet) (p : ℕ) → Has s p → (IsSubset s (single p) → ⊥) → 1 < set.len s
-many s p h other = ⊎_elim (λ lt. lt) (λ le. absurd (other (one_within s p h le))) (le_or (set.len s))
+many s p h other = ⊎_elim (λ lt. lt) (λ le. absurd (other (one_within s p h le))) (lt_or_le 1 (set.len s))
 
 has-of-remove : (s : PartSet) (p q : ℕ) → Has (set.remove s p) q → (q ≢ p) × Has s q
-has-of-remove s p q h = go (nat_eq q p) refl (sym (set.contains-remove nat_cmp_total s p q ∙ ap (λ b. not b && set.contains s q) (unsigned_tied q p)) ∙ h)
-  where
-    go : (b : Bool) → nat_eq q p ≡ b → (not b && set.contains s q) ≡ true → (q ≢ p) × Has s q
-    go true e h = absurd (true≢false (sym h))
-    go false e h = let ne : q ≢ p = grind (arith, nat_tests) in (ne, h)
+has-of-remove s p q h =
+    let t = and_split (not (nat_eq q p)) (set.contains s q) (sym (set.contains-remove nat_cmp_total s p q ∙ ap (λ b. not b && set.contains s q) (unsigned_tied q p)) ∙ h) in
+    ((λ e. not_true_clash (nat_eq q p) t.0 (eq-eqb q p e)), t.1)
 
 -- a set of numbers below n has at most n members
 pub len_below : (n : ℕ) (s : PartSet) → ((q : ℕ) → Has s q → q < n) → set.len s ≤ n

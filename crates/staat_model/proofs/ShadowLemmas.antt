@@ -1,5 +1,5 @@
 -- A plane between two pieces that a direction does not lead through, and pieces whose shadows lie apart.
-use Rattle.std.proofs.Common.{◌≡◌, ◌≢◌, zero, suc, ap, sym, ◌∙◌, arith, ℤ, pos, ◌-ℤ◌, ◌≤ℤ◌}
+use Rattle.std.proofs.Common.{◌≡◌, ◌≢◌, ap, sym, ◌∙◌, arith, ℤ, pos, ◌-ℤ◌, ◌≤ℤ◌}
 use Rattle.std.proofs.Common.{◌⊎◌, inl, inr, List, All, Contains}
 use Rattle.std.proofs.lemmas.Int.{ints}
 use Rattle.std.proofs.lemmas.List.Elements.{All-contains}
@@ -14,6 +14,8 @@ use Rattle.staat_model.specs.Shadows.{HaveShadowsApart, IsBefore, IsParted}
 use Rattle.staat_model.specs.Walls.{IsBeyond}
 use Rattle.staat_model.proofs.Members.{All-from_members}
 use Rattle.staat_model.proofs.Reversed.{beyond_turned}
+use Rattle.staat_model.proofs.PlaneLemmas.{axis_normal}
+use Rattle.staat_vec.proofs.Primitives.{IsPrimitive-some}
 use Rattle.staat_model.proofs.WallLaws.{dot-minus, wall_keeps_apart}
 use Rattle.staat_vec.proofs.Integers.{zero_nonpositive, zero_nonneg, opposite_nonpositive}
 
@@ -51,15 +53,6 @@ shadows_part_lemma p q d n solid some are meets = go are.apart
     go (inl before) = wall_parts_lemma p q d n solid some (inl (before, zero_nonpositive (dot n d) are.across)) meets
     go (inr after) = wall_parts_lemma p q d n solid some (inr (after, zero_nonneg (dot n d) are.across)) meets
 
-one_is_some : pos 1 ≡ pos 0 → ⊥
-one_is_some wrong = omega (arith, ints)
-
-axis_some : (n : V3) → Contains axes n → n ≢ origin
-axis_some n (zero, lt, e) f = one_is_some (ap (λ (v : V3). v.x) (e ∙ f))
-axis_some n (suc zero, lt, e) f = one_is_some (ap (λ (v : V3). v.y) (e ∙ f))
-axis_some n (suc (suc zero), lt, e) f = one_is_some (ap (λ (v : V3). v.z) (e ∙ f))
-axis_some n (suc (suc (suc k)), lt, e) f = absurd (omega (arith, lt))
-
 pub boxes_part_lemma : (p q : List V3) (d axis : V3) → IsSolid p → Contains axes axis → IsParted axis p q d
     → Meets p q d → ⊥
-boxes_part_lemma p q d axis solid is parted = wall_parts_lemma p q d axis solid (axis_some axis is) parted
+boxes_part_lemma p q d axis solid is parted = wall_parts_lemma p q d axis solid (let n = axis_normal axis is in IsPrimitive-some axis n.primitive) parted

@@ -4,7 +4,6 @@ use Rattle.std.specs.Prelude.{Contains, Option, None, Some, length, option_map, 
 use Rattle.staat_vec.specs.declared.vector.V3.{V3}
 use Rattle.staat_vec.specs.Primitives.{canon, primitive}
 use Rattle.staat_vec.specs.Vectors.{cross, dot, minus, origin, vector_cmp}
-use Rattle.staat_vec.proofs.Primitives.{primitive-is}
 use Rattle.staat_vec.proofs.VectorOrder.{vector_exact, vector_total}
 use Rattle.staat_model.specs.declared.assembly.Part.{Part}
 use Rattle.staat_model.specs.declared.certificate.Arc.{Arc}
@@ -17,7 +16,7 @@ use Rattle.staat_model.specs.Planes.{ArePlanes, IsFacetPlane, axes}
 use Rattle.staat_model.specs.Sets.{Has}
 use Rattle.staat_model.specs.Walls.{IsBeyond}
 use Rattle.staat_model.proofs.Decisions.{Decided, all_decided, both_or, contains_or, equal_or, le_or, nat_or, not_or}
-use Rattle.staat_model.proofs.EdgeLemmas.{on_left, on_right}
+use Rattle.staat_model.proofs.Corners.{on_both}
 use Rattle.staat_model.proofs.FreeSides.{member_or}
 use Rattle.staat_model.proofs.Listings.{Listing, listing_and, listing_as, listing_below, listing_image, listing_members, listing_none, listing_over, listing_sorted}
 use Rattle.staat_model.proofs.PieceFacets.{beyond_is_above, differences_are, facets_from_differences_lemma, from_cone_facet}
@@ -50,10 +49,11 @@ unfolding Crosses
 crosses_facet p q n ((g, g_in, (h, (h_in, apart), is)), beyond) =
     let vs = differences p q in
     let are = differences_are p q in
+    let on = on_both n g h apart (inl is) in
     from_cone_facet p q vs n are (record {
-      primitive = subst (λ z. Rattle.staat_vec.specs.Primitives.IsPrimitive z) (sym is) (primitive-is (cross g h) apart).primitive;
+      primitive = on.primitive;
       above = beyond_is_above p q vs n are beyond;
-      across = record { u = g; v = h; u_in = g_in; v_in = h_in; independent = apart; u_on = on_left g h n apart (inl is); v_on = on_right g h n apart (inl is) };
+      across = record { u = g; v = h; u_in = g_in; v_in = h_in; independent = apart; u_on = on.on_g; v_on = on.on_h };
     })
 
 pub facets_listing : (p q : List V3) → Listing (IsFacet p q)
@@ -98,43 +98,28 @@ part_there parts a i = go (slice_get parts a) refl
     go None e lt = absurd (omega (arith, lt))
     go (Some part) e lt = place_within parts a part e
 
+-- all pieces that exist, each by its part and its number there
+abbrev Place : List Part → ℕ × ℕ → Type 0
+Place parts t = t.1 < piece_count parts t.0
+
+places : (parts : List Part) → Listing (Place parts)
+places parts = listing_as
+    (λ t (a, a_in, (i, i_in, is)). subst (λ (z : ℕ × ℕ). z.1 < piece_count parts z.0) (sym is) i_in)
+    (λ t h. (t.0, part_there parts t.0 t.1 h, (t.1, h, refl)))
+    (listing_over (λ a t. (i : ℕ) × (i < piece_count parts a) × (t ≡ (a, i))) (listing_below (length parts)) (λ a. listing_image (λ i. (a, i)) (listing_below (piece_count parts a))))
+
 -- all arcs between pieces that exist
 pub arcs_listing : (parts : List Part) (s r : PartSet) → Listing (IsAcross parts s r)
-arcs_listing parts s r = listing_as to from (listing_and (λ arc. Has s arc.a × Has r arc.b) (λ arc. both_or (member_or s arc.a) (member_or r arc.b)) four)
-  where
-    Last : (a i b : ℕ) → Arc → Type 0
-    Last a i b arc = (j : ℕ) × (j < piece_count parts b) × (arc ≡ arc_at a i b j)
-
-    Later : (a i : ℕ) → Arc → Type 0
-    Later a i arc = (b : ℕ) × (b < length parts) × Last a i b arc
-
-    Next : ℕ → Arc → Type 0
-    Next a arc = (i : ℕ) × (i < piece_count parts a) × Later a i arc
-
-    Four : Arc → Type 0
-    Four arc = (a : ℕ) × (a < length parts) × Next a arc
-
-    last : (a i b : ℕ) → Listing (Last a i b)
-    last a i b = listing_image (λ j. arc_at a i b j) (listing_below (piece_count parts b))
-
-    four : Listing Four
-    four = listing_over Next (listing_below (length parts))
-        (λ a. listing_over (Later a) (listing_below (piece_count parts a))
-        (λ i. listing_over (Last a i) (listing_below (length parts)) (last a i)))
-
-    to : (arc : Arc) → Four arc × (Has s arc.a × Has r arc.b) → IsAcross parts s r arc
-    to arc ((a, a_in, (i, i_in, (b, b_in, (j, j_in, is)))), (has_a, has_b)) = record {
+arcs_listing parts s r = listing_as
+    (λ arc ((t, t_in, (u, u_in, is)), (has_a, has_b)). record {
       a_in = has_a;
       b_in = has_b;
-      i_in = subst (λ (z : Arc). z.i < piece_count parts z.a) (sym is) i_in;
-      j_in = subst (λ (z : Arc). z.j < piece_count parts z.b) (sym is) j_in;
-    }
-
-    from : (arc : Arc) → IsAcross parts s r arc → Four arc × (Has s arc.a × Has r arc.b)
-    from arc h = (
-      (arc.a, part_there parts arc.a arc.i h.i_in, (arc.i, h.i_in, (arc.b, part_there parts arc.b arc.j h.j_in, (arc.j, h.j_in, refl)))),
-      (h.a_in, h.b_in),
-    )
+      i_in = subst (λ (z : Arc). z.i < piece_count parts z.a) (sym is) t_in;
+      j_in = subst (λ (z : Arc). z.j < piece_count parts z.b) (sym is) u_in;
+    })
+    (λ arc h. (((arc.a, arc.i), h.i_in, ((arc.b, arc.j), h.j_in, refl)), (h.a_in, h.b_in)))
+    (listing_and (λ arc. Has s arc.a × Has r arc.b) (λ arc. both_or (member_or s arc.a) (member_or r arc.b))
+    (listing_over (λ t arc. (u : ℕ × ℕ) × Place parts u × (arc ≡ arc_at t.0 t.1 u.0 u.1)) (places parts) (λ t. listing_image (λ u. arc_at t.0 t.1 u.0 u.1) (places parts))))
 
 -- ---- planes
 

@@ -1,7 +1,7 @@
 -- A certificate that keeps its form has a verdict: the first rule that it breaks is found, or it is valid.
-use Rattle.std.proofs.Common.{◌≡◌, ◌≢◌, ◌⊎◌, ℕ, ◌+◌, ◌<◌, ◌≤◌, pos, ◌<ℤ◌, List, [], ◌∷◌, ◌++◌, length, map, All, ap, arith, sym, ◌∙◌, subst, refl, inl, inr}
+use Rattle.std.proofs.Common.{◌≡◌, ◌≢◌, ◌⊎◌, ℕ, ◌+◌, ◌<◌, ◌≤◌, pos, ◌<ℤ◌, List, [], ◌∷◌, length, map, All, arith, sym, ◌∙◌, subst, refl, inl, inr}
 use Rattle.std.specs.Prelude.{Contains, Option, None, Some, slice_get, sum_by}
-use Rattle.std.proofs.lemmas.List.Elements.{All-cons, All-contains, All-head, All-nil, All-tail}
+use Rattle.std.proofs.lemmas.List.Elements.{All-contains, All-head, All-tail}
 use Rattle.std.specs.FinSet as set
 use Rattle.staat_vec.specs.declared.vector.V3.{V3}
 use Rattle.staat_vec.specs.Vectors.{dot, negative, origin, vector_cmp}
@@ -38,12 +38,12 @@ use Rattle.staat_model.specs.Certificates as certificates
 use Rattle.staat_model.specs.Sets.{Has, IsLeastOf, IsSubset, below, single}
 use Rattle.staat_model.specs.Texts.{IsBodyInOrder, IsNodeInOrder, IsPlanInOrder, IsWellFormed, lines_of}
 use Rattle.staat_model.specs.Walls.{IsShown}
-use Rattle.staat_model.proofs.Decisions.{Decided, all_decided, all_or, below_or, both_or, carried, contains_or, first_or, le_or, least_or, less_or, lt_or, nat_or, not_or}
+use Rattle.staat_model.proofs.Decisions.{Decided, all_decided, all_or, all_or_where, below_or, both_or, carried, contains_or, either_or, first_or, le_or, least_or, less_or, lt_or, nat_or, not_or, some_below}
 use Rattle.staat_model.proofs.Differences.{from_map}
 use Rattle.staat_model.proofs.FreeSides.{member_or, subset_or}
 use Rattle.staat_model.proofs.Listings.{Listing}
 use Rattle.staat_model.proofs.Members.{All-from_members}
-use Rattle.staat_model.proofs.OneReason.{broken_at}
+use Rattle.staat_model.proofs.OneReason.{split_reason_some}
 use Rattle.staat_model.proofs.Orders.{arc_exact, arc_total}
 use Rattle.staat_model.proofs.Places.{one_at_place, place_within}
 use Rattle.staat_model.proofs.SetBits.{has-below}
@@ -53,6 +53,7 @@ use Rattle.staat_model.proofs.SplitLists.{IsEntryInOrder, entries_in_order, spli
 use Rattle.staat_model.proofs.SomePlanes.{arcs_listing, beyond_or, facets_listing, holds_or, some_planes, vector_or}
 use Rattle.staat_vec.proofs.Naturals.{trichotomy}
 use Rattle.staat_vec.proofs.Comparisons.{nat_cmp-less}
+use Rattle.staat_vec.proofs.ListLaws.{All-at}
 use Rattle.staat_model.proofs.PlanLemmas.{same_leaf}
 
 -- ---- leaves
@@ -71,22 +72,22 @@ is_leaf_or nodes k p = elim (leaf_or nodes k) [
   | inr none ↦ inr (none p)
 ]
 
+at_least_or : (a b : ℕ) → Decided (a ≤ b)
+at_least_or a b = grind arith
+
 bad_or : (n : ℕ) (nodes : List Node) (k : ℕ) → Decided (IsBadLeaf n nodes k)
 bad_or n nodes k = elim (leaf_or nodes k) [
   | inr none ↦ inr (λ bad. none bad.part bad.leaf_is)
-  | inl at ↦ (elim (lt_or at.0 n) [
-    | inr high ↦ inl (record { part = at.0; leaf_is = at.1; bad = inl (omega (arith, high)) })
-    | inl low ↦ (elim (below_or (λ m. IsLeafAt nodes m at.0) (λ m. is_leaf_or nodes m at.0) k) [
-      | inl t ↦ inl (record { part = at.0; leaf_is = at.1; bad = inr (t.0, t.1, t.2) })
-      | inr none ↦ inr (λ bad. not_bad at.0 at.1 low none bad)
-    ])
-  ])
+  | inl at ↦ carried (λ bad. record { part = at.0; leaf_is = at.1; bad = bad })
+      (λ h. subst (λ p. (n ≤ p) ⊎ ((m : ℕ) × (m < k) × IsLeafAt nodes m p)) (same_leaf h.part at.0 (sym h.leaf_is ∙ at.1)) h.bad)
+      (either_or (at_least_or n at.0) (some_below (λ m. IsLeafAt nodes m at.0) (λ m. is_leaf_or nodes m at.0) k))
 ]
-  where
-    not_bad : (p : ℕ) → IsLeafAt nodes k p → p < n → ((m : ℕ) → m < k → IsLeafAt nodes m p → ⊥) → IsBadLeaf n nodes k → ⊥
-    not_bad p at low none bad =
-        let same : bad.part ≡ p = same_leaf bad.part p (sym bad.leaf_is ∙ at) in
-        elim bad.bad [ inl high ↦ absurd (omega (arith, high, low, same)) | inr t ↦ none t.0 t.1 (subst (IsLeafAt nodes t.0) same t.2) ]
+
+leaf_of : (nodes : List Node) (p : ℕ) → ((k : ℕ) × IsLeafAt nodes k p) ⊎ ((k : ℕ) → IsLeafAt nodes k p → ⊥)
+leaf_of nodes p = elim (below_or (λ k. IsLeafAt nodes k p) (λ k. is_leaf_or nodes k p) (length nodes)) [
+  | inl t ↦ inl (t.0, t.2)
+  | inr none ↦ inr (λ k at. none k (place_within nodes k (Leaf p) at) at)
+]
 
 leaves_or : (n : ℕ) (nodes : List Node) → AreAllLeaves n nodes ⊎ ((k : ℕ) × IsLeafFault n nodes k)
 leaves_or n nodes = elim (below_or (IsBadLeaf n nodes) (bad_or n nodes) (length nodes)) [
@@ -94,33 +95,21 @@ leaves_or n nodes = elim (below_or (IsBadLeaf n nodes) (bad_or n nodes) (length 
     t.0,
     bad_leaf (record {
       has = t.2;
-      least = λ y bad. elim (trichotomy y t.0) [
-        | inl lt ↦ absurd (t.3 y lt bad)
-        | inr other ↦ (elim other [ inl e ↦ inl e | inr gt ↦ inr (nat_cmp-less t.0 y gt) ])
-      ];
+      least = λ y bad. elim (lt_or y t.0) [ inl lt ↦ absurd (t.3 y lt bad) | inr ge ↦ elim (nat_or y t.0) [ inl e ↦ inl e | inr ne ↦ inr (nat_cmp-less t.0 y (omega (arith, ge, ne))) ] ];
     }),
   )
   | inr none ↦ with_good (λ k bad. none k (place_within nodes k (Leaf bad.part) bad.leaf_is) bad)
 ]
   where
     no_leaf_or : (p : ℕ) → Decided ((k : ℕ) → IsLeafAt nodes k p → ⊥)
-    no_leaf_or p = elim (below_or (λ k. IsLeafAt nodes k p) (λ k. is_leaf_or nodes k p) (length nodes)) [
-      | inl t ↦ inr (λ none. none t.0 t.2)
-      | inr none ↦ inl (λ k at. none k (place_within nodes k (Leaf p) at) at)
-    ]
-
-    found : (p : ℕ) → (((k : ℕ) → IsLeafAt nodes k p → ⊥) → ⊥) → (k : ℕ) × IsLeafAt nodes k p
-    found p some = elim (below_or (λ k. IsLeafAt nodes k p) (λ k. is_leaf_or nodes k p) (length nodes)) [
-      | inl t ↦ (t.0, t.2)
-      | inr none ↦ absurd (some (λ k at. none k (place_within nodes k (Leaf p) at) at))
-    ]
+    no_leaf_or p = elim (leaf_of nodes p) [ inl t ↦ inr (λ none. none t.0 t.1) | inr none ↦ inl none ]
 
     with_good : ((k : ℕ) → IsBadLeaf n nodes k → ⊥) → AreAllLeaves n nodes ⊎ ((k : ℕ) × IsLeafFault n nodes k)
     with_good good = elim (below_or (λ p. (k : ℕ) → IsLeafAt nodes k p → ⊥) no_leaf_or n) [
       | inl t ↦ inr (length nodes, missing_leaf good (record { part = t.0; exists = t.1; missing = t.2 }) refl)
       | inr none ↦ inl (record {
         each = λ k p at. elim (lt_or p n) [ inl low ↦ low | inr high ↦ absurd (good k (record { part = p; leaf_is = at; bad = inl (omega (arith, high)) })) ];
-        all = λ p lt. found p (none p lt);
+        all = λ p lt. elim (leaf_of nodes p) [ inl t ↦ t | inr no_leaf ↦ absurd (none p lt no_leaf) ];
         once = λ k m p a b. elim (trichotomy k m) [
           | inl lt ↦ absurd (good m (record { part = p; leaf_is = b; bad = inr (k, lt, a) }))
           | inr other ↦ (elim other [ inl e ↦ e | inr gt ↦ absurd (good k (record { part = p; leaf_is = a; bad = inr (m, gt, b) })) ])
@@ -188,39 +177,23 @@ split_or parts split ascending = elim (vector_or split.d origin) [
       };
     })
 
--- the first listed split that breaks a rule, those before it and behind it, and which rule
-record FirstBroken (parts : List Part) (xs : List SplitEntry) : Type 0 where
-  before : List SplitEntry
-  split : SplitEntry
-  more : List SplitEntry
-  is : xs ≡ before ++ split ∷ more
-  hold : All (EntryHolds parts) before
-  reason : Reason
-  reason_is : IsSplitReason parts split reason
-
-entries_or : (parts : List Part) (xs : List SplitEntry) → All IsEntryInOrder xs → All (EntryHolds parts) xs ⊎ FirstBroken parts xs
-entries_or parts [] all = inl (All-nil (EntryHolds parts))
-entries_or parts (x ∷ xs) all = elim (split_or parts x (All-head IsEntryInOrder x xs all)) [
-  | inr bad ↦ inr (record { before = []; split = x; more = xs; is = refl; hold = All-nil (EntryHolds parts); reason = bad.0; reason_is = bad.1 })
-  | inl here ↦ (elim (entries_or parts xs (All-tail IsEntryInOrder x xs all)) [
-    | inl behind ↦ inl (All-cons (EntryHolds parts) x xs here behind)
-    | inr bad ↦ inr (record {
-      before = x ∷ bad.before;
-      split = bad.split;
-      more = bad.more;
-      is = ap (λ l. x ∷ l) bad.is;
-      hold = All-cons (EntryHolds parts) x bad.before here bad.hold;
-      reason = bad.reason;
-      reason_is = bad.reason_is;
-    })
+tree_or : (parts : List Part) (t : WalledPlan) → All IsNodeInOrder (nodes_of t) → SplitsHold parts t ⊎ ((x : Reason) × IsTreeReason parts t x)
+tree_or parts t all = elim (all_or_where IsEntryInOrder (EntryHolds parts) decided xs in_order) [
+  | inl hold ↦ inl (splits_hold parts t 0 first_line hold)
+  | inr (k, first) ↦ (elim (split_or parts first.x (All-at IsEntryInOrder xs k first.x first.at in_order)) [
+    | inl holds ↦ absurd (first.fails holds)
+    | inr bad ↦ inr (bad.0, record { place = k; first = first; reason_is = bad.1 })
   ])
 ]
+  where
+    xs : List SplitEntry
+    xs = splits_of t 0 first_line
 
-tree_or : (parts : List Part) (t : WalledPlan) → All IsNodeInOrder (nodes_of t) → SplitsHold parts t ⊎ ((x : Reason) × IsTreeReason parts t x)
-tree_or parts t all = elim (entries_or parts (splits_of t 0 first_line) (entries_in_order t 0 first_line all)) [
-  | inl hold ↦ inl (splits_hold parts t 0 first_line hold)
-  | inr bad ↦ inr (bad.reason, broken_at parts t bad.before bad.more bad.split bad.reason bad.is bad.hold bad.reason_is)
-]
+    in_order : All IsEntryInOrder xs
+    in_order = entries_in_order t 0 first_line all
+
+    decided : (x : SplitEntry) → IsEntryInOrder x → Decided (EntryHolds parts x)
+    decided x ascending = elim (split_or parts x ascending) [ inl holds ↦ inl holds | inr bad ↦ inr (split_reason_some parts x bad.0 bad.1) ]
 
 plan_or : (parts : List Part) (stated : ℕ) (nodes : List Node) → IsPlanInOrder stated nodes → PlanHolds parts stated nodes ⊎ ((x : Reason) × IsPlanReason parts stated nodes x)
 plan_or parts stated nodes form = elim (nat_or stated (length parts)) [
@@ -235,9 +208,6 @@ plan_or parts stated nodes form = elim (nat_or stated (length parts)) [
 ]
 
 -- ---- witnesses
-
-at_least_or : (a b : ℕ) → Decided (a ≤ b)
-at_least_or a b = grind arith
 
 set_or : (parts : List Part) (w : PartSet) → IsSubset w (below MOST_PARTS) → IsStuckSet parts w ⊎ reasons.IsNoStuckSet parts w
 set_or parts w small = elim (lt_or (set.len w) 2) [
@@ -261,13 +231,8 @@ root_of parts w is = elim (below_or (Has w) (member_or w) (length parts)) [
 ]
 
 sets_or : (s t : PartSet) → Decided (s ≡ t)
-sets_or s t = elim (subset_or s t) [
-  | inr not ↦ inr (λ e. not (λ q h. subst (λ (z : PartSet). Has z q) e h))
-  | inl f ↦ (elim (subset_or t s) [
-    | inr not ↦ inr (λ e. not (λ q h. subst (λ (z : PartSet). Has z q) (sym e) h))
-    | inl g ↦ inl (same_members s t f g)
-  ])
-]
+sets_or s t = carried (λ h. same_members s t h.0 h.1) (λ e. ((λ q h. subst (λ (z : PartSet). Has z q) e h), λ q h. subst (λ (z : PartSet). Has z q) (sym e) h))
+    (both_or (subset_or s t) (subset_or t s))
 
 reaches_or : (w reached : PartSet) (pairs : List (ℕ × ℕ)) → Decided (ReachesAll w reached pairs)
 reaches_or w reached [] = sets_or reached w
@@ -320,11 +285,7 @@ line_or : (dirs : List Dir) (v : V3) → Decided (HasLine dirs v)
 line_or dirs v = contains_or vector_cmp vector_total vector_exact (map (λ dir. dir.d) dirs) v
 
 listed_or : (version : ℕ) (dirs : List Dir) (v : V3) → Decided (IsListed version dirs v)
-listed_or version dirs v = elim (line_or dirs v) [
-  | inl has ↦ inl (inl has)
-  | inr not ↦ carried (λ (t : (version ≡ 2) × HasLine dirs (negative v)). inr t) (λ h. elim h [ inl has ↦ absurd (not has) | inr t ↦ t ])
-      (both_or (nat_or version 2) (line_or dirs (negative v)))
-]
+listed_or version dirs v = either_or (line_or dirs v) (both_or (nat_or version 2) (line_or dirs (negative v)))
 
 -- ---- refusals
 

@@ -1,14 +1,14 @@
 -- The list of the splits of a plan.
 use Rattle.std.proofs.Common.{◌≡◌, ℕ, zero, suc, ◌<◌, List, [], ◌∷◌, ◌++◌, length, All, arith, refl}
 use Rattle.std.specs.Prelude.{Some, slice_get}
-use Rattle.std.proofs.lemmas.List.Elements.{All-append, All-cons, All-contains, All-head, All-nil, All-tail, Contains-append_left, Contains-append_right}
+use Rattle.std.proofs.lemmas.List.Elements.{All-append, All-cons, All-contains, All-head, All-nil, All-tail}
 use Rattle.staat_vec.specs.Lists.{FailsFirst}
 use Rattle.staat_model.specs.declared.assembly.Part.{Part}
 use Rattle.staat_model.specs.declared.certificate.Node.TheVariants.{Split}
 use Rattle.staat_model.specs.Certificates.{WalledPlan, walled_leaf, walled_split, nodes_of, SplitsHold}
 use Rattle.staat_model.specs.Reasons.{EntryHolds, SplitEntry, splits_of}
 use Rattle.staat_model.specs.Texts.{IsNodeInOrder}
-use Rattle.staat_model.proofs.Members.{All-from_members}
+use Rattle.staat_model.proofs.Members.{all_back, all_front}
 use Rattle.staat_vec.proofs.Unique.{from_place}
 
 module _ {X : Type 0} (P : X → Type 0) where
@@ -16,16 +16,11 @@ module _ {X : Type 0} (P : X → Type 0) where
   at_end [] more x = refl
   at_end (y ∷ before) more x = at_end before more x
 
-  in_front : (before more : List X) (m : ℕ) (y : X) → m < length before → slice_get (before ++ more) m ≡ Some y
+  pub in_front : (before more : List X) (m : ℕ) (y : X) → m < length before → slice_get (before ++ more) m ≡ Some y
       → slice_get before m ≡ Some y
   in_front [] more m y lt e = absurd (omega (arith, lt))
   in_front (x ∷ before) more zero y lt e = e
   in_front (x ∷ before) more (suc m) y lt e = in_front before more m y (omega (arith, lt)) e
-
-  pub kept_before : (before more : List X) → All P before → (m : ℕ) (y : X) → m < length before
-      → slice_get (before ++ more) m ≡ Some y → P y
-  kept_before before more all m y lt e =
-      All-contains P before y all (from_place before m y (in_front before more m y lt e))
 
   -- all before x keep the rule, and x breaks it
   abbrev pub fails_behind : (before more : List X) (x : X) → All P before → (P x → ⊥)
@@ -34,14 +29,8 @@ module _ {X : Type 0} (P : X → Type 0) where
     x = x;
     at = at_end before more x;
     fails = fails;
-    before = kept_before before (x ∷ more) all;
+    before = λ m y lt e. All-contains P before y all (from_place before m y (in_front before (x ∷ more) m y lt e));
   }
-
-  pub all_front : (xs ys : List X) → All P (xs ++ ys) → All P xs
-  all_front xs ys all = All-from_members P xs (λ x c. All-contains P (xs ++ ys) x all (Contains-append_left xs ys x c))
-
-  pub all_back : (xs ys : List X) → All P (xs ++ ys) → All P ys
-  all_back xs ys all = All-from_members P ys (λ x c. All-contains P (xs ++ ys) x all (Contains-append_right xs ys x c))
 
 -- where the splits of a plan hold, each that is listed does
 pub entries_hold : (parts : List Part) (t : WalledPlan) (node line : ℕ) → SplitsHold parts t

@@ -1,10 +1,10 @@
 -- A set that is stuck is one of parts that exist.
-use Rattle.std.proofs.Common.{◌≡◌, ◌≢◌, ℕ, ◌≤◌, arith, pos, refl, sym, ap, subst, ◌∙◌, ⊎_elim, List, length}
+use Rattle.std.proofs.Common.{◌≡◌, ℕ, ◌≤◌, arith, pos, refl, sym, ap, subst, ◌∙◌, ⊎_elim, List, length}
 use Rattle.std.specs.Prelude.{Some, slice_get}
 use Rattle.std.specs.FinSet as set
 use Rattle.std.proofs.lemmas.Option.{option_and_then_some}
 use Rattle.staat_vec.specs.declared.vector.V3.{V3}
-use Rattle.staat_vec.specs.Vectors.{origin}
+use Rattle.staat_vec.specs.Vectors.{vector}
 use Rattle.staat_model.specs.declared.assembly.Part.{Part}
 use Rattle.staat_model.specs.declared.set.PartSet.{PartSet}
 use Rattle.staat_model.specs.Assemblies.{piece_at}
@@ -12,6 +12,8 @@ use Rattle.staat_model.specs.Certificates.{IsStuckSet}
 use Rattle.staat_model.specs.Plans.{IsStuck}
 use Rattle.staat_model.specs.Sets.{Has, IsSide, below, single}
 use Rattle.staat_model.proofs.FreeSides.{member_or}
+use Rattle.staat_model.proofs.PlaneLemmas.{axis_normal}
+use Rattle.staat_vec.proofs.Primitives.{IsPrimitive-some}
 use Rattle.staat_model.proofs.Places.{place_within}
 use Rattle.staat_model.proofs.SetBits.{has-below}
 use Rattle.staat_model.proofs.SetMembers.{has-single}
@@ -20,13 +22,6 @@ use Rattle.staat_model.proofs.SetSizes.{len-single}
 -- a part that has a piece exists
 pub part_exists : (parts : List Part) (a i : ℕ) (p : List V3) → piece_at parts a i ≡ Some p → Has (below (length parts)) a
 part_exists parts a i p e = option_and_then_some {P = Has (below (length parts)) a} (λ part. slice_get part.pieces i) (slice_get parts a) p e (λ part at inside. (has-below (length parts) a).1 (place_within parts a part at))
-
-along_x : V3
-along_x = record { x = pos 1; y = pos 0; z = pos 0 }
-
-along_x_moves : along_x ≢ origin
-unfolding along_x
-along_x_moves e = let wrong : pos 1 ≡ pos 0 = ap (λ (v : V3). v.x) e in cc
 
 -- one part of a set of two or more is a side of it
 one_is_side : (w : PartSet) (p : ℕ) → 2 ≤ set.len w → Has w p → IsSide w (single p)
@@ -40,8 +35,8 @@ one_is_side w p two has = record {
 pub stuck_exists : (parts : List Part) (w : PartSet) → IsStuck parts w → IsStuckSet parts w
 stuck_exists parts w is = record {
   two = is.two;
-  within = λ p has. ⊎_elim {C = Has (below (length parts)) p} (λ h. h) (λ no_part. absurd (is.held (single p) along_x (one_is_side w p is.two has) (record {
-    moves = along_x_moves;
+  within = λ p has. ⊎_elim {C = Has (below (length parts)) p} (λ h. h) (λ no_part. absurd (is.held (single p) (vector (pos 1) (pos 0) (pos 0)) (one_is_side w p is.two has) (record {
+    moves = let n = axis_normal (vector (pos 1) (pos 0) (pos 0)) (0, omega arith, refl) in IsPrimitive-some (vector (pos 1) (pos 0) (pos 0)) n.primitive;
     clear = λ arc a b m. no_part (subst (Has (below (length parts))) ((has-single p arc.a).0 a) (part_exists parts arc.a arc.i m.p m.p_is));
   }))) (member_or (below (length parts)) p);
 }

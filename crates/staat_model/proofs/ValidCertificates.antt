@@ -1,11 +1,11 @@
 -- The certificate of an outcome is valid.
-use Rattle.std.proofs.Common.{◌≡◌, ◌≢◌, ◌⊎◌, ℕ, zero, suc, ◌+◌, ◌<◌, arith, refl, sym, ap, subst, inl, inr, ⊎_elim, List, [], ◌∷◌, ◌++◌, length, map, All, Contains}
+use Rattle.std.proofs.Common.{◌≡◌, ◌≢◌, pos, ◌<ℤ◌, ℕ, zero, suc, ◌<◌, arith, refl, sym, ap, subst, ⊎_elim, List, [], ◌∷◌, length, map, All, Contains}
 use Rattle.std.specs.Prelude.{Some, slice_get}
 use Rattle.std.specs.FinSet as set
-use Rattle.std.proofs.lemmas.List.Elements.{All-contains, All-weaker}
+use Rattle.std.proofs.lemmas.List.Elements.{All-cons, All-contains, All-head, All-nil, All-tail, All-weaker}
 use Rattle.staat_vec.specs.declared.vector.V3.{V3}
 use Rattle.staat_vec.specs.Lists.{Lists}
-use Rattle.staat_vec.specs.Vectors.{origin, vector_cmp}
+use Rattle.staat_vec.specs.Vectors.{dot, origin, vector_cmp}
 use Rattle.staat_vec.proofs.Primitives.{IsPrimitive-some}
 use Rattle.staat_vec.proofs.Unique.{sorted_once}
 use Rattle.staat_model.specs.declared.assembly.Part.{Part}
@@ -20,6 +20,8 @@ use Rattle.staat_model.specs.declared.certificate.Body.{Body}
 use Rattle.staat_model.specs.declared.certificate.Body.TheVariants as body
 use Rattle.staat_model.specs.declared.certificate.Certificate.{Certificate}
 use Rattle.staat_model.specs.Assemblies.{HoldsAt, IsAssembly}
+use Rattle.staat_model.specs.Facets.{IsFacet}
+use Rattle.staat_model.specs.Meeting.{Meets}
 use Rattle.staat_model.specs.Bridges.{IsTree}
 use Rattle.staat_model.specs.Certificates.{WalledPlan, walled_leaf, walled_split, nodes_of, unwalled, walled_parts, arc_cmp, outward, inward, AreAllLeaves, HasLine, IsAcross, IsArcWithin, IsBlocked, IsBlocking, IsLeafAt, IsListed, IsStuckSet, IsValidPlan, IsValidRefusal, IsWall, IsWitness, PlanHolds, ReachesAll, RefusalHolds, SplitHolds, SplitsHold}
 use Rattle.staat_model.specs.Certify.{AreLeastWalls, ArePlanNodes, HasLeastWalls, IsBodyOf, IsCertificateOf, IsFacetAway, IsLeastArc, IsRefusalOf, IsWitnessAt, NamesWitness}
@@ -28,13 +30,13 @@ use Rattle.staat_model.specs.Plans.{IsGood, Plan}
 use Rattle.staat_model.specs.Removal.{Blocks, MeetsAlong}
 use Rattle.staat_model.specs.Sets.{Has, IsSubset, below, single}
 use Rattle.staat_model.proofs.Differences.{from_map}
-use Rattle.staat_model.proofs.GraphLemmas.{piece_is}
+use Rattle.staat_model.proofs.GraphLemmas.{at_pieces}
 use Rattle.staat_model.proofs.ListedVertices.{all_listed}
 use Rattle.staat_model.proofs.Members.{All-from_members}
 use Rattle.staat_model.proofs.Orders.{arc_exact, arc_total}
 use Rattle.staat_model.proofs.PieceFacets.{meets_by_facets_lemma}
 use Rattle.staat_model.proofs.Places.{one_at_place, place_within}
-use Rattle.staat_model.proofs.PlanLemmas.{has_leaf, leaf_has, no_leaf, piece_within}
+use Rattle.staat_model.proofs.PlanLemmas.{has_leaf, leaf_has, no_leaf, piece_within, place_cases}
 use Rattle.staat_model.proofs.PlaneLemmas.{planes_apart}
 use Rattle.staat_model.proofs.SetBits.{has-below}
 use Rattle.staat_model.proofs.SetMembers.{has-insert, has-single}
@@ -65,11 +67,6 @@ splits_hold parts (walled_leaf p) w walls good = tt
 splits_hold parts (walled_split d seps moved rest) w walls good =
     let free = good.2 in
     (split_holds parts (walled_parts moved) (walled_parts rest) d seps free.moves walls.0, splits_hold parts moved (walled_parts moved) walls.1 good.3, splits_hold parts rest (walled_parts rest) walls.2 good.4)
-
-place_cases : {X : Type 0} (xs ys : List X) (k : ℕ) (x : X) → slice_get (xs ++ ys) k ≡ Some x → (slice_get xs k ≡ Some x) ⊎ ((i : ℕ) × (k ≡ length xs + i) × (slice_get ys i ≡ Some x))
-place_cases [] ys k x e = inr (k, omega arith, e)
-place_cases (y ∷ xs) ys zero x e = inl e
-place_cases (y ∷ xs) ys (suc k) x e = ⊎_elim (λ h. inl h) (λ (i, n, h). inr (i, omega (arith, n), h)) (place_cases xs ys k x e)
 
 leaves_once : (parts : List Part) (t : WalledPlan) (w : PartSet) → IsGood parts w (unwalled t) → (k m p : ℕ) → IsLeafAt (nodes_of t) k p → IsLeafAt (nodes_of t) m p → k ≡ m
 leaves_once parts (walled_leaf q) w good zero zero p a b = refl
@@ -109,47 +106,28 @@ there_are : (parts : List Part) (d : V3) (arc : Arc) → MeetsAlong parts d arc 
 there_are parts d arc m = (piece_within parts arc.a arc.i m.p m.p_is, piece_within parts arc.b arc.j m.q m.q_is)
 
 blocking : (parts : List Part) (d : V3) (arc : Arc) → IsAssembly parts → MeetsAlong parts d arc → IsBlocking parts d arc
-blocking parts d arc is m = record {
-  p = m.p;
-  q = m.q;
-  p_is = m.p_is;
-  q_is = m.q_is;
-  holds = (meets_by_facets_lemma m.p m.q d (piece_is parts arc.a arc.i m.p is m.p_is) (piece_is parts arc.b arc.j m.q is m.q_is)).0 m.holds;
-}
+blocking parts d arc is m = at_pieces parts arc (λ p q. Meets p q d) (λ p q. (n : V3) → IsFacet p q n → pos 0 <ℤ dot n d) is.each
+    (λ p q p_is q_is is_p is_q meets. (meets_by_facets_lemma p q d is_p is_q).0 meets) m
 
 more_within : (w reached : PartSet) (p : ℕ) → IsSubset reached w → Has w p → IsSubset (set.insert reached p) w
 more_within w reached p within in_w q h = ⊎_elim (λ e. subst (Has w) (sym e) in_w) (λ old. within q old) ((has-insert reached p q).0 h)
 
 module _ (parts : List Part) (w : PartSet) (d : V3) where
   -- the arcs of a tree join parts of the set
+  arcs_within : (R : ℕ → ℕ → Type 0) (step : Arc → ℕ × ℕ) → ((x : Arc) → Has w (step x).0 → Has w (step x).1 → (step x).0 ≢ (step x).1 → MeetsAlong parts d x → IsArcWithin parts w x)
+      → (reached : PartSet) (arcs : List Arc) → IsSubset reached w → IsTree R w reached (map step arcs) → All (IsLeastArc parts d) arcs → All (IsArcWithin parts w) arcs
+  arcs_within R step joins reached [] within tree least = All-nil (IsArcWithin parts w)
+  arcs_within R step joins reached (x ∷ arcs) within tree least =
+      let bridge = tree.0.is in
+      All-cons (IsArcWithin parts w) x arcs
+      (joins x (within (step x).0 bridge.from_in) bridge.to_in (λ same. bridge.to_new (subst (Has reached) same bridge.from_in)) (All-head (IsLeastArc parts d) x arcs least).has.2)
+      (arcs_within R step joins (set.insert reached (step x).1) arcs (more_within w reached (step x).1 within bridge.to_in) tree.1 (All-tail (IsLeastArc parts d) x arcs least))
 
-  outs_within : (reached : PartSet) (arcs : List Arc) → IsSubset reached w → IsTree (Blocks parts d) w reached (map outward arcs) → All (IsLeastArc parts d) arcs → (arc : Arc) → Contains arcs arc → IsArcWithin parts w arc
-  outs_within reached [] within tree least arc (k, lt, e) = absurd (omega arith)
-  outs_within reached (x ∷ arcs) within tree least arc (zero, lt, e) =
-      let bridge = tree.0.is in
-      let meets = (Rattle.std.proofs.lemmas.List.Elements.All-head (IsLeastArc parts d) x arcs least).has.2 in
-      let pieces = there_are parts d x meets in
-      subst (IsArcWithin parts w) e (record {
-        across = record { a_in = within x.a bridge.from_in; b_in = bridge.to_in; i_in = pieces.0; j_in = pieces.1 };
-        different = λ same. bridge.to_new (subst (Has reached) same bridge.from_in);
-      })
-  outs_within reached (x ∷ arcs) within tree least arc (suc k, lt, e) =
-      let bridge = tree.0.is in
-      outs_within (set.insert reached x.b) arcs (more_within w reached x.b within bridge.to_in) tree.1 (Rattle.std.proofs.lemmas.List.Elements.All-tail (IsLeastArc parts d) x arcs least) arc (k, omega arith, e)
-
-  ins_within : (reached : PartSet) (arcs : List Arc) → IsSubset reached w → IsTree (λ b a. Blocks parts d a b) w reached (map inward arcs) → All (IsLeastArc parts d) arcs → (arc : Arc) → Contains arcs arc → IsArcWithin parts w arc
-  ins_within reached [] within tree least arc (k, lt, e) = absurd (omega arith)
-  ins_within reached (x ∷ arcs) within tree least arc (zero, lt, e) =
-      let bridge = tree.0.is in
-      let meets = (Rattle.std.proofs.lemmas.List.Elements.All-head (IsLeastArc parts d) x arcs least).has.2 in
-      let pieces = there_are parts d x meets in
-      subst (IsArcWithin parts w) e (record {
-        across = record { a_in = bridge.to_in; b_in = within x.b bridge.from_in; i_in = pieces.0; j_in = pieces.1 };
-        different = λ same. bridge.to_new (subst (Has reached) (sym same) bridge.from_in);
-      })
-  ins_within reached (x ∷ arcs) within tree least arc (suc k, lt, e) =
-      let bridge = tree.0.is in
-      ins_within (set.insert reached x.a) arcs (more_within w reached x.a within bridge.to_in) tree.1 (Rattle.std.proofs.lemmas.List.Elements.All-tail (IsLeastArc parts d) x arcs least) arc (k, omega arith, e)
+  arc_within : (x : Arc) → Has w x.a → Has w x.b → x.a ≢ x.b → MeetsAlong parts d x → IsArcWithin parts w x
+  arc_within x a_in b_in apart m = let pieces = there_are parts d x m in record {
+    across = record { a_in = a_in; b_in = b_in; i_in = pieces.0; j_in = pieces.1 };
+    different = apart;
+  }
 
   tree_reaches : (R : ℕ → ℕ → Type 0) (reached : PartSet) (pairs : List (ℕ × ℕ)) → IsTree R w reached pairs → ReachesAll w reached pairs
   tree_reaches R reached [] tree = tree
@@ -159,8 +137,8 @@ module _ (parts : List Part) (w : PartSet) (d : V3) where
   witness_holds witness at =
       let root_in : IsSubset (single at.root) w = λ q h. subst (Has w) (sym ((has-single at.root q).0 h)) at.root_is.has in
       record {
-        outs = All-from_members (IsArcWithin parts w) witness.outs (outs_within (single at.root) witness.outs root_in at.outs at.outs_least);
-        ins = All-from_members (IsArcWithin parts w) witness.ins (ins_within (single at.root) witness.ins root_in at.ins at.ins_least);
+        outs = arcs_within (Blocks parts d) outward arc_within (single at.root) witness.outs root_in at.outs at.outs_least;
+        ins = arcs_within (λ b a. Blocks parts d a b) inward (λ x b_in a_in apart. arc_within x a_in b_in (λ e. apart (sym e))) (single at.root) witness.ins root_in at.ins at.ins_least;
         root = at.root;
         root_is = at.root_is;
         outs_reach = tree_reaches (Blocks parts d) (single at.root) (map outward witness.outs) at.outs;
@@ -172,8 +150,6 @@ module _ (parts : List Part) (w : PartSet) (d : V3) where
     All-weaker (IsLeastArc parts d) (IsBlocking parts d) (λ arc least. blocking parts d arc is least.has.2) witness.outs at.outs_least,
     All-weaker (IsLeastArc parts d) (IsBlocking parts d) (λ arc least. blocking parts d arc is least.has.2) witness.ins at.ins_least,
   )
-
--- ---- directions
 
 -- ---- refusals
 

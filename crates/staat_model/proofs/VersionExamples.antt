@@ -1,5 +1,5 @@
 -- The two versions of a certificate at small examples.
-use Rattle.std.proofs.Common.{◌≡◌, ◌<◌, pos, negsuc, ap, List, [], ◌∷◌, map, All, arith, refl, inl, inr, subst, sym, rules, lit<, lit≤}
+use Rattle.std.proofs.Common.{◌≡◌, ◌<◌, zero, suc, pos, negsuc, ap, List, [], ◌∷◌, map, All, arith, refl, inl, inr, subst, sym, rules, lit<, lit≤}
 use Rattle.std.specs.Prelude.{Contains, codes}
 use Rattle.std.specs.List.Sorted.{IsStrictlySortedBy}
 use Rattle.std.proofs.lemmas.Fmt.{decimal_digit}
@@ -8,17 +8,13 @@ use Rattle.staat_vec.specs.declared.vector.V3.{V3}
 use Rattle.staat_vec.specs.Vectors.{origin, vector_cmp}
 use Rattle.staat_vec.specs.Primitives.{IsCanon}
 use Rattle.staat_model.specs.declared.certificate.Dir.{Dir}
-use Rattle.staat_model.specs.declared.certificate.Node.TheVariants.{Leaf}
-use Rattle.staat_model.specs.declared.certificate.Body.TheVariants.{Plan}
-use Rattle.staat_model.specs.declared.certificate.Certificate.{Certificate}
 use Rattle.staat_model.specs.declared.certificate.Witness.{Witness}
-use Rattle.staat_model.specs.Certificates.{HasLine, IsListed, walled_leaf}
+use Rattle.staat_model.specs.Certificates.{HasLine, IsListed}
 use Rattle.staat_model.specs.Certify.{IsDirection}
 use Rattle.staat_limits.specs.Versions.{IsVersion}
-use Rattle.staat_model.specs.Lines.{IsInBounds}
 use Rattle.staat_model.specs.Planes.{axes, vertices}
-use Rattle.staat_model.specs.Texts.{IsNodeInOrder, IsReading, IsRefusalInOrder, IsWitnessInOrder, lines_of, text_of, whole}
-use Rattle.staat_model.proofs.Examples.{v, m, axis_vertices}
+use Rattle.staat_model.specs.Texts.{IsReading, IsRefusalInOrder, IsWitnessInOrder, text_of, whole}
+use Rattle.staat_model.proofs.Examples.{v, m, axis_vertices, six, smallest, smallest_form}
 
 -- one of each two opposite vertices of the axes, ascending, each with the first witness
 abbrev three : List Dir
@@ -34,39 +30,17 @@ bare = record { outs = []; ins = [] }
 
 -- ---- what is listed
 
-first_listed : HasLine three (v (pos 0) (pos 0) (pos 1))
-first_listed = (0, lit< tt, refl)
-
-second_listed : HasLine three (v (pos 0) (pos 1) (pos 0))
-second_listed = (1, lit< tt, refl)
-
-third_listed : HasLine three (v (pos 1) (pos 0) (pos 0))
-third_listed = (2, lit< tt, refl)
-
--- the vertices of the axes, in pair order
-abbrev six : List V3
-six = v (pos 0) (pos 0) (pos 1) ∷ v (pos 0) (pos 0) (m 1) ∷ v (pos 0) (m 1) (pos 0) ∷ v (pos 0) (pos 1) (pos 0) ∷ v (pos 1) (pos 0) (pos 0) ∷ v (m 1) (pos 0) (pos 0) ∷ []
-
 -- in version 2 the three directions are enough for the six vertices: one of each pair has a line, the other its negative
 six_listed : All (IsListed 2 three) (vertices axes)
 six_listed = subst (All (IsListed 2 three)) (sym axis_vertices) (All-from_recursion (IsListed 2 three) six
-    (inl first_listed, (inr (refl, first_listed), (inr (refl, second_listed), (inl second_listed, (inl third_listed, (inr (refl, third_listed), tt)))))))
+    (inl (0, lit< tt, refl), (inr (refl, (0, lit< tt, refl)), (inr (refl, (1, lit< tt, refl)), (inl (1, lit< tt, refl), (inl (2, lit< tt, refl), (inr (refl, (2, lit< tt, refl)), tt)))))))
 
 -- in version 1 they are not: none of them is the negative of the first
 no_line : HasLine three (v (pos 0) (pos 0) (m 1)) → ⊥
-no_line h = All-contains Other (map (λ dir. dir.d) three) (v (pos 0) (pos 0) (m 1)) (All-from_recursion Other (map (λ dir. dir.d) three) (first, (second, (third, tt)))) h refl
-  where
-    Other : V3 → Type 0
-    Other u = u ≡ v (pos 0) (pos 0) (m 1) → ⊥
-
-    first : v (pos 0) (pos 0) (pos 1) ≡ v (pos 0) (pos 0) (m 1) → ⊥
-    first e = let wrong : pos 1 ≡ negsuc 0 = ap (λ (u : V3). u.z) e in cc
-
-    second : v (pos 0) (pos 1) (pos 0) ≡ v (pos 0) (pos 0) (m 1) → ⊥
-    second e = let wrong : pos 0 ≡ negsuc 0 = ap (λ (u : V3). u.z) e in cc
-
-    third : v (pos 1) (pos 0) (pos 0) ≡ v (pos 0) (pos 0) (m 1) → ⊥
-    third e = let wrong : pos 0 ≡ negsuc 0 = ap (λ (u : V3). u.z) e in cc
+no_line (zero, lt, e) = let wrong : pos 1 ≡ negsuc 0 = ap (λ (u : V3). u.z) e in cc
+no_line (suc zero, lt, e) = let wrong : pos 0 ≡ negsuc 0 = ap (λ (u : V3). u.z) e in cc
+no_line (suc (suc zero), lt, e) = let wrong : pos 0 ≡ negsuc 0 = ap (λ (u : V3). u.z) e in cc
+no_line (suc (suc (suc k)), lt, e) = omega (arith, lt)
 
 one_of_two_is_not_enough : IsListed 1 three (v (pos 0) (pos 0) (m 1)) → ⊥
 one_of_two_is_not_enough (inl h) = no_line h
@@ -136,20 +110,11 @@ downwards_refused = only_canonical (record { d = v (pos 0) (pos 0) (m 1); witnes
 
 -- ---- the smallest certificate of version 2
 
-abbrev smallest : Certificate
-smallest = record { version = 2; parts = 1; body = Plan (Leaf 0 ∷ []) }
+smallest_text : text_of (smallest 2) ≡ codes "STAAT 2\nparts 1\nplan\nleaf 0\nend\n"
+smallest_text = rw (decimal_digit 2 (lit< tt), decimal_digit 1 (lit< tt), decimal_digit 0 (lit< tt)) refl
 
-smallest_read : IsReading (codes "STAAT 2\nparts 1\nplan\nleaf 0\nend\n") (whole smallest)
-smallest_read = record {
-  form = record {
-    lines = All-from_recursion IsInBounds (lines_of smallest) ((lit≤ tt, lit≤ tt), ((lit≤ tt, lit≤ tt), (tt, (lit< tt, (tt, tt)))));
-    body = record { tree = walled_leaf 0; is = refl; most = lit≤ tt; each = All-from_recursion IsNodeInOrder (Leaf 0 ∷ []) (tt, tt) };
-  };
-  is = sym text;
-}
-  where
-    text : text_of smallest ≡ codes "STAAT 2\nparts 1\nplan\nleaf 0\nend\n"
-    text = rw (decimal_digit 2 (lit< tt), decimal_digit 1 (lit< tt), decimal_digit 0 (lit< tt)) refl
+smallest_read : IsReading (codes "STAAT 2\nparts 1\nplan\nleaf 0\nend\n") (whole (smallest 2))
+smallest_read = record { form = smallest_form 2 (lit≤ tt, lit≤ tt); is = sym smallest_text }
 
 no_third_version : IsVersion 3 → ⊥
 no_third_version h = omega (arith, h.1)

@@ -1,12 +1,12 @@
 -- A vertex of the planes lies on the border of each cell, and a side that is free along some direction is free along a vertex.
-use Rattle.std.proofs.Common.{◌≡◌, ◌≢◌, ◌≤◌, zero, suc, refl, sym, ap, subst, ◌∙◌, arith, pos, inl, inr, List, [], ◌∷◌, Contains}
+use Rattle.std.proofs.Common.{◌≡◌, ◌≢◌, ◌≤◌, zero, suc, sym, ap, subst, ◌∙◌, arith, inl, inr, List, [], ◌∷◌, Contains}
 use Rattle.std.specs.FinSet as set
 use Rattle.std.proofs.lemmas.List.Elements.{Contains-append_left, Contains-append_right}
 use Rattle.staat_vec.specs.declared.vector.V3.{V3}
-use Rattle.staat_vec.specs.Vectors.{vector, cross, negative, origin}
+use Rattle.staat_vec.specs.Vectors.{cross, negative, origin}
 use Rattle.staat_vec.specs.Primitives.{primitive}
 use Rattle.staat_vec.proofs.VecRing.{cross_self, cross_turned}
-use Rattle.staat_vec.proofs.Primitives.{IsPrimitive-some, primitive-is, primitive-negative}
+use Rattle.staat_vec.proofs.Primitives.{IsPrimitive-some, primitive-negative}
 use Rattle.staat_vec.proofs.Canons.{negative-negative}
 use Rattle.staat_model.specs.declared.assembly.Part.{Part}
 use Rattle.staat_model.specs.declared.set.PartSet.{PartSet}
@@ -17,43 +17,25 @@ use Rattle.staat_model.specs.Plans.{IsStuck}
 use Rattle.staat_model.specs.Planes.{ArePlanes, axes, vertices, crossings}
 use Rattle.staat_model.specs.Cells.{signs_of, IsBorder}
 use Rattle.staat_model.specs.Borders.{HasBorderVertex, HasFreeVertex}
-use Rattle.staat_model.proofs.Corners.{HoldsAxes, IsSame, corner_towards}
+use Rattle.staat_model.proofs.Corners.{HoldsAxes, IsSame, axes_held, corner_towards, on_both}
 use Rattle.staat_model.proofs.RestrictLemmas.{rest_apart, rest_within}
 use Rattle.staat_model.proofs.GraphLemmas.{axis_in, border_towards, arc_from_border}
-use Rattle.staat_vec.proofs.Unique.{Contains-front}
-use Rattle.staat_vec.proofs.ListLaws.{Contains-there}
 
 -- ---- the list of vertices holds each crossing and its negative
 
--- the vector or its negative stands in a list that has both
-both_in : (vs : List V3) (f v : V3) → Contains vs f → Contains vs (negative f) → IsSame v f → Contains vs v
-both_in vs f v f_in opposite_in (inl e) = subst (λ z. Contains vs z) (sym e) f_in
-both_in vs f v f_in opposite_in (inr e) = subst (λ z. Contains vs z) (sym e) opposite_in
-
-in_crossings : (g h : V3) (hs : List V3) → Contains hs h → Contains (crossings g hs) (primitive (cross g h)) × Contains (crossings g hs) (negative (primitive (cross g h)))
-in_crossings g h [] (k, lt, e) = absurd (omega arith)
-in_crossings g h (m ∷ hs) (zero, lt, e) = subst (λ z. Contains (crossings g (m ∷ hs)) (primitive (cross g z)) × Contains (crossings g (m ∷ hs)) (negative (primitive (cross g z)))) e (at_head, Contains-there v (negative v) (negative v ∷ crossings g hs) (Contains-front (negative v) (crossings g hs)))
-  where
-    v : V3
-    v = primitive (cross g m)
-
-    at_head : Contains (v ∷ negative v ∷ crossings g hs) v
-    at_head = Contains-front v (negative v ∷ crossings g hs)
-in_crossings g h (m ∷ hs) (suc k, lt, e) =
-    let v = primitive (cross g m) in
-    let c = in_crossings g h hs (k, omega arith, e) in
-    let f = primitive (cross g h) in
-    (Contains-there v f (negative v ∷ crossings g hs) (Contains-there (negative v) f (crossings g hs) c.0), Contains-there v (negative f) (negative v ∷ crossings g hs) (Contains-there (negative v) (negative f) (crossings g hs) c.1))
+in_crossings : (g h v : V3) (hs : List V3) → Contains hs h → IsSame v (primitive (cross g h)) → Contains (crossings g hs) v
+in_crossings g h v [] (k, lt, e) same = absurd (omega arith)
+in_crossings g h v (m ∷ hs) (zero, lt, e) (inl p) = (0, omega arith, ap (λ z. primitive (cross g z)) e ∙ sym p)
+in_crossings g h v (m ∷ hs) (zero, lt, e) (inr p) = (1, omega arith, ap (λ z. negative (primitive (cross g z))) e ∙ sym p)
+in_crossings g h v (m ∷ hs) (suc k, lt, e) same = let (j, less, at) = in_crossings g h v hs (k, omega arith, e) same in (suc (suc j), omega arith, at)
 
 pub in_vertices : (gs : List V3) (g h v : V3) → Contains gs g → Contains gs h → cross g h ≢ origin → IsSame v (primitive (cross g h)) → Contains (vertices gs) v
 in_vertices [] g h v (k, lt, e) h_in some same = absurd (omega arith)
 in_vertices (m ∷ gs) g h v (zero, lt, e) (zero, lt2, e2) some same = absurd (some (ap (λ z. cross z h) (sym e ∙ e2) ∙ cross_self h))
 in_vertices (m ∷ gs) g h v (zero, lt, e) (suc j, lt2, e2) some same =
-    let c = in_crossings m h gs (j, omega arith, e2) in
-    Contains-append_left (crossings m gs) (vertices gs) v (both_in (crossings m gs) (primitive (cross m h)) v c.0 c.1 (subst (λ z. IsSame v (primitive (cross z h))) (sym e) same))
+    Contains-append_left (crossings m gs) (vertices gs) v (in_crossings m h v gs (j, omega arith, e2) (subst (λ z. IsSame v (primitive (cross z h))) (sym e) same))
 in_vertices (m ∷ gs) g h v (suc k, lt, e) (zero, lt2, e2) some same =
-    let c = in_crossings m g gs (k, omega arith, e) in
-    Contains-append_left (crossings m gs) (vertices gs) v (both_in (crossings m gs) (primitive (cross m g)) v c.0 c.1 (turned (subst (λ z. IsSame v (primitive (cross g z))) (sym e2) same)))
+    Contains-append_left (crossings m gs) (vertices gs) v (in_crossings m g v gs (k, omega arith, e) (turned (subst (λ z. IsSame v (primitive (cross g z))) (sym e2) same)))
   where
     back : primitive (cross g m) ≡ negative (primitive (cross m g))
     back = ap primitive (cross_turned g m) ∙ primitive-negative (cross m g)
@@ -66,11 +48,7 @@ in_vertices (m ∷ gs) g h v (suc k, lt, e) (suc j, lt2, e2) some same = Contain
 -- ---- a vertex on the border
 
 pub holds_axes : (parts : List Part) (w : PartSet) (planes : List V3) → ArePlanes parts w planes → HoldsAxes planes
-holds_axes parts w planes are = record {
-  x = axis_in parts w planes (vector (pos 1) (pos 0) (pos 0)) are (0, omega arith, refl);
-  y = axis_in parts w planes (vector (pos 0) (pos 1) (pos 0)) are (1, omega arith, refl);
-  z = axis_in parts w planes (vector (pos 0) (pos 0) (pos 1)) are (2, omega arith, refl);
-}
+holds_axes parts w planes are = axes_held planes (λ axis c. axis_in parts w planes axis are c)
 
 pub same_some : (v f : V3) → IsSame v f → f ≢ origin → v ≢ origin
 same_some v f (inl p) some e = some (sym p ∙ e)
@@ -81,7 +59,7 @@ vertex_on_border_lemma planes d axes some =
     let (v, c) = corner_towards planes d axes some in record {
       v = v;
       vertex = in_vertices planes c.g c.h v c.g_in c.h_in c.independent c.is;
-      nonzero = same_some v (primitive (cross c.g c.h)) c.is (IsPrimitive-some (primitive (cross c.g c.h)) (let p = primitive-is (cross c.g c.h) c.independent in p.primitive));
+      nonzero = let on = on_both v c.g c.h c.independent c.is in IsPrimitive-some v on.primitive;
       border = border_towards planes d v c.towards;
     }
 

@@ -6,23 +6,19 @@ use Rattle.staat_vec.specs.declared.vector.V3.{V3}
 use Rattle.staat_vec.specs.Vectors.{plus, times, minus, origin}
 use Rattle.staat_vec.proofs.Ring.{at, num, ◌⊕◌, ◌⊗◌}
 use Rattle.staat_vec.proofs.VecRing.{plusE, minusE, timesE, originE, values, v0, v1, v2, v3, ring3}
-use Rattle.staat_model.specs.Meeting.{mix, Meets}
+use Rattle.staat_model.specs.Meeting.{AreWeights, mix, Meets}
 use Rattle.staat_model.specs.Cones.{differences, IsReached}
 use Rattle.staat_model.proofs.Mixes.{mix_scale}
 use Rattle.staat_vec.proofs.ListLaws.{sum-cons}
-use Rattle.staat_vec.proofs.VectorLaws.{times_sum_plus}
-
-plus_assoc : (a b c : V3) → plus (plus a b) c ≡ plus a (plus b c)
-plus_assoc a b c = ring3 (values (a ∷ b ∷ c ∷ []) []) (plusE (plusE v0 v1) v2) (plusE v0 (plusE v1 v2)) (tt, tt, tt)
+use Rattle.staat_vec.proofs.VectorLaws.{plus_assoc, times_sum_plus}
 
 origin_plus : (a : V3) → a ≡ plus origin a
 origin_plus a = ring3 (values (a ∷ []) []) v0 (plusE originE v0) (tt, tt, tt)
 
 mix-append : (xs ys : List ℕ) (vs ws : List V3) → length xs ≡ length vs → mix (xs ++ ys) (vs ++ ws) ≡ plus (mix xs vs) (mix ys ws)
 mix-append [] ys [] ws e = origin_plus (mix ys ws)
-mix-append [] ys (v ∷ vs) ws e = absurd (omega arith)
-mix-append (x ∷ xs) ys [] ws e = absurd (omega arith)
-mix-append (x ∷ xs) ys (v ∷ vs) ws e = ap (plus (times x v)) (mix-append xs ys vs ws (omega arith)) ∙ sym (plus_assoc (times x v) (mix xs vs) (mix ys ws))
+mix-append (x ∷ xs) ys (v ∷ vs) ws e = ap (plus (times x v)) (mix-append xs ys vs ws (omega arith)) ∙ plus_assoc (times x v) (mix xs vs) (mix ys ws)
+mix-append xs ys vs ws e = absurd (omega arith)
 
 -- ---- one row: the numbers of the differences to one point p
 
@@ -37,34 +33,13 @@ row_step y s q p m =
 
 row : (b : List ℕ) (qs : List V3) (p : V3) → length b ≡ length qs → mix b (map (λ q. minus q p) qs) ≡ minus (mix b qs) (times (sum b) p)
 row [] [] p e = row_zero p
-row [] (q ∷ qs) p e = absurd (omega arith)
-row (y ∷ b) [] p e = absurd (omega arith)
 row (y ∷ b) (q ∷ qs) p e =
     ap (plus (times y (minus q p))) (row b qs p (omega arith))
     ∙ row_step y (sum b) q p (mix b qs)
     ∙ ap (λ s. minus (plus (times y q) (mix b qs)) (times s p)) (sym (sum-cons y b))
+row b qs p e = absurd (omega arith)
 
 -- ---- from weights to numbers: the product of each two weights
-
-abbrev products : List ℕ → List ℕ → List ℕ
-products [] b = []
-products (x ∷ a) b = map (λ y. x * y) b ++ products a b
-
-length-products : (a b : List ℕ) (ps qs : List V3) → length a ≡ length ps → length b ≡ length qs → length (products a b) ≡ length (differences ps qs)
-length-products [] b [] qs e f = refl
-length-products [] b (p ∷ ps) qs e f = absurd (omega arith)
-length-products (x ∷ a) b [] qs e f = absurd (omega arith)
-length-products (x ∷ a) b (p ∷ ps) qs e f =
-    length-append (map (λ y. x * y) b) (products a b)
-    ∙ (λ i. (length-map b (λ y. x * y) ∙ f ∙ sym (length-map qs (λ q. minus q p))) i + length-products a b ps qs (omega arith) f i)
-    ∙ sym (length-append (map (λ q. minus q p) qs) (differences ps qs))
-
-positive-products : (a b : List ℕ) → All (λ w. 1 ≤ w) a → All (λ w. 1 ≤ w) b → All (λ w. 1 ≤ w) (products a b)
-positive-products [] b h g = All-nil (λ w. 1 ≤ w)
-positive-products (x ∷ a) b h g =
-    All-append (λ w. 1 ≤ w) (map (λ y. x * y) b) (products a b)
-    (All-map (λ w. 1 ≤ w) (λ y. x * y) b (All-weaker (λ w. 1 ≤ w) (λ y. 1 ≤ x * y) (λ y le. mul-le-mul (All-head (λ w. 1 ≤ w) x a h) le) b g))
-    (positive-products a b (All-tail (λ w. 1 ≤ w) x a h) g)
 
 products_none : (s : ℕ) (w : V3) → origin ≡ minus (times 0 w) (times s origin)
 products_none s w = ring3 (values (w ∷ []) (pos s ∷ [])) originE (minusE (timesE (num (pos 0)) v0) (timesE (at 3) originE)) (tt, tt, tt)
@@ -75,15 +50,34 @@ products_step x s t w p m =
     (plusE (timesE (at 9) (minusE v0 (timesE (at 10) v1))) (minusE (timesE (at 11) v0) (timesE (at 10) v2)))
     (minusE (timesE (at 9 ⊕ at 11) v0) (timesE (at 10) (plusE (timesE (at 9) v1) v2))) (tt, tt, tt)
 
-mix-products : (a b : List ℕ) (ps qs : List V3) → length a ≡ length ps → length b ≡ length qs → mix (products a b) (differences ps qs) ≡ minus (times (sum a) (mix b qs)) (times (sum b) (mix a ps))
-mix-products [] b [] qs e f = products_none (sum b) (mix b qs)
-mix-products [] b (p ∷ ps) qs e f = absurd (omega arith)
-mix-products (x ∷ a) b [] qs e f = absurd (omega arith)
-mix-products (x ∷ a) b (p ∷ ps) qs e f =
-    mix-append (map (λ y. x * y) b) (products a b) (map (λ q. minus q p) qs) (differences ps qs) (length-map b (λ y. x * y) ∙ f ∙ sym (length-map qs (λ q. minus q p)))
-    ∙ (λ i. plus ((mix_scale x b (map (λ q. minus q p) qs) ∙ ap (times x) (row b qs p f)) i) (mix-products a b ps qs (omega arith) f i))
-    ∙ products_step x (sum b) (sum a) (mix b qs) p (mix a ps)
-    ∙ ap (λ s. minus (times s (mix b qs)) (times (sum b) (plus (times x p) (mix a ps)))) (sym (sum-cons x a))
+-- numbers of at least 1 for the differences, and what they add up to
+record Numbers (a b : List ℕ) (ps qs : List V3) : Type 0 where
+  ms : List ℕ
+  are_weights : AreWeights ms (differences ps qs)
+  is : mix ms (differences ps qs) ≡ minus (times (sum a) (mix b qs)) (times (sum b) (mix a ps))
+
+numbers : (a b : List ℕ) (ps qs : List V3) → length a ≡ length ps → All (λ w. 1 ≤ w) a → AreWeights b qs → Numbers a b ps qs
+numbers [] b [] qs e one w = record { ms = []; are_weights = record { one_each = refl; positive = All-nil (λ w. 1 ≤ w) }; is = products_none (sum b) (mix b qs) }
+numbers (x ∷ a) b (p ∷ ps) qs e one w =
+    let rest = numbers a b ps qs (omega arith) (All-tail (λ w. 1 ≤ w) x a one) w in
+    let rest_weights = rest.are_weights in
+    let first = map (λ y. x * y) b in
+    let row_of = map (λ q. minus q p) qs in
+    let same : length first ≡ length row_of = length-map b (λ y. x * y) ∙ w.one_each ∙ sym (length-map qs (λ q. minus q p)) in
+    record {
+      ms = first ++ rest.ms;
+      are_weights = record {
+        one_each = length-append first rest.ms ∙ (λ i. same i + rest_weights.one_each i) ∙ sym (length-append row_of (differences ps qs));
+        positive = All-append (λ w. 1 ≤ w) first rest.ms
+            (All-map (λ w. 1 ≤ w) (λ y. x * y) b (All-weaker (λ w. 1 ≤ w) (λ y. 1 ≤ x * y) (λ y le. mul-le-mul (All-head (λ w. 1 ≤ w) x a one) le) b w.positive))
+            rest_weights.positive;
+      };
+      is = mix-append first rest.ms row_of (differences ps qs) same
+          ∙ (λ i. plus ((mix_scale x b row_of ∙ ap (times x) (row b qs p w.one_each)) i) (rest.is i))
+          ∙ products_step x (sum b) (sum a) (mix b qs) p (mix a ps)
+          ∙ ap (λ s. minus (times s (mix b qs)) (times (sum b) (plus (times x p) (mix a ps)))) (sym (sum-cons x a));
+    }
+numbers a b ps qs e one w = absurd (omega arith)
 
 products_end : (s t : ℕ) (m d : V3) → minus (times s (plus m (times t d))) (times s m) ≡ times (s * t) d
 products_end s t m d =
@@ -94,18 +88,16 @@ products_end s t m d =
 pub reached_from_meets : (ps qs : List V3) (d : V3) → Meets ps qs d → IsReached (differences ps qs) d
 reached_from_meets ps qs d m =
     let r = m.meeting in
-    let a = r.a in
-    let b = r.b in
-    let la = r.a_weights.one_each in
-    let lb = r.b_weights.one_each in
+    let a = r.a_weights in
+    let n = numbers r.a r.b ps qs a.one_each a.positive r.b_weights in
     record {
-      weights = products a b;
-      are_weights = record { one_each = length-products a b ps qs la lb; positive = positive-products a b r.a_weights.positive r.b_weights.positive };
-      t = sum a * m.t;
-      is = mix-products a b ps qs la lb
-          ∙ ap (λ w. minus (times (sum a) w) (times (sum b) (mix a ps))) (sym r.same_place)
-          ∙ ap (λ s. minus (times (sum a) (plus (mix a ps) (times m.t d))) (times s (mix a ps))) (sym r.same_sum)
-          ∙ products_end (sum a) m.t (mix a ps) d;
+      weights = n.ms;
+      are_weights = n.are_weights;
+      t = sum r.a * m.t;
+      is = n.is
+          ∙ ap (λ w. minus (times (sum r.a) w) (times (sum r.b) (mix r.a ps))) (sym r.same_place)
+          ∙ ap (λ s. minus (times (sum r.a) (plus (mix r.a ps) (times m.t d))) (times s (mix r.a ps))) (sym r.same_sum)
+          ∙ products_end (sum r.a) m.t (mix r.a ps) d;
     }
 
 -- ---- from numbers to weights: the sums of the rows and of the columns
@@ -122,9 +114,8 @@ length-zip_add (x ∷ xs) (y ∷ ys) e = ap suc (length-zip_add xs ys (omega ari
 
 sum-zip_add : (xs ys : List ℕ) → length xs ≡ length ys → sum (zip_add xs ys) ≡ sum xs + sum ys
 sum-zip_add [] [] e = omega arith
-sum-zip_add [] (y ∷ ys) e = absurd (omega arith)
-sum-zip_add (x ∷ xs) [] e = absurd (omega arith)
 sum-zip_add (x ∷ xs) (y ∷ ys) e = omega (arith, sum-cons (x + y) (zip_add xs ys), sum-cons x xs, sum-cons y ys, sum-zip_add xs ys (omega arith))
+sum-zip_add xs ys e = absurd (omega arith)
 
 positive-zip_add : (xs ys : List ℕ) → length xs ≡ length ys → All (λ w. 1 ≤ w) xs → All (λ w. 1 ≤ w) (zip_add xs ys)
 positive-zip_add [] ys e h = All-nil (λ w. 1 ≤ w)
@@ -135,10 +126,9 @@ positive-zip_add (x ∷ xs) (y ∷ ys) e h =
 
 mix-zip_add : (xs ys : List ℕ) (vs : List V3) → length xs ≡ length ys → mix (zip_add xs ys) vs ≡ plus (mix xs vs) (mix ys vs)
 mix-zip_add [] [] vs e = origin_plus origin
-mix-zip_add [] (y ∷ ys) vs e = absurd (omega arith)
-mix-zip_add (x ∷ xs) [] vs e = absurd (omega arith)
 mix-zip_add (x ∷ xs) (y ∷ ys) [] e = origin_plus origin
 mix-zip_add (x ∷ xs) (y ∷ ys) (v ∷ vs) e = ap (plus (times (x + y) v)) (mix-zip_add xs ys vs (omega arith)) ∙ times_sum_plus x y v (mix xs vs) (mix ys vs)
+mix-zip_add xs ys vs e = absurd (omega arith)
 
 mix-zeros : (vs : List V3) → mix (replicate (length vs) 0) vs ≡ origin
 mix-zeros [] = refl
@@ -181,7 +171,7 @@ split_none qs ms e = record {
 split_step : (r s p m : V3) → plus (minus r p) (minus s m) ≡ minus (plus r s) (plus p m)
 split_step r s p m = ring3 (values (r ∷ s ∷ p ∷ m ∷ []) []) (plusE (minusE v0 v2) (minusE v1 v3)) (minusE (plusE v0 v1) (plusE v2 v3)) (tt, tt, tt)
 
-some_sum : (xs : List ℕ) → 1 ≤ length xs → All (λ w. 1 ≤ w) xs → 1 ≤ sum xs
+pub some_sum : (xs : List ℕ) → 1 ≤ length xs → All (λ w. 1 ≤ w) xs → 1 ≤ sum xs
 some_sum [] h g = absurd (omega arith)
 some_sum (x ∷ xs) h g = let one = All-head (λ w. 1 ≤ w) x xs g in omega (arith, one, sum-cons x xs)
 

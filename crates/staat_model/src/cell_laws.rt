@@ -40,6 +40,7 @@ pub fn open_cell()
 {}
 
 /// Directions on two different edges on the border of a cell add up to a direction in the cell.
+#[tactic(auto, using(crate::proofs::CellLemmas::edges_add_up_lemma))]
 pub fn edges_add_up()
     ensures { (planes : List Vector) (s e f : List SignValue) (u v : Vector) → kind_of e ≡ Edge
         → kind_of f ≡ Edge

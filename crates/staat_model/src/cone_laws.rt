@@ -18,6 +18,7 @@ pub fn farkas()
 /// What holds wherever the conditions of a list hold is combined from them: if each vector that has all members of
 /// the list on its positive side has h there too, then a positive multiple of h is the sum of each member times a
 /// number of at least 0 (Farkas, 1902).
+#[tactic(auto, using(crate::proofs::Alternative::combine_lemma))]
 pub fn combine()
     ensures { (vs : List Vector) (h : Vector) → ((x : Vector) → IsAbove x vs → pos 0 ≤ℤ dot h x)
         → IsCombined vs h }
@@ -49,6 +50,7 @@ pub fn reached_by_facets()
 {}
 
 /// Each facet is the primitive vector of the cross product of two members.
+#[tactic(auto, using(crate::proofs::FacetLemmas::facet_crosses_lemma))]
 pub fn facet_is_crossing()
     ensures { (vs : List Vector) (n : Vector) → IsConeFacet vs n → IsCrossing vs n }
 {}

@@ -26,6 +26,7 @@ pub fn free_at_vertex()
 
 /// What is free of another set along some direction on the plane of g, as far as a core tells, is so along a direction
 /// in which that plane crosses one of the core's own planes.
+#[tactic(auto, using(crate::proofs::CoreLemmas::free_at_crossing_lemma))]
 pub fn free_at_crossing()
     ensures { (parts : List PartValue) (core : List ArcValue) (planes : List Vector) (g : Vector)
         (s r : PartSetValue) (d : Vector) → All IsPart parts → HasCorePlanes parts core planes → g ≢ origin

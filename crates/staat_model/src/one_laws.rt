@@ -39,6 +39,7 @@ pub fn one_verdict()
 {}
 
 /// A certificate that keeps its form has a verdict: where no reason applies, it is valid.
+#[tactic(auto, using(crate::proofs::SomeVerdict::some_verdict_lemma, crate::proofs::SomeVerdict::valid_lemma))]
 pub fn some_verdict()
     ensures verdict { (parts : List PartValue) (c : CertificateValue) → IsWellFormed c
         → (v : VerdictValue) × IsVerdict parts c v }

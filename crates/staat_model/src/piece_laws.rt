@@ -22,6 +22,7 @@ pub fn overlap_by_facets()
 {}
 
 /// Each facet of two pieces is the primitive vector of the cross product of two of their differences.
+#[tactic(auto, using(crate::proofs::PieceFacets::facets_from_differences_lemma))]
 pub fn facets_from_differences()
     ensures { (p q : List Vector) (n : Vector) → IsFacet p q n → IsCrossing (differences p q) n }
 {}

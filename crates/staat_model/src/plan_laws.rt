@@ -100,6 +100,7 @@ pub fn certificates_are_valid()
 
 /// Sets of parts, of which none blocks along d a later one, leave along d one after the other: each is free of all the
 /// later ones together.
+#[tactic(auto, using(crate::proofs::LeavingLemmas::leave_in_turn_lemma))]
 pub fn leave_in_turn()
     ensures { (parts : List PartValue) (d : Vector) (sets : List PartSetValue) → IsLeavingOrder parts d sets
         → LeaveInTurn parts d sets }
@@ -107,6 +108,7 @@ pub fn leave_in_turn()
 
 /// So a plan that splits them off along d one after the other, and goes on within each by a good plan of its own,
 /// takes them all apart.
+#[tactic(auto, using(crate::proofs::LeavingLemmas::plans_in_turn_lemma))]
 pub fn plans_in_turn()
     ensures { (parts : List PartValue) (d : Vector) (s : PartSetValue) (sets : List PartSetValue) (plan : Plan)
         (plans : List Plan)

@@ -1,7 +1,5 @@
-use Rattle.std.proofs.Common.{subst, sym, ◌∙◌}
+use Rattle.std.proofs.Common.{◌∙◌}
 use Rattle.std.specs.FinSet as set
-use Rattle.staat_model.specs.Sets.{Has}
-use Rattle.staat_model.specs.declared.set.PartSet.{PartSet}
 use Rattle.staat_model.proofs.SetBits.{set_of_word-and}
 use Rattle.staat_model.proofs.SetMembers.{has-intersection}
 use Rattle.staat_model.proofs.set.PartSet.both.Goals as goal
@@ -10,4 +8,4 @@ pub returns-clause-is : goal.returns-clause-is
 returns-clause-is c = set_of_word-and c.self.inside.bits c.o.inside.bits ∙ (λ i. set.intersection (c.self.view_is i) (c.o.view_is i))
 
 pub returns-clause-members : goal.returns-clause-members
-returns-clause-members c q = let l = has-intersection c.args.self c.args.o q in (λ h. l.0 (subst (λ (t : PartSet). Has t q) (returns-clause-is c) h), λ h. subst (λ (t : PartSet). Has t q) (sym (returns-clause-is c)) (l.1 h))
+returns-clause-members c q = rw (returns-clause-is c) (has-intersection c.args.self c.args.o q)

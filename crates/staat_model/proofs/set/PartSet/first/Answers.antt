@@ -1,7 +1,5 @@
-use Rattle.std.proofs.Common.{ap, subst, sym, ◌∙◌}
+use Rattle.std.proofs.Common.{ap, ◌∙◌}
 use Rattle.staat_model.specs.Bits.{set_of_word}
-use Rattle.staat_model.specs.Sets.{Has}
-use Rattle.staat_model.specs.declared.set.PartSet.{PartSet}
 use Rattle.staat_model.proofs.SetBits.{first_bits, has-below, set_of_word-ones}
 use Rattle.staat_model.proofs.set.PartSet.first.Goals as goal
 
@@ -9,4 +7,4 @@ pub returns-clause-is : goal.returns-clause-is
 returns-clause-is c = ap set_of_word (first_bits c.args.n c.requires) ∙ set_of_word-ones c.args.n c.requires
 
 pub returns-clause-members : goal.returns-clause-members
-returns-clause-members c q = let m = has-below c.args.n q in (λ h. m.0 (subst (λ (t : PartSet). Has t q) (returns-clause-is c) h), λ h. subst (λ (t : PartSet). Has t q) (sym (returns-clause-is c)) (m.1 h))
+returns-clause-members c q = rw (returns-clause-is c) (has-below c.args.n q)

@@ -1,6 +1,4 @@
 use Rattle.staat_model.proofs.SetMembers.{has-union}
-use Rattle.std.proofs.Common.{subst, sym}
-use Rattle.staat_model.specs.Sets.{Has}
 use Rattle.std.proofs.Common.{◌∙◌}
 use Rattle.std.specs.FinSet as set
 use Rattle.staat_model.proofs.SetBits.{set_of_word-or}
@@ -10,4 +8,4 @@ pub returns-clause-is : goal.returns-clause-is
 returns-clause-is c = set_of_word-or c.self.inside.bits c.o.inside.bits ∙ (λ i. set.union (c.self.view_is i) (c.o.view_is i))
 
 pub returns-clause-members : goal.returns-clause-members
-returns-clause-members c q = let l = has-union c.args.self c.args.o q in (λ h. l.0 (subst (λ t. Has t q) (returns-clause-is c) h), λ h. subst (λ t. Has t q) (sym (returns-clause-is c)) (l.1 h))
+returns-clause-members c q = rw (returns-clause-is c) (has-union c.args.self c.args.o q)
