@@ -34,7 +34,7 @@ use Rattle.staat_cells.proofs.LowEdges.{low_kind}
 use Rattle.staat_cells.proofs.SignOrder.{not_below_itself, then_less}
 use Rattle.staat_cells.proofs.TableRules.{holds_axes, planes_apart}
 use Rattle.staat_cells.proofs.Zeros.{none_zero, open_kind}
-use Rattle.staat_vec.proofs.Naturals.{le_or_lt, same_or}
+use Rattle.staat_vec.proofs.Naturals.{trichotomy}
 use Rattle.staat_vec.proofs.Options.{some_injective}
 use Rattle.staat_vec.proofs.Signs.{negative_sign, sign_negative, zero_sign}
 use Rattle.staat_vec.proofs.Integers.{zero_not_negative}
@@ -183,34 +183,31 @@ module _ (planes : List V3) (are : AreTablePlanes planes) where
 
   -- ---- the search from the last plane on
 
-  not_later : (end k : ℕ) (s : List Sign) (e : LowEdge) → IsLastLowEdge planes end e → IsEdgeAt s k → k < end
-      → k ≤ e.place
-  not_later end k s e last at lt = by (le_or_lt k e.place)
-    where
-      by : (k ≤ e.place) ⊎ (e.place < k) → k ≤ e.place
-      by (inl le) = le
-      by (inr more) = absurd (last.later k at.g more lt at.at at.d at.low)
-
-  at_or_before : (e : LowEdge) (end k : ℕ) (s : List Sign) → IsLastLowEdge planes end e → IsEdgeAt s k
-      → k ≤ e.place
+  at_or_before : (e : LowEdge) (end k : ℕ) (s : List Sign) → IsLastLowEdge planes end e → IsEdgeAt s k → k < end
       → (s ≡ signs_of planes e.d) ⊎ ((k < e.place) × (signs_cmp (signs_of planes e.d) s ≡ Less))
-  at_or_before e end k s last at le = by (same_or k e.place)
+  at_or_before e end k s last at within = by (trichotomy k e.place)
     where
       edge : IsLowEdge planes last.g e.d
       edge = last.edge
 
-      by : (k ≡ e.place) ⊎ (k ≢ e.place)
+      by : (k < e.place) ⊎ ((k ≡ e.place) ⊎ (e.place < k))
           → (s ≡ signs_of planes e.d) ⊎ ((k < e.place) × (signs_cmp (signs_of planes e.d) s ≡ Less))
-      by (inl same) =
+      by (inl lt) = inr (
+        lt,
+        ap (signs_cmp (signs_of planes e.d)) (sym at.is)
+            ∙ earlier e.place k last.g at.g e.d at.d last.at at.at edge.low at.low lt,
+      )
+      by (inr (inl same)) =
           let here : at.g ≡ last.g = some_injective at.g last.g (sym at.at ∙ ap (slice_get planes) same ∙ last.at) in
           inl (sym at.is ∙ same_signs last.g e.d at.d edge.low (subst (λ z. IsLowOn planes z at.d) here at.low))
-      by (inr other) =
-          let lt : k < e.place = omega (arith, le, other) in
-          inr (
-            lt,
-            ap (signs_cmp (signs_of planes e.d)) (sym at.is)
-                ∙ earlier e.place k last.g at.g e.d at.d last.at at.at edge.low at.low lt,
-          )
+      by (inr (inr more)) = absurd (last.later k at.g more within at.at at.d at.low)
+
+  -- an edge on the border is the last one, or on an earlier plane
+  seen : (e : LowEdge) → IsLastLowEdge planes (length planes) e → (s : List Sign) → IsBorderEdge planes (all_negative planes) s
+      → (k : ℕ) × IsEdgeAt s k
+      × ((s ≡ signs_of planes e.d) ⊎ ((k < e.place) × (signs_cmp (signs_of planes e.d) s ≡ Less)))
+  seen e last s b =
+      let (k, at) = edge_at s b in (k, at, at_or_before e (length planes) k s last at (listed planes k at.g at.at).1)
 
   pub some_first : HasNoLowEdge planes (length planes) → ⊥
   some_first none =
@@ -227,11 +224,8 @@ module _ (planes : List V3) (are : AreTablePlanes planes) where
     where
       only : (s : List Sign) → IsBorderEdge planes (all_negative planes) s → s ≡ signs_of planes e.d
       only s b =
-          let (k, at) = edge_at s b in
-          ⊎_elim {C = s ≡ signs_of planes e.d} (λ same. same)
-          (λ (lt, less). absurd (none k at.g lt at.at at.d at.low))
-          (at_or_before e (length planes) k s last at
-          (not_later (length planes) k s e last at (listed planes k at.g at.at).1))
+          let (k, at, found) = seen e last s b in
+          ⊎_elim {C = s ≡ signs_of planes e.d} (λ same. same) (λ (lt, less). absurd (none k at.g lt at.at at.d at.low)) found
 
   pub first_cell : (e f : LowEdge) (d : V3) → IsLastLowEdge planes (length planes) e
       → IsLastLowEdge planes e.place f
@@ -264,24 +258,18 @@ module _ (planes : List V3) (are : AreTablePlanes planes) where
       first : (y : List Sign) → IsBorderEdge planes (all_negative planes) y
           → (y ≡ signs_of planes e.d) ⊎ (signs_cmp (signs_of planes e.d) y ≡ Less)
       first y b =
-          let (k, at) = edge_at y b in
-          ⊎_elim {C = (y ≡ signs_of planes e.d)
-          ⊎ (signs_cmp (signs_of planes e.d) y ≡ Less)} (λ same. inl same)
-          (λ (lt, less). inr less)
-          (at_or_before e (length planes) k y e_is at
-          (not_later (length planes) k y e e_is at (listed planes k at.g at.at).1))
+          let (k, at, found) = seen e e_is y b in
+          ⊎_elim {C = (y ≡ signs_of planes e.d) ⊎ (signs_cmp (signs_of planes e.d) y ≡ Less)} (λ same. inl same)
+          (λ (lt, less). inr less) found
 
       second : (y : List Sign) → IsBorderEdge planes (all_negative planes) y × (y ≢ signs_of planes e.d)
           → (y ≡ signs_of planes f.d) ⊎ (signs_cmp (signs_of planes f.d) y ≡ Less)
       second y (b, other) =
-          let (k, at) = edge_at y b in
+          let (k, at, found) = seen e e_is y b in
           ⊎_elim {C = (y ≡ signs_of planes f.d) ⊎ (signs_cmp (signs_of planes f.d) y ≡ Less)}
           (λ same. absurd (other same))
           (λ (lt, less). ⊎_elim {C = (y ≡ signs_of planes f.d) ⊎ (signs_cmp (signs_of planes f.d) y ≡ Less)}
-          (λ same. inl same) (λ (under, also). inr also)
-          (at_or_before f e.place k y f_is at (not_later e.place k y f f_is at lt)))
-          (at_or_before e (length planes) k y e_is at
-          (not_later (length planes) k y e e_is at (listed planes k at.g at.at).1))
+          (λ same. inl same) (λ (under, also). inr also) (at_or_before f e.place k y f_is at lt)) found
 
       sum : IsOpenSum planes (all_negative planes) d
       sum = record {

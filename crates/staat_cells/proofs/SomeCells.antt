@@ -1,5 +1,5 @@
 -- There are lists of all cells.
-use Rattle.std.proofs.Common.{◌≡◌, ◌≢◌, ◌⊎◌, inl, inr, ℕ, ◌<◌, ◌≤◌, ℤ, pos, refl, sym}
+use Rattle.std.proofs.Common.{◌≡◌, ◌≢◌, ◌⊎◌, inl, inr, ⊎_elim, ℕ, ◌<◌, ◌≤◌, pos, refl, sym}
 use Rattle.std.proofs.Common.{subst, arith}
 use Rattle.std.proofs.Common.{List, [], ◌∷◌, ◌++◌, length, map, Contains}
 use Rattle.std.proofs.lemmas.Int.{ints}
@@ -7,13 +7,13 @@ use Rattle.staat_vec.specs.declared.vector.V3.{V3}
 use Rattle.staat_vec.specs.declared.vector.Sign.TheVariants.{Neg, Pos}
 use Rattle.staat_vec.specs.Lists.{Lists}
 use Rattle.staat_vec.specs.Vectors.{cross, dot, negative, origin, vector, vector_cmp}
-use Rattle.staat_vec.proofs.Unique.{Contains-cases, Contains-front, Contains-later, Contains-nothing}
+use Rattle.staat_vec.proofs.Unique.{Contains-cases, Contains-front, Contains-later}
 use Rattle.staat_vec.proofs.VectorOrder.{vector_exact, vector_total}
 use Rattle.staat_model.specs.declared.tree.Kind.TheVariants.{Edge, Open, Point}
 use Rattle.staat_model.specs.Cells.{AreCells, AreCellsOf, CellEntry, signs_of}
 use Rattle.staat_model.specs.Planes.{vertices}
 use Rattle.staat_model.proofs.Corners.{HoldsAxes}
-use Rattle.staat_model.proofs.Decisions.{Decided, le_or, lt_or}
+use Rattle.staat_model.proofs.Decisions.{lt_or}
 use Rattle.staat_model.proofs.Listings.{Listing, listing_and, listing_as, listing_below, listing_image}
 use Rattle.staat_model.proofs.Listings.{listing_members, listing_none, listing_over, listing_sorted}
 use Rattle.staat_model.proofs.PlaneLemmas.{NoneParallel}
@@ -29,64 +29,31 @@ use Rattle.staat_cells.proofs.IncidenceOrder.{incidence_exact, incidence_total}
 use Rattle.staat_cells.proofs.Numbered.{edge_numbered, filled_numbered, own_numbered}
 use Rattle.staat_cells.proofs.OpenCells.{opens_made_up}
 use Rattle.staat_cells.proofs.PointCells.{points_are}
+use Rattle.staat_vec.proofs.Integers.{zero_or}
+use Rattle.staat_vec.proofs.ListLaws.{only_one}
 use Rattle.staat_cells.proofs.TableRules.{edge_incidences_are, holds_axes, planes_apart, planes_some, vertex_off}
 use Rattle.staat_cells.proofs.WholeLists.{open_incidences_are}
 
-zero_or : (a : ℤ) → Decided (a ≡ pos 0)
-zero_or a = elim (le_or (pos 0) a) [
-  | inl up ↦ (elim (le_or a (pos 0)) [
-    | inl down ↦ inl (omega (arith, ints, up, down))
-    | inr n ↦ inr
-        (λ e. n (omega (arith, ints, e)))
-  ])
-  | inr n ↦ inr (λ e. n (omega (arith, ints, e)))
-]
-
 listing_pair : {X : Type 0} (a b : X) → Listing (λ x. (x ≡ a) ⊎ (x ≡ b))
-listing_pair a b = record {
-  xs = a ∷ b ∷ [];
-  from = λ x c. elim (Contains-cases a (b ∷ []) x c) [
-    | inl e ↦ inl e
-    | inr later ↦ (elim (Contains-cases b [] x later) [
-      | inl e ↦ inr e
-      | inr none ↦ absurd
-          (Contains-nothing x none)
-    ])
-  ];
-  all = λ x h. elim h [
-    | inl e ↦ subst (Contains (a ∷ b ∷ [])) (sym e) (Contains-front a (b ∷ []))
-    | inr e ↦ subst (Contains (a ∷ b ∷ [])) (sym e) (Contains-later a (b ∷ []) b (Contains-front b []))
-  ];
-}
+listing_pair {X} a b = record { xs = a ∷ b ∷ []; from = from; all = all }
+  where
+    from : (x : X) → Contains (a ∷ b ∷ []) x → (x ≡ a) ⊎ (x ≡ b)
+    from x c = ⊎_elim {C = (x ≡ a) ⊎ (x ≡ b)} (λ e. inl e) (λ later. inr (only_one b x later)) (Contains-cases a (b ∷ []) x c)
+
+    all : (x : X) → (x ≡ a) ⊎ (x ≡ b) → Contains (a ∷ b ∷ []) x
+    all x (inl e) = subst (Contains (a ∷ b ∷ [])) (sym e) (Contains-front a (b ∷ []))
+    all x (inr e) = subst (Contains (a ∷ b ∷ [])) (sym e) (Contains-later a (b ∷ []) b (Contains-front b []))
 
 axis_off : (v : V3) → v ≢ origin → (m : V3) × IsAxisOff v m
-axis_off v some = elim (zero_or v.x) [
-  | inr n ↦ (
-    vector (pos 1) (pos 0) (pos 0),
-    record {
-      axis = (0, omega arith, refl);
-      off = λ e. n
-          (omega (arith, ints, e));
-    },
-  )
-  | inl x ↦ (elim (zero_or v.y) [
-    | inr n ↦ (
-      vector (pos 0) (pos 1) (pos 0),
-      record {
-        axis = (1, omega arith, refl);
-        off = λ e. n
-            (omega (arith, ints, e));
-      },
-    )
-    | inl y ↦ (
-      vector (pos 0) (pos 0) (pos 1),
-      record {
-        axis = (2, omega arith, refl);
-        off = λ e. let z : v.z ≡ pos 0 = omega (arith, ints, e) in some (λ i. vector (x i) (y i) (z i));
-      },
-    )
-  ])
-]
+axis_off v some = by (zero_or v.x) (zero_or v.y)
+  where
+    by : (v.x ≡ pos 0) ⊎ (v.x ≢ pos 0) → (v.y ≡ pos 0) ⊎ (v.y ≢ pos 0) → (m : V3) × IsAxisOff v m
+    by (inr n) y = (vector (pos 1) (pos 0) (pos 0), record { axis = (0, omega arith, refl); off = λ e. n (omega (arith, ints, e)) })
+    by (inl x) (inr n) = (vector (pos 0) (pos 1) (pos 0), record { axis = (1, omega arith, refl); off = λ e. n (omega (arith, ints, e)) })
+    by (inl x) (inl y) = (vector (pos 0) (pos 0) (pos 1), record { axis = (2, omega arith, refl); off = off })
+      where
+        off : dot (vector (pos 0) (pos 0) (pos 1)) v ≢ pos 0
+        off e = let z : v.z ≡ pos 0 = omega (arith, ints, e) in some (λ i. vector (x i) (y i) (z i))
 
 module _ (planes : List V3) (are : AreTablePlanes planes) (few : length planes ≤ 256) where
   rules : HoldsAxes planes
