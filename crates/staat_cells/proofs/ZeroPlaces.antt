@@ -5,7 +5,7 @@ use Rattle.std.proofs.Common.{add-one, append_assoc, drop-cons, List, [], ◌∷
 use Rattle.std.proofs.lemmas.List.{drop_all, drop_more, get_or-map, length-map, length-set}
 use Rattle.std.specs.Prelude.{if◌then◌else◌, slice_set}
 use Rattle.staat_vec.specs.declared.vector.V3.{V3}
-use Rattle.staat_vec.specs.Vectors.{dot, origin, sign}
+use Rattle.staat_vec.specs.Vectors.{dot, sign}
 use Rattle.staat_vec.specs.declared.vector.Sign.{Sign}
 use Rattle.staat_vec.specs.declared.vector.Sign.TheVariants.{Neg, Pos, Zero}
 use Rattle.staat_model.specs.Cells.{is_zero, signs_of}

@@ -12,7 +12,7 @@ use crate::lower_cells::{incidences_of_edges, incidences_of_points, points_of};
 use staat_limits::MOST_CELL_PLANES;
 use staat_model::Kind;
 use staat_planes::PlaneTable;
-use staat_vec::{OutOfMemory, V3};
+use staat_vec::{Normal, OutOfMemory};
 use std::alloc::Global;
 
 /// The points and edges of the planes of a table, and the incidences of its edges with its open cells, in the order
@@ -26,7 +26,7 @@ pub struct Skeleton {
 
 impl Skeleton {
     /// That of planes.
-    pub(crate) fn of_planes(alloc: Global, planes: &[V3]) -> Result<Skeleton, OutOfMemory>
+    pub(crate) fn of_planes(alloc: Global, planes: &[Normal]) -> Result<Skeleton, OutOfMemory>
         requires planes { AreTablePlanes planes.now }
         requires few { length planes.now ≤ MOST_CELL_PLANES }
         ensures { IfOk result (IsSkeleton planes.now) }
