@@ -4,10 +4,9 @@ ghost use Rattle.std.specs.Prelude.{All, IfOk, IfSome};
 ghost use Rattle.staat_vec.specs.declared.vector.TheConstants.{DIRECTION, NORMAL};
 ghost use Rattle.staat_vec.specs.Vectors.{IsWithin};
 
-use crate::planes::Normal;
 use crate::reach::Way;
 use crate::spreading::{Lead, are_all, mark_first, spread_all, turned};
-use staat_vec::{ORIGIN, OutOfMemory, Sign, V3, cross_normal, first_nonzero, sign_dot};
+use staat_vec::{Normal, ORIGIN, OutOfMemory, Sign, V3, cross_normal, first_nonzero, sign_dot};
 use std::alloc::Global;
 
 // A facet, and the direction of the circle at which what is ahead of it ends.
@@ -33,7 +32,7 @@ struct CircleSpan {
 fn end_of(g: Normal, facet: V3) -> Option<SpanEnd>
     requires { IsWithin NORMAL facet }
 {
-    let at = cross_normal(g.v, facet);
+    let at = cross_normal(g.vector(), facet);
     if at == ORIGIN {
         return None;
     }

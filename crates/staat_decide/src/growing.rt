@@ -10,7 +10,7 @@ ghost use Rattle.staat_motion.specs.Motions.{AreBodies, IsMotionOf};
 use crate::circles::{Circle, add_arc, clear, look_at, loose_end, no_circle};
 use crate::holding::copied;
 use crate::listing::{Candidate, Met, add_candidates, first_met};
-use crate::planes::{AXES, Normal, add_planes, crossing, facets_of, normals_of};
+use crate::planes::{AXES, add_planes, crossing, facets_of, normals_of};
 use crate::reach::Way;
 use crate::scene::{Scene, View};
 use crate::spots::{MOST_PAIRS, Pair, pairs_of, spots_of};
@@ -20,7 +20,7 @@ use staat_cone::FacetSource;
 use staat_holds::Hold;
 use staat_model::{Arc, Arcs, Part};
 use staat_motion::{Along, Bodies};
-use staat_vec::{DIRECTION, ORIGIN, OutOfMemory, V3, primitive};
+use staat_vec::{DIRECTION, Normal, ORIGIN, OutOfMemory, V3, primitive};
 use std::alloc::Global;
 use std::mem;
 

@@ -4,7 +4,7 @@ ghost use Rattle.staat_vec.specs.declared.vector.TheConstants.{DIRECTION};
 ghost use Rattle.staat_vec.specs.Vectors.{IsWithin};
 ghost use Rattle.staat_motion.specs.Motions.{IsMotionOf};
 
-use crate::planes::{Facets, Normal, facets_of, is_ahead, new_planes, normals_of};
+use crate::planes::{Facets, facets_of, is_ahead, new_planes, normals_of};
 use crate::reach::Way;
 use crate::scene::View;
 use crate::spots::Pair;
@@ -13,7 +13,7 @@ use staat_cone::FacetSource;
 use staat_holds::has_pieces;
 use staat_model::{Arc, Part};
 use staat_motion::Along;
-use staat_vec::{DIRECTION, OutOfMemory, V3, neg};
+use staat_vec::{DIRECTION, Normal, OutOfMemory, V3, neg};
 use std::alloc::Global;
 
 /// A pair of pieces, and their facets, if they were asked for.

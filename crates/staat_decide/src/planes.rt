@@ -1,11 +1,13 @@
 // Normals of planes, and the facets of pairs of pieces, for guesses.
-ghost use Rattle.std.specs.Prelude.{◌↔◌, All, IfSome, IsTrue};
+ghost use Rattle.std.specs.Prelude.{All, IfSome};
 ghost use Rattle.staat_vec.specs.declared.vector.TheConstants.{DIRECTION, NORMAL};
 ghost use Rattle.staat_vec.specs.Vectors.{IsWithin};
 
 use staat_cone::{FacetSource, blocks};
 use staat_model::{Arc, Part, Piece};
-use staat_vec::{NORMAL, ORIGIN, OutOfMemory, V3, canon, cross_normal, is_same, primitive};
+use staat_vec::{
+    NORMAL, Normal, ORIGIN, OutOfMemory, V3, canon, cross_normal, is_same, is_within, primitive,
+};
 use std::alloc::Global;
 
 /// The axes.
@@ -15,13 +17,6 @@ pub const AXES: [V3; 3] = [
     V3 { x: 1, y: 0, z: 0 },
 ];
 
-// A normal of a plane, none of whose components is too great.
-#[derive(Clone, Copy)]
-pub struct Normal {
-    pub v: V3,
-    ghost small: { IsWithin NORMAL v },
-}
-
 /// The facets of two pieces.
 #[derive(Drop)]
 pub struct Facets {
@@ -29,16 +24,9 @@ pub struct Facets {
     ghost small: { All (IsWithin NORMAL) list.items },
 }
 
-// whether the vector can be the normal of a plane
-fn is_normal(v: V3) -> bool
-    ensures { IsTrue result ↔ IsWithin NORMAL v }
-{
-    v.x.unsigned_abs() <= NORMAL && v.y.unsigned_abs() <= NORMAL && v.z.unsigned_abs() <= NORMAL
-}
-
 fn has_plane(planes: &[Normal], v: V3) -> bool {
     for plane in planes {
-        if is_same(plane.v, v) {
+        if is_same(plane.vector(), v) {
             return true;
         }
     }
@@ -49,7 +37,7 @@ fn has_plane(planes: &[Normal], v: V3) -> bool {
 pub fn plane_of(v: V3) -> Option<V3>
     ensures { IfSome result (IsWithin NORMAL) }
 {
-    if v == ORIGIN || !is_normal(v) {
+    if v == ORIGIN || !is_within(v, NORMAL) {
         return None;
     }
     Some(canon(v))
@@ -57,7 +45,7 @@ pub fn plane_of(v: V3) -> Option<V3>
 
 /// The direction in which two planes cross, of two opposite ones the canonical one, if they do.
 pub fn crossing_of(g: V3, h: V3) -> Option<V3> {
-    if !is_normal(g) || !is_normal(h) {
+    if !is_within(g, NORMAL) || !is_within(h, NORMAL) {
         return None;
     }
     let d = cross_normal(g, h);
@@ -72,7 +60,7 @@ pub fn add_planes(planes: &mut Vec<Normal>, facets: &[V3]) -> Result<(), OutOfMe
     for n in facets {
         if let Some(plane) = plane_of(*n) {
             if !has_plane(planes.as_slice(), plane) {
-                planes.push(Normal { v: plane })?;
+                planes.push(Normal::of(plane))?;
             }
         }
     }
@@ -99,7 +87,7 @@ pub fn crossing(planes: &[Normal], i: usize, j: usize) -> V3
     if i >= planes.len() || j >= planes.len() {
         return ORIGIN;
     }
-    cross_normal(planes[i].v, planes[j].v)
+    cross_normal(planes[i].vector(), planes[j].vector())
 }
 
 /// The facets that are known, as normals of planes.

@@ -11,4 +11,4 @@ canon-requires-clause-some c = λ none.
     false≢true (sym c.if-eq.false ∙ same)
 
 pub returns : goal.returns
-returns c = c.canon.ensures.size NORMAL (c.is_normal.ensures.0 c.if-not-is_normal.false)
+returns c = c.canon.ensures.size NORMAL (c.is_within.ensures.0 c.if-not-is_within.false)
