@@ -25,7 +25,7 @@ use Rattle.staat_ring.specs.WholeCircles.{HaveSameFull, IsFull}
 use Rattle.staat_ring.proofs.ArcLaw.{full_says}
 use Rattle.staat_ring.proofs.WholeCircles.{all, all_linked, to_linked}
 use Rattle.staat_certify.specs.Standing.{StandsAmong}
-use Rattle.staat_certify.specs.Visits.{IsTold}
+use Rattle.staat_certify.specs.Visits.{NamesIfTold}
 use Rattle.staat_certify.proofs.ArcLemmas.{least_of_parts, met_of}
 use Rattle.staat_certify.proofs.WitnessLemmas.{root_within, tree_carried}
 
@@ -95,11 +95,11 @@ module _ (parts : List Part) (t : Table) (rules : IsTable t) (s u : Signed) (d e
       }
 
   -- a number that is told there is told here
-  pub told_too : (witnesses : List Witness) (told : Option ℕ) → IsTold parts t.of witnesses d told → IsTold parts t.of witnesses e told
+  pub told_too : (witnesses : List Witness) (told : Option ℕ) → NamesIfTold parts t.of witnesses d told → NamesIfTold parts t.of witnesses e told
   told_too witnesses None names = names
   told_too witnesses (Some i) names = record { witness = names.witness; witness_is = names.witness_is; is = same_witness names.witness names.is }
 
 -- a number that is told only where other pieces do not meet
-pub still_told : (parts : List Part) (w : PartSet) (witnesses : List Witness) (e : V3) (changes : Bool) (told known : Option ℕ) → IfSome known (λ i. (changes ≡ false) × (told ≡ Some i)) → (changes ≡ false → IsTold parts w witnesses e told) → IsTold parts w witnesses e known
+pub still_told : (parts : List Part) (w : PartSet) (witnesses : List Witness) (e : V3) (changes : Bool) (told known : Option ℕ) → IfSome known (λ i. (changes ≡ false) × (told ≡ Some i)) → (changes ≡ false → NamesIfTold parts w witnesses e told) → NamesIfTold parts w witnesses e known
 still_told parts w witnesses e changes told None h names = h
-still_told parts w witnesses e changes told (Some i) h names = subst (IsTold parts w witnesses e) h.1 (names h.0)
+still_told parts w witnesses e changes told (Some i) h names = subst (NamesIfTold parts w witnesses e) h.1 (names h.0)

@@ -61,8 +61,8 @@ abbrev pub AreStillVisited : List Visit → List Visit → Type 0
 AreStillVisited old new = (v : V3) → Contains (visited_directions old) v → Contains (visited_directions new) v
 
 -- the number that is told, if any is, names the witness at d
-abbrev pub IsTold : List Part → PartSet → List Witness → V3 → Option ℕ → Type 0
-IsTold parts w witnesses d told = IfSome told (λ i. NamesWitness parts w witnesses (record { d = d; witness = i }))
+abbrev pub NamesIfTold : List Part → PartSet → List Witness → V3 → Option ℕ → Type 0
+NamesIfTold parts w witnesses d told = IfSome told (λ i. NamesWitness parts w witnesses (record { d = d; witness = i }))
 
 -- the signs are those at the vertex of the circle before the one at k, and the number that is told, if any is, names
 -- the witness there
@@ -70,7 +70,7 @@ pub record IsVisitedTo (parts : List Part) (t : Table) (r : Ring) (s : Signed) (
     (told : Option ℕ) (k : ℕ) : Type 0 where
   pub later : 0 < k
   pub signs : AreSignsAt t.planes s (vertex_at t.planes r (k - 1))
-  pub names : IsTold parts t.of witnesses (vertex_at t.planes r (k - 1)) told
+  pub names : NamesIfTold parts t.of witnesses (vertex_at t.planes r (k - 1)) told
 
 -- the crossings of the planes below n with all others have been visited
 abbrev pub AreVisitedBelow : List V3 → ℕ → List Visit → ℕ → Type 0

@@ -28,7 +28,8 @@ ghost use Rattle.staat_ring.specs.WholeCircles.{AreSignsAt, HaveSameFull, IsWhol
 ghost use Rattle.staat_certify.specs.WitnessListings.{AreKeys};
 ghost use Rattle.staat_certify.specs.Visits.{AreStillVisited, AreVisitedBelow, HasFound, IsNumberHere, IsSurvey};
 ghost use Rattle.staat_certify.specs.Standing.{StandsAmong};
-ghost use Rattle.staat_certify.specs.Visits.{IsTold, IsVisitedDirection, IsVisitedTo, KeepsTrees, SortsVisits, visited_directions};
+ghost use Rattle.staat_certify.specs.Visits.{NamesIfTold, IsVisitedDirection, IsVisitedTo, KeepsTrees, SortsVisits};
+ghost use Rattle.staat_certify.specs.Visits.{visited_directions};
 ghost use Rattle.staat_certify.specs.Witnesses.{AreTreesAlong};
 
 use crate::listing::number_witness;
@@ -118,7 +119,7 @@ fn number_here(
     requires some { at.now.d ≢ origin }
     requires kept { KeepsTrees at.now.table.now.of found.old.kept }
     requires keys { AreKeys (map (λ v. v.items) found.old.keys.keys) found.old.witnesses.items }
-    requires told { IsTold at.now.sound.now at.now.table.now.of found.old.witnesses.items at.now.d told }
+    requires told { NamesIfTold at.now.sound.now at.now.table.now.of found.old.witnesses.items at.now.d told }
     ensures number { IfOk result (IsNumberHere at.now.sound.now at.now.table.now.of at.now.d
         (map (λ v. v.items) found.new.keys.keys) found.old.witnesses.items found.new.witnesses.items) }
     ensures kept { OnOk result (KeepsTrees at.now.table.now.of found.new.kept) }
@@ -172,7 +173,7 @@ impl<'a> Survey<'a> {
         requires signs { AreSignsAt self.now.table.now.planes signs.now vertex.now }
         requires direction { IsDirection self.now.version self.now.table.now.planes vertex.now }
         requires some { vertex.now ≢ origin }
-        requires told { IsTold self.now.sound.now self.now.table.now.of found.old.witnesses.items vertex.now told }
+        requires told { NamesIfTold self.now.sound.now self.now.table.now.of found.old.witnesses.items vertex.now told }
         requires found { HasFound self.now.sound.now self.now.table.now self.now.version found.old }
         ensures found { OnOk result (HasFound self.now.sound.now self.now.table.now self.now.version found.new) }
         ensures number { IfOk result (λ number. NamesWitness self.now.sound.now self.now.table.now.of
@@ -208,13 +209,13 @@ impl<'a> Survey<'a> {
         requires listed { self.now.version ≡ 2 → IsCanon (vertex_at self.now.table.now.planes circle.now k) }
         requires signs { AreSignsAt self.now.table.now.planes signs.now
             (vertex_at self.now.table.now.planes circle.now k) }
-        requires told { IsTold self.now.sound.now self.now.table.now.of found.old.witnesses.items
+        requires told { NamesIfTold self.now.sound.now self.now.table.now.of found.old.witnesses.items
             (vertex_at self.now.table.now.planes circle.now k) told }
         requires found { HasFound self.now.sound.now self.now.table.now self.now.version found.old }
         requires below { AreVisitedBelow self.now.table.now.planes self.now.version found.old.visited.items
             circle.now.plane }
         ensures found { OnOk result (HasFound self.now.sound.now self.now.table.now self.now.version found.new) }
-        ensures told { IfOk result (IsTold self.now.sound.now self.now.table.now.of found.new.witnesses.items
+        ensures told { IfOk result (NamesIfTold self.now.sound.now self.now.table.now.of found.new.witnesses.items
             (vertex_at self.now.table.now.planes circle.now k)) }
         ensures here { OnOk result (IsVisitedDirection self.now.version found.new.visited.items
             (vertex_at self.now.table.now.planes circle.now k)) }
@@ -249,8 +250,8 @@ impl<'a> Survey<'a> {
         true
     }
 
-    // Goes to the vertex k of a circle, from the one before it if `near` says so, and visits it. The number that is told
-    // is that of the witness at the one before, and the answer that of the one here.
+    // Goes to the vertex k of a circle, from the one before it if `near` says so, and visits it. The number that is
+    // told is that of the witness at the one before, and the answer that of the one here.
     fn go_to(
         &self,
         circle: &Circle,
