@@ -62,7 +62,8 @@ AreStillVisited old new = (v : V3) → Contains (visited_directions old) v → C
 
 -- the number that is told, if any is, names the witness at d
 abbrev pub NamesIfTold : List Part → PartSet → List Witness → V3 → Option ℕ → Type 0
-NamesIfTold parts w witnesses d told = IfSome told (λ i. NamesWitness parts w witnesses (record { d = d; witness = i }))
+NamesIfTold parts w witnesses d told =
+    IfSome told (λ i. NamesWitness parts w witnesses (record { d = d; witness = i }))
 
 -- the signs are those at the vertex of the circle before the one at k, and the number that is told, if any is, names
 -- the witness there
