@@ -198,12 +198,10 @@ impl CountedSigns {
         ensures signs { self.new ≡ with_plane_sign k sign self.old }
         ensures same { result ≡ false → HaveSameFull self.old self.new }
     {
-        let was = self.counts.has_full(pairs_at(&self.states, k));
-        self.counts.lose_all(pairs_at(&self.states, k));
+        let lost = self.counts.lose_all(pairs_at(&self.states, k));
         set_sign_at(&mut self.states, k, sign);
-        self.counts.gain_all(pairs_at(&self.states, k));
-        let is = self.counts.has_full(pairs_at(&self.states, k));
-        was | is
+        let gained = self.counts.gain_all(pairs_at(&self.states, k));
+        lost | gained
     }
 
     /// Gives the plane `k` a sign. Where it has that sign, nothing is done. Tells whether some pair may have positive

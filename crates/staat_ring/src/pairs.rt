@@ -4,7 +4,8 @@ ghost use Rattle.std.specs.Prelude.{◌-◌, All, IfOk, IsTrue, false, length, r
 ghost use Rattle.staat_model.specs.Sets.{IsNonempty};
 ghost use Rattle.staat_graph.specs.Graphs.{IsStrong};
 ghost use Rattle.staat_ring.specs.BlockCounts.{IsGraphOf, part_pairs};
-ghost use Rattle.staat_ring.specs.Pairs.{CountBlocks, HasFullPair, fresh, gained, no_pair, occurs, pair_at};
+ghost use Rattle.staat_ring.specs.Pairs.{AreFullAlike, CountBlocks, HasFullPair, fresh, gained, no_pair, occurs};
+ghost use Rattle.staat_ring.specs.Pairs.{pair_at};
 
 use crate::block_counts::BlockCounts;
 use staat_graph::Graph;
@@ -79,26 +80,30 @@ impl PairCounts {
         }
     }
 
-    // one more facet of the pair is positive
-    fn gain(&mut self, q: u16)
+    // One more facet of the pair is positive. Tells whether all of them are now.
+    fn gain(&mut self, q: u16) -> bool
         requires place { q < length self.old }
         requires room { (pair_at self.old q).positive + 1 < 2 ^ 16 }
-        ensures { self.new ≡ slice_set self.old q (gained 1 (pair_at self.old q)) }
+        ensures pairs { self.new ≡ slice_set self.old q (gained 1 (pair_at self.old q)) }
+        ensures full { result ≡ false → AreFullAlike self.old self.new }
     {
         let mut pair = self.pairs[q as usize];
         pair.positive += 1;
         self.pairs[q as usize] = pair;
         if pair.positive == pair.wanted {
             self.blocked.more(pair.parts);
+            return true;
         }
+        false
     }
 
-    // one less is
-    fn lose(&mut self, q: u16)
+    // One less is. Tells whether all of them were.
+    fn lose(&mut self, q: u16) -> bool
         requires place { q < length self.old }
         requires some { 0 < (pair_at self.old q).positive }
         ensures length { length self.new ≡ length self.old }
         ensures pairs { self.old ≡ slice_set self.new q (gained 1 (pair_at self.new q)) }
+        ensures full { result ≡ false → AreFullAlike self.old self.new }
     {
         let mut pair = self.pairs[q as usize];
         let was = pair.positive;
@@ -106,44 +111,42 @@ impl PairCounts {
         self.pairs[q as usize] = pair;
         if was == pair.wanted {
             self.blocked.less(pair.parts);
+            return true;
         }
+        false
     }
 
-    /// One more facet of each pair in the list is positive, for a pair that stands twice two more.
-    pub fn gain_all(&mut self, qs: &[u16])
+    /// One more facet of each pair in the list is positive, for a pair that stands twice two more. Tells whether some
+    /// pair has come to positive facets alone.
+    pub fn gain_all(&mut self, qs: &[u16]) -> bool
         requires places { All (λ q. q < length self.old) qs.now }
         requires room { (q : ℕ) → (pair_at self.old q).positive + occurs q qs.now < 2 ^ 16 }
         ensures length { length self.new ≡ length self.old }
         ensures each { (q : ℕ) → pair_at self.new q ≡ gained (occurs q qs.now) (pair_at self.old q) }
+        ensures full { result ≡ false → AreFullAlike self.old self.new }
     {
+        let mut told = false;
         for q in qs {
-            self.gain(*q);
+            let full = self.gain(*q);
+            told = told | full;
         }
+        told
     }
 
-    /// One less of each is positive.
-    pub fn lose_all(&mut self, qs: &[u16])
+    /// One less of each is positive. Tells whether some pair has positive facets alone no more.
+    pub fn lose_all(&mut self, qs: &[u16]) -> bool
         requires places { All (λ q. q < length self.old) qs.now }
         requires some { (q : ℕ) → occurs q qs.now ≤ (pair_at self.old q).positive }
         ensures length { length self.new ≡ length self.old }
         ensures each { (q : ℕ) → pair_at self.old q ≡ gained (occurs q qs.now) (pair_at self.new q) }
+        ensures full { result ≡ false → AreFullAlike self.old self.new }
     {
+        let mut told = false;
         for q in qs {
-            self.lose(*q);
+            let full = self.lose(*q);
+            told = told | full;
         }
-    }
-
-    /// Whether all facets of some pair in the list are positive.
-    pub fn has_full(&self, qs: &[u16]) -> bool
-        requires { All (λ q. q < length self.now) qs.now }
-        ensures { result ≡ false → All (λ q. (pair_at self.now q).positive < (pair_at self.now q).wanted) qs.now }
-    {
-        for q in qs {
-            if self.is_full(*q) {
-                return true;
-            }
-        }
-        false
+        told
     }
 
     /// Whether all facets of the pair are positive.
