@@ -8,9 +8,7 @@ use Rattle.std.proofs.lemmas.List.{get_or_default}
 use Rattle.std.proofs.lemmas.List.Edits.{get_or-insert_above, get_or-insert_at, get_or-insert_below, length-insert}
 use Rattle.std.proofs.lemmas.List.Elements.{Contains-append_cases, Contains-append_left, Contains-append_right}
 use Rattle.staat_vec.specs.declared.vector.V3.{V3}
-use Rattle.staat_vec.specs.declared.vector.Sign.{Sign}
 use Rattle.staat_vec.specs.Lists.{Lists}
-use Rattle.staat_vec.specs.Vectors.{det, sign}
 use Rattle.staat_vec.proofs.Comparisons.{sorted_push}
 use Rattle.staat_vec.proofs.Integers.{zero_not_negative}
 use Rattle.staat_vec.proofs.ListLaws.{only_one}
@@ -21,10 +19,6 @@ use Rattle.staat_planes.proofs.Passing.{not_both}
 use Rattle.staat_ring.specs.declared.entry.Entry.{Entry}
 use Rattle.staat_ring.specs.Order.{AreInOrder, HasEntryOfPlane, IsBreak, IsInserted, IsOrderOf, IsTransitive, CrossesBefore, entry_at, facet_of, no_entry, order_det}
 use Rattle.staat_ring.proofs.NextVertexWithout.{three}
-
--- the sign as it is had from the two facets
-pub order_sign : (planes : List V3) (g : V3) (e f : Entry) (a b : V3) (s t : Sign) → a ≡ facet_of planes e → b ≡ facet_of planes f → s ≡ sign (det g a b) → s ≡ t → sign (order_det planes g e f) ≡ t
-order_sign planes g e f a b s t ea eb told is = sym (told ∙ (λ i. sign (det g (ea i) (eb i)))) ∙ is
 
 pub not_precedes : (planes : List V3) (g : V3) (e f : Entry) → order_det planes g e f <ℤ pos 0 → CrossesBefore planes g e f → ⊥
 not_precedes planes g e f n (inl p) = not_both (order_det planes g e f) p n
