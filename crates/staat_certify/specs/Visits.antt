@@ -37,7 +37,7 @@ IsNamed parts w witnesses visit = NamesWitness parts w witnesses (record { d = v
 abbrev pub visited_directions : List Visit → List V3
 visited_directions visited = map (λ visit. visit.d) visited
 
--- what the walk has found so far, with the trees that it keeps and the keys of the witnesses
+-- what has been found so far, with the trees that are kept and the keys of the witnesses
 pub record HasFound (parts : List Part) (t : Table) (version : ℕ) (found : Found) : Type 0 where
   pub kept : KeepsTrees t.of found.kept
   pub keys_are : AreKeys (map (λ v. v.items) found.keys.keys) found.witnesses.items

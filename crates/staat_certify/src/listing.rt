@@ -94,7 +94,7 @@ fn copy_of(alloc: Global, witness: &Witness) -> Result<Witness, OutOfMemory>
     })
 }
 
-// the number in the listing of the witness p that the walk has found
+// the number in the listing of the witness p that was found
 fn name_of(
     alloc: Global,
     found: &[Witness],

@@ -1,4 +1,4 @@
-// The witness at each vertex of a table's planes, found in a walk along all circles.
+// The witness at each vertex of a table's planes, found on one circle after another.
 ghost use Rattle.std.specs.Prelude.{
   ◌≡◌,
   ◌≢◌,

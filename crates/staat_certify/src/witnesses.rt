@@ -1,4 +1,4 @@
-// The witness that no side of a set is free of its rest along the vertex of a walk.
+// The witness that no side of a set is free of its rest along a vertex.
 ghost use Rattle.std.specs.Prelude.{◌≡◌, ◌≢◌, ◌<◌, All, IfOk, IsTrue, false, map, take};
 ghost use Rattle.staat_vec.specs.Vectors.{origin};
 ghost use Rattle.staat_model.specs.Certificates.{outward};
