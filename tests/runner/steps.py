@@ -74,7 +74,13 @@ STEPS = (
     Step("checkers", _python("tools/compare_checkers.py", "--program={program}", "--broken=1000")),
     Step("short", _python("tools/compare_short.py", "--program={program}", "--broken=400")),
     Step("planners", _python("tools/compare_planners.py", "--program={program}", "--made=400")),
-    Step("shelves", _python("tools/compare_shelves.py", "{program}"), ("cc",), is_quick=False),
+    Step(
+        "shelves",  # it runs a second program, which may be built behind the first
+        _python("tools/compare_shelves.py", "{program}"),
+        ("cc",),
+        is_quick=False,
+        is_late=True,
+    ),
     Step(
         "pages",
         _python("tests/runner/pages.py", "{program}"),
