@@ -1,3 +1,2 @@
 pub mod SpellingLemmas
-pub mod DecimalLemmas
 pub mod NumberLemmas

@@ -1,7 +1,8 @@
 // The order of the entries of a circle, and where its stops end.
 ghost use Rattle.std.specs.Prelude.{◌≡◌, ◌↔◌, ℕ, ◌<◌, ℤ, All, Bool, IfOk, IsTrue, OnOk, length, map, pos};
 ghost use Rattle.staat_vec.specs.Vectors.{IsWithin, sign};
-ghost use Rattle.staat_vec.specs.declared.vector.TheConstants.{DIFF, NORMAL};
+ghost use Rattle.staat_vec.specs.declared.vector.TheConstants.{NORMAL};
+ghost use Rattle.staat_vec.specs.declared.words.TheConstants.{BROAD};
 ghost use Rattle.staat_ring.specs.Builds.{key_entry};
 ghost use Rattle.staat_ring.specs.Order.{AreStopEnds, CrossesBefore, IsInserted, IsOrderOf, IsPlace};
 ghost use Rattle.staat_ring.specs.Order.{facet_of, order_det};
@@ -10,9 +11,7 @@ use crate::entry::Entry;
 use crate::half_circle::facet_by;
 use crate::keys::Key;
 use staat_planes::PlaneTable;
-use staat_vec::{
-    DIFF, NORMAL, OutOfMemory, Sign, V3, are_within, is_within, order_on, small_order,
-};
+use staat_vec::{BROAD, NORMAL, OutOfMemory, Sign, V3, are_within, broad_order, order_on};
 use std::alloc::Global;
 
 /// The turn on which entries are put in order: around the normal of a plane of a table.
@@ -20,10 +19,10 @@ use std::alloc::Global;
 pub struct Turn<'a> {
     table: &'a PlaneTable,
     g: V3,
-    // whether words hold all determinants
+    // whether words hold the cross products of all normals
     near: bool,
     ghost within: { IsWithin NORMAL g },
-    ghost nearness: { IsTrue near → IsWithin DIFF g × All (IsWithin DIFF) table.now.planes },
+    ghost nearness: { IsTrue near → All (IsWithin BROAD) table.now.planes },
 }
 
 impl<'a> Turn<'a> {
@@ -36,7 +35,7 @@ impl<'a> Turn<'a> {
         Turn {
             table,
             g,
-            near: is_within(g, DIFF) && are_within(table.planes(), DIFF),
+            near: are_within(table.planes(), BROAD),
         }
     }
 }
@@ -46,7 +45,7 @@ fn facet_of(turn: &Turn, e: Entry) -> V3
     requires { e.plane < length turn.now.table.now.planes }
     ensures is { result ≡ facet_of turn.now.table.now.planes e }
     ensures within { IsWithin NORMAL result }
-    ensures near { All (IsWithin DIFF) turn.now.table.now.planes → IsWithin DIFF result }
+    ensures near { All (IsWithin BROAD) turn.now.table.now.planes → IsWithin BROAD result }
 {
     facet_by(e.turned, turn.table.plane(e.plane))
 }
@@ -60,7 +59,7 @@ fn order_of(turn: &Turn, e: Entry, f: Entry) -> Sign
     let a = facet_of(turn, e);
     let b = facet_of(turn, f);
     if turn.near {
-        small_order(turn.g, a, b)
+        broad_order(turn.g, a, b)
     } else {
         order_on(turn.g, a, b)
     }

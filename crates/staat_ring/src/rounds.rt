@@ -10,7 +10,7 @@ use crate::counted_signs::CountedSigns;
 use crate::entry::Entry;
 use crate::walk::stop_sign;
 use staat_planes::PlaneTable;
-use staat_vec::{DIRECTION, V3, sign_dot};
+use staat_vec::{Course, DIRECTION, V3};
 
 // gives the planes through a vertex their signs, those there or those just after it
 fn sign_entries(signs: &mut CountedSigns, entries: &[Entry], leaves: bool) -> bool
@@ -33,8 +33,9 @@ fn sign_table(signs: &mut CountedSigns, table: &PlaneTable, d: V3)
     ensures made { BelongTo table.now signs.new }
     ensures signs { AreSignsAt table.now.planes signs.new d }
 {
+    let course = Course::of(d);
     for k in 0..table.len() {
-        signs.set(k, sign_dot(table.plane(k), d));
+        signs.set(k, course.sign(table.plane(k)));
     }
 }
 

@@ -8,7 +8,7 @@ ghost use Rattle.staat_ring.specs.Walked.{DoCross};
 use crate::Entry;
 use staat_pairs::crossing;
 use staat_planes::PlaneTable;
-use staat_vec::{DIRECTION, V3, cross_normal, first_nonzero, neg};
+use staat_vec::{DIRECTION, V3, first_of_cross, neg};
 use std::marker::Model;
 
 /// The crossing of two planes, seen as its direction. It is computed only when it is asked for.
@@ -53,11 +53,11 @@ impl Vertex {
         Vertex::new(table.plane(c), table.plane(entry.plane), entry.turned)
     }
 
-    /// Whether the first component of the direction other than zero is positive. The primitive vector is not computed.
+    /// Whether the first component of the direction other than zero is positive. No more than that is computed of it.
     pub fn is_canon(&self) -> bool
         ensures { IsTrue result ↔ IsCanon self.now }
     {
-        let first = first_nonzero(cross_normal(self.own, self.other));
+        let first = first_of_cross(self.own, self.other);
         if self.turned { first < 0 } else { first > 0 }
     }
 

@@ -7,3 +7,4 @@ pub mod PlanLines
 pub mod PlanSteps
 pub mod SameArcs
 pub mod CellLines
+pub mod Digits

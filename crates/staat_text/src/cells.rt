@@ -57,7 +57,7 @@ fn push_vector(line: &mut Vec<u8>, d: V3) -> Result<(), AllocError>
 }
 
 // Adds a digit.
-#[tactic(auto, using(staat_number::proofs::DecimalLemmas::one_digit))]
+#[tactic(auto, using(crate::proofs::Digits::one_digit))]
 fn push_digit(line: &mut Vec<u8>, d: u32) -> Result<(), AllocError>
     requires { d < 10 }
     ensures { IfOk result (λ _. line.new.items ≡ line.old.items ++ decimal d) }
@@ -67,7 +67,7 @@ fn push_digit(line: &mut Vec<u8>, d: u32) -> Result<(), AllocError>
 }
 
 // Adds the number of a part, which has one digit or two.
-#[tactic(auto, using(staat_number::proofs::DecimalLemmas::one_digit_more))]
+#[tactic(auto, using(crate::proofs::Digits::one_digit_more))]
 fn push_part(line: &mut Vec<u8>, a: u32) -> Result<(), AllocError>
     requires { a < MOST_PARTS }
     ensures { IfOk result (λ _. line.new.items ≡ line.old.items ++ decimal a) }

@@ -1,10 +1,10 @@
 // A direction that is multiplied with many normals.
 ghost use Rattle.std.specs.Prelude.{◌≡◌};
-ghost use Rattle.staat_vec.specs.Vectors.{IsWithin, dot};
+ghost use Rattle.staat_vec.specs.Vectors.{IsWithin, dot, sign};
 
-use crate::products::dot;
-use crate::vector::{DIRECTION, NORMAL, V3};
-use crate::words::{SMALL, is_within, small_dot};
+use crate::products::{dot, sign_dot};
+use crate::vector::{DIRECTION, NORMAL, Sign, V3};
+use crate::words::{SMALL, is_within, small_dot, small_sign};
 use std::marker::Model;
 
 /// A direction, and whether it is small, so that words hold its products with normals. Most directions are; these
@@ -60,6 +60,18 @@ impl Course {
             long_dot(n, self.d)
         } else {
             dot(n, self.d)
+        }
+    }
+
+    /// The sign of that product.
+    pub fn sign(&self, n: V3) -> Sign
+        requires { IsWithin NORMAL n }
+        ensures { result ≡ sign (dot n self.now) }
+    {
+        if self.small {
+            small_sign(n, self.d)
+        } else {
+            sign_dot(n, self.d)
         }
     }
 }

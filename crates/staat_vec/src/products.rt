@@ -65,7 +65,7 @@ fn product(a: i128, b: i128) -> i128
 }
 
 // the minor of the rows (a, b) and (c, d), of components of two normals
-fn minor(a: i128, b: i128, c: i128, d: i128) -> i128
+pub(crate) fn minor(a: i128, b: i128, c: i128, d: i128) -> i128
     requires a { unsigned_abs a ≤ NORMAL }
     requires b { unsigned_abs b ≤ NORMAL }
     requires c { unsigned_abs c ≤ NORMAL }

@@ -1,7 +1,7 @@
 // The primitive vector on a ray, and the canonical one of two opposite vectors.
 ghost use Rattle.std.specs.Prelude.{◌≡◌, ◌≢◌, ◌≤◌, ◌≤ℤ◌, ◌*◌, ◌%◌, ◌^◌, ℕ, min, pos, int_div};
 ghost use Rattle.std.specs.Int.{IsGcd, trailing_zeros, w64};
-ghost use Rattle.staat_vec.specs.Vectors.{IsWithin, origin};
+ghost use Rattle.staat_vec.specs.Vectors.{IsWithin, cross, origin};
 ghost use Rattle.staat_vec.specs.Primitives.{
   IsPrimitiveOf,
   IsCanon,
@@ -11,8 +11,8 @@ ghost use Rattle.staat_vec.specs.Primitives.{
   canon,
 };
 
-use crate::products::neg;
-use crate::vector::{DIRECTION, V3};
+use crate::products::{minor, neg};
+use crate::vector::{DIRECTION, NORMAL, V3};
 
 // the odd part of a number other than 0
 fn odd_part(a: u64) -> u64
@@ -154,6 +154,25 @@ pub fn first_nonzero(v: V3) -> i128
     } else {
         v.z
     }
+}
+
+/// The first component of the cross product of two normals that is not 0, and 0 where they are parallel.
+///
+/// The components of both are at most [`NORMAL`] in absolute value. The components behind it are not computed.
+pub fn first_of_cross(a: V3, b: V3) -> i128
+    requires a { IsWithin NORMAL a }
+    requires b { IsWithin NORMAL b }
+    ensures { result ≡ first_nonzero (cross a b) }
+{
+    let x = minor(a.y, a.z, b.y, b.z);
+    if x != 0 {
+        return x;
+    }
+    let y = minor(a.z, a.x, b.z, b.x);
+    if y != 0 {
+        return y;
+    }
+    minor(a.x, a.y, b.x, b.y)
 }
 
 /// The canonical one of `v` and its negative: the one whose first component other than 0 is

@@ -3,10 +3,14 @@ ghost use Rattle.std.specs.Prelude.{◌≡◌, ◌≤◌, ◌*◌, ◌-ℤ◌, �
 ghost use Rattle.staat_vec.specs.Vectors.{IsWithin, cross, det, dot, sign};
 
 use crate::normal::Normal;
+use crate::products::sign_dot;
 use crate::vector::{DIFF, NORMAL, Sign, V3};
 
 /// How great a component of a small vector is at most: a word holds three of its products with components of a normal.
 pub const SMALL: u128 = 1 << 22;
+
+/// How great a component of two vectors is at most whose cross product words hold.
+pub const BROAD: u128 = 1 << 30;
 
 /// Whether no component is greater than the bound in absolute value.
 pub fn is_within(v: V3, bound: u128) -> bool
@@ -37,8 +41,7 @@ fn word(a: i128) -> i64
 
 // the exact product of words
 fn word_product(a: i64, b: i64) -> i64
-    requires a { unsigned_abs a ≤ NORMAL }
-    requires b { unsigned_abs b ≤ SMALL }
+    requires { unsigned_abs a * unsigned_abs b ≤ NORMAL * SMALL }
     ensures value { result ≡ a *ℤ b }
     ensures size { unsigned_abs result ≤ NORMAL * SMALL }
 {
@@ -95,22 +98,33 @@ pub fn small_sign(n: V3, d: V3) -> Sign
 
 // a word as a component
 fn long(a: i64) -> i128
-    requires { unsigned_abs a ≤ NORMAL }
     ensures { result ≡ a }
 {
     a as i128
 }
 
-// the minor of the rows (a, b) and (c, d), of components of two differences of points
-fn small_minor(a: i128, b: i128, c: i128, d: i128) -> i128
-    requires a { unsigned_abs a ≤ DIFF }
-    requires b { unsigned_abs b ≤ DIFF }
-    requires c { unsigned_abs c ≤ DIFF }
-    requires d { unsigned_abs d ≤ DIFF }
-    ensures value { result ≡ (a *ℤ d) -ℤ (b *ℤ c) }
-    ensures size { unsigned_abs result ≤ NORMAL }
+// the minor of the rows (a, b) and (c, d)
+fn word_minor(a: i128, b: i128, c: i128, d: i128) -> i128
+    requires a { unsigned_abs a ≤ BROAD }
+    requires b { unsigned_abs b ≤ BROAD }
+    requires c { unsigned_abs c ≤ BROAD }
+    requires d { unsigned_abs d ≤ BROAD }
+    ensures { result ≡ (a *ℤ d) -ℤ (b *ℤ c) }
 {
     long(word_product(word(a), word(d)) - word_product(word(b), word(c)))
+}
+
+// the cross product of vectors whose components are at most [`BROAD`] in absolute value
+fn word_cross(a: V3, b: V3) -> V3
+    requires a { IsWithin BROAD a }
+    requires b { IsWithin BROAD b }
+    ensures { result ≡ cross a b }
+{
+    V3 {
+        x: word_minor(a.y, a.z, b.y, b.z),
+        y: word_minor(a.z, a.x, b.z, b.x),
+        z: word_minor(a.x, a.y, b.x, b.y),
+    }
 }
 
 /// The cross product of two differences of points, exact.
@@ -123,20 +137,16 @@ pub fn cross_diff(a: V3, b: V3) -> V3
     ensures value { result ≡ cross a b }
     ensures size { IsWithin NORMAL result }
 {
-    V3 {
-        x: small_minor(a.y, a.z, b.y, b.z),
-        y: small_minor(a.z, a.x, b.z, b.x),
-        z: small_minor(a.x, a.y, b.x, b.y),
-    }
+    word_cross(a, b)
 }
 
-/// The sign of `det(n, a, b)`, as [`order_on`](crate::order_on) has it, of three vectors whose components are at most
-/// [`DIFF`] in absolute value.
-pub fn small_order(n: V3, a: V3, b: V3) -> Sign
-    requires n { IsWithin DIFF n }
-    requires a { IsWithin DIFF a }
-    requires b { IsWithin DIFF b }
+/// The sign of `det(n, a, b)`, as [`order_on`](crate::order_on) has it, of a normal and two vectors whose components
+/// are at most [`BROAD`] in absolute value.
+pub fn broad_order(n: V3, a: V3, b: V3) -> Sign
+    requires n { IsWithin NORMAL n }
+    requires a { IsWithin BROAD a }
+    requires b { IsWithin BROAD b }
     ensures { result ≡ sign (det n a b) }
 {
-    small_sign(cross_diff(a, b), n)
+    sign_dot(n, word_cross(a, b))
 }

@@ -17,12 +17,12 @@ pub loop-k-preserved : goal.loop-k-preserved
 loop-k-preserved c =
     let t = c.args.table.now in
     let k = c.loop-k.k in
-    let g = c.sign_dot.result in
+    let g = c.sign.result in
     record {
       end = c.loop-k.invariant.end;
       made = subst (BelongTo t) (sym c.set.ensures.signs) (belong_same t c.loop-k.signs (with_plane_sign k g c.loop-k.signs) (signed_same k g c.loop-k.signs) c.loop-k.invariant.made);
       done = more_done t.planes (all t.planes) c.args.d c.loop-k.signs c.set.new.self k g (omega (arith, c.loop-k-test.true, c.loop-k.invariant.end, c.loop-k.invariant.made.states))
-          (λ n at. subst (λ (m : V3). g ≡ sign (dot m c.args.d)) (same_Some c.plane.result n (sym c.plane.ensures.is ∙ at)) c.sign_dot.ensures) c.set.ensures.signs c.loop-k.invariant.done;
+          (λ n at. subst (λ (m : V3). g ≡ sign (dot m c.args.d)) (same_Some c.plane.result n (sym c.plane.ensures.is ∙ at)) c.sign.ensures) c.set.ensures.signs c.loop-k.invariant.done;
     }
 
 pub returns-clause-signs : goal.returns-clause-signs
