@@ -42,12 +42,12 @@ module _ (own other now : V3) (r : ℤ) (fits : FitsSigned w128 r) (is : r ≡ f
 
 pub returns-then-self : goal.returns-then-self
 returns-then-self c =
-    turned c.self.inside.own c.self.inside.other c.args.self.now c.first_nonzero-first.result (record { sfits = c.first_nonzero-first.type_inv })
-    (c.first_nonzero-first.ensures ∙ ap first_nonzero c.cross_normal.ensures.value) (primitive-is (cross c.self.inside.own c.self.inside.other) c.self.invariant.apart)
+    turned c.self.inside.own c.self.inside.other c.args.self.now c.first_of_cross-first.result (record { sfits = c.first_of_cross-first.type_inv })
+    c.first_of_cross-first.ensures (primitive-is (cross c.self.inside.own c.self.inside.other) c.self.invariant.apart)
     ((λ i. facet_by (sym c.if-self.true i) (primitive (cross c.self.inside.own c.self.inside.other))) ∙ c.self.view_is)
 
 pub returns-else-self : goal.returns-else-self
 returns-else-self c =
-    straight c.self.inside.own c.self.inside.other c.args.self.now c.first_nonzero-first.result (record { sfits = c.first_nonzero-first.type_inv })
-    (c.first_nonzero-first.ensures ∙ ap first_nonzero c.cross_normal.ensures.value) (primitive-is (cross c.self.inside.own c.self.inside.other) c.self.invariant.apart)
+    straight c.self.inside.own c.self.inside.other c.args.self.now c.first_of_cross-first.result (record { sfits = c.first_of_cross-first.type_inv })
+    c.first_of_cross-first.ensures (primitive-is (cross c.self.inside.own c.self.inside.other) c.self.invariant.apart)
     ((λ i. facet_by (sym c.if-self.false i) (primitive (cross c.self.inside.own c.self.inside.other))) ∙ c.self.view_is)
