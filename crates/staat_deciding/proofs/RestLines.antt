@@ -76,10 +76,6 @@ group_small plan members listed is same small = All-from_members (λ p. p < 1024
 
 -- ---- lines
 
-pub group_written : (plan : PartialPlan) (members listed old new line shown : List ℕ) → plan ≡ together (set_of members) → listed ≡ members → line ≡ plan_text (stuck (set_of listed)) → shown ≡ line → new ≡ old ++ shown → new ≡ old ++ stuck_lines plan
-group_written plan members listed old new line shown is same l s e =
-    e ∙ ap (λ t. old ++ t) (s ∙ l ∙ ap (λ m. plan_text (stuck (set_of m))) same) ∙ ap (λ (p : PartialPlan). old ++ stuck_lines p) (sym is)
-
 pub no_lines : (plan : PartialPlan) (text : List ℕ) → stuck_lines plan ≡ [] → text ≡ text ++ stuck_lines plan
 no_lines plan text none = sym (ap (λ l. text ++ l) none ∙ append-nil text)
 

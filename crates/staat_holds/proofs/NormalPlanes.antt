@@ -13,9 +13,6 @@ use Rattle.staat_holds.specs.Holds.{AreHoldPlanes}
 one_zero : ◌≡◌ {A = ℤ} (pos 1) (pos 0) → ⊥
 one_zero e = omega (arith, ints)
 
-minus_zero : ◌≡◌ {A = ℤ} (negsuc 0) (pos 0) → ⊥
-minus_zero e = omega (arith, ints)
-
 plane_normal : (parts : List Part) (core : List Arc) (n : V3) → IsCorePlane parts core n → IsNormal n
 plane_normal parts core n plane =
     let h = plane.holds in

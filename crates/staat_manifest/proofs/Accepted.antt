@@ -115,7 +115,3 @@ pub within_limits : (most_parts most : ℕ) (bytes : Text) (result : Result (Lis
 unfolding part_list_within
 within_limits most_parts most bytes (Ok list) e = of_value most_parts most (json_of bytes) list e
 within_limits most_parts most bytes (Err refusal) e = tt
-
--- and those of an assembly
-pub within_bounds : (bytes : Text) (result : Result (List ListedPart) ManifestRefusal) → AnswersList (part_list bytes) result → IfOk result IsListing
-within_bounds bytes result e = within_limits MOST_PARTS MOST_PIECES bytes result e

@@ -153,10 +153,6 @@ pub append_nothing : {X : Type 0} (xs : List X) → xs ++ [] ≡ xs
 append_nothing [] = refl
 append_nothing (x ∷ xs) = ap (λ l. x ∷ l) (append_nothing xs)
 
-pub length_zero_nil : (x : List ℕ) → length x ≡ 0 → x ≡ []
-length_zero_nil [] e = refl
-length_zero_nil (b ∷ x) e = absurd (omega arith)
-
 pub length_test_nil : {X : Type 0} (xs : List X) → (length xs == 0) ≡ true → xs ≡ []
 length_test_nil [] e = refl
 length_test_nil (x ∷ xs) e = absurd (let none : suc (length xs) ≡ 0 = eqb-true (suc (length xs)) 0 e in omega arith)

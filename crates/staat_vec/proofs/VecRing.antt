@@ -68,9 +68,6 @@ v3 = vectorE (at 9) (at 10) (at 11)
 abbrev pub v4 : VEx
 v4 = vectorE (at 12) (at 13) (at 14)
 
-abbrev pub v5 : VEx
-v5 = vectorE (at 15) (at 16) (at 17)
-
 -- ---- equations of vectors
 
 -- the value of an expression for a vector
