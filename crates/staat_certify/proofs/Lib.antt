@@ -3,15 +3,12 @@ pub mod WallLemmas
 pub mod NodeLemmas
 pub mod NumberLemmas
 pub mod WitnessLemmas
-pub mod ArcLemmas
-pub mod TreeArcs
 pub mod Keys
 pub mod Numbering
 pub mod LineLemmas
 pub mod SameWitness
 pub mod VisitLemmas
 pub mod ListedLemmas
-pub mod Forms
 pub mod PlanForms
 pub mod RefusalForms
 pub mod CertificateLemmas

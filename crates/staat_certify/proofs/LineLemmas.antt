@@ -9,11 +9,11 @@ use Rattle.staat_model.specs.declared.certificate.Dir.{Dir}
 use Rattle.staat_model.specs.declared.certificate.Witness.{Witness}
 use Rattle.staat_model.specs.declared.set.PartSet.{PartSet}
 use Rattle.staat_model.specs.Certify.{IsWitnessAt, NamesWitness}
-use Rattle.staat_certify.specs.WitnessListings.{AreListed, IsWitnessNumber}
+use Rattle.staat_certify.specs.WitnessListings.{AreListed, IsNumberOf}
 use Rattle.staat_certify.proofs.NumberLemmas.{numbers_next}
 use Rattle.staat_vec.proofs.ListLaws.{push_front}
 
-module _ (parts : List Part) (w : PartSet) (old now : List Witness) (witness : Witness) (i : ℕ) (of : IsWitnessNumber old now witness i) where
+module _ (parts : List Part) (w : PartSet) (old now : List Witness) (witness : Witness) (i : ℕ) (of : IsNumberOf old now witness i) where
   pub kept : (k : ℕ) (x : Witness) → slice_get old k ≡ Some x → slice_get now k ≡ Some x
   kept k x at = ⊎_elim
       (λ same. subst (λ ws. slice_get ws k ≡ Some x) (sym same.0) at)

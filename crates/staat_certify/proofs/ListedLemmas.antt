@@ -26,7 +26,7 @@ use Rattle.staat_model.proofs.PlaneLemmas.{NoneParallel}
 use Rattle.staat_model.proofs.VertexLemmas.{same_some}
 use Rattle.staat_certify.specs.declared.visits.Visit.{Visit}
 use Rattle.staat_certify.specs.Visits.{visited_directions}
-use Rattle.staat_certify.specs.WitnessListings.{AreDifferentWitnesses, AreListed, IsSizedDirection, IsWitnessListing}
+use Rattle.staat_certify.specs.WitnessListings.{AreDifferent, AreListed, IsSizedDirection, IsWitnessListing}
 use Rattle.staat_certify.proofs.NumberLemmas.{numbers_none}
 use Rattle.staat_vec.proofs.ListLaws.{take_next}
 use Rattle.staat_vec.proofs.VectorLists.{length-le_from_contains}
@@ -75,7 +75,7 @@ few_visits version planes visited few lists =
 
 -- ---- the whole list
 
-pub refusal_listed : (parts : List Part) (version : ℕ) (w : PartSet) (planes ds : List V3) (witnesses : List Witness) (dirs : List Dir) → ArePlanes parts w planes → Lists vector_cmp (IsDirection version planes) ds → AreDifferentWitnesses witnesses → AreListed parts w witnesses dirs → map (λ dir. dir.d) dirs ≡ ds → IsRefusalOf parts version w witnesses dirs
+pub refusal_listed : (parts : List Part) (version : ℕ) (w : PartSet) (planes ds : List V3) (witnesses : List Witness) (dirs : List Dir) → ArePlanes parts w planes → Lists vector_cmp (IsDirection version planes) ds → AreDifferent witnesses → AreListed parts w witnesses dirs → map (λ dir. dir.d) dirs ≡ ds → IsRefusalOf parts version w witnesses dirs
 refusal_listed parts version w planes ds witnesses dirs planes_are lists apart listed e = record {
   planes = planes;
   planes_are = planes_are;

@@ -1,15 +1,15 @@
 -- Values that are numbered by first use, one use after another.
-use Rattle.std.proofs.Common.{◌≡◌, ◌⊎◌, inl, inr, ⊎_elim, ℕ, zero, suc, ◌+◌, ◌<◌, arith, refl, sym, ap, subst, ◌∙◌, List, [], ◌∷◌, ◌++◌, length, length-append, Bool, true, false, Contains}
+use Rattle.std.proofs.Common.{◌≡◌, ◌⊎◌, inl, inr, ⊎_elim, ℕ, zero, suc, ◌+◌, ◌<◌, arith, refl, sym, ap, subst, ◌∙◌, List, [], ◌∷◌, ◌++◌, length, Bool, true, false, Contains}
 use Rattle.std.specs.Prelude.{Some, slice_get, map, nat_eq, ◌&&◌, ◌||◌, not, cond, if◌then◌else◌}
 use lib.Pointwise.{pointwise}
 use Rattle.std.specs.List.{AllByRecursion, IsDistinct, list_any, position_or_len}
 use Rattle.std.proofs.lemmas.Bool.Decides.{nat_tests}
-use Rattle.std.proofs.lemmas.List.{length-map}
+use Rattle.std.proofs.lemmas.List.{length-map, map-append}
 use Rattle.std.proofs.lemmas.List.Elements.{All-push, All-nil, All-weaker, Contains-append_left, Contains-push}
 use Rattle.staat_model.specs.Certify.{NumbersByFirstUse}
-use Rattle.staat_certify.specs.Numbers.{IsNumberOf}
+use Rattle.staat_certify.specs.WitnessListings.{AreDifferent, IsNumberOf}
 use Rattle.staat_model.proofs.Places.{place_within}
-use Rattle.staat_vec.proofs.ListLaws.{push_cases, push_front, place_of}
+use Rattle.staat_vec.proofs.ListLaws.{map_at_place, push_cases, push_front, place_of}
 
 pub numbers_none : NumbersByFirstUse 0 []
 numbers_none = record { below = All-nil (λ k. k < 0); used = λ k lt. absurd (omega arith); in_order = λ k m at. absurd cc }
@@ -70,16 +70,6 @@ pointwise_itself [] = refl
 pointwise_itself (x ∷ xs) = (λ i. (let one : nat_eq x x ≡ true = grind (arith, nat_tests) in one) i && pointwise nat_eq xs xs) ∙ pointwise_itself xs
 
 module _ {X : Type 0} (items : X → List ℕ) where
-  pub map_get : (xs : List X) (k : ℕ) (l : List ℕ) → slice_get (map items xs) k ≡ Some l → (x : X) × (slice_get xs k ≡ Some x) × (items x ≡ l)
-  map_get [] k l e = absurd cc
-  map_get (x ∷ xs) zero l e = let same : items x ≡ l = cc in (x, refl, same)
-  map_get (x ∷ xs) (suc k) l e = map_get xs k l e
-
-  pub get_map : (xs : List X) (k : ℕ) (x : X) → slice_get xs k ≡ Some x → slice_get (map items xs) k ≡ Some (items x)
-  get_map [] k x e = absurd cc
-  get_map (y ∷ xs) zero x e = let same : y ≡ x = cc in ap (λ z. Some (items z)) same
-  get_map (y ∷ xs) (suc k) x e = get_map xs k x e
-
   later_differs : (x : X) (xs : List X) (m : ℕ) (l : List ℕ) → AllByRecursion (λ y. pointwise nat_eq (items x) (items y) ≡ false) xs → slice_get (map items xs) m ≡ Some l → items x ≡ l → ⊥
   later_differs x [] m l all e same = cc
   later_differs x (y ∷ xs) zero l all e same =
@@ -88,7 +78,7 @@ module _ {X : Type 0} (items : X → List ℕ) where
       cc
   later_differs x (y ∷ xs) (suc m) l all e same = later_differs x xs m l all.1 e same
 
-  places_differ : (xs : List X) → IsDistinct (λ x y. pointwise nat_eq (items x) (items y)) xs → (k m : ℕ) (l : List ℕ) → slice_get (map items xs) k ≡ Some l → slice_get (map items xs) m ≡ Some l → k ≡ m
+  pub places_differ : (xs : List X) → IsDistinct (λ x y. pointwise nat_eq (items x) (items y)) xs → AreDifferent (map items xs)
   unfolding IsDistinct
   places_differ [] distinct k m l a b = absurd cc
   places_differ (x ∷ xs) distinct zero zero l a b = refl
@@ -97,22 +87,15 @@ module _ {X : Type 0} (items : X → List ℕ) where
   places_differ (x ∷ xs) distinct (suc k) (suc m) l a b = ap suc (places_differ xs distinct.1 k m l a b)
 
   pub number_is : (old new : List X) (key : X) (i : ℕ) → new ≡ (if list_any (λ y. pointwise nat_eq (items key) (items y)) old then old else old ++ key ∷ []) → i ≡ position_or_len (λ y. pointwise nat_eq (items key) (items y)) old
-      → (x : X) × (slice_get new i ≡ Some x) × (pointwise nat_eq (items key) (items x) ≡ true) → IsDistinct (λ x y. pointwise nat_eq (items x) (items y)) new → IsNumberOf (map items old) (map items new) (items key) i
-  number_is old new key i e place (x, at, same) distinct = go (list_any (λ y. pointwise nat_eq (items key) (items y)) old) refl e
+      → (x : X) × (slice_get new i ≡ Some x) × (pointwise nat_eq (items key) (items x) ≡ true) → IsNumberOf (map items old) (map items new) (items key) i
+  number_is old new key i e place (x, at, same) = go (list_any (λ y. pointwise nat_eq (items key) (items y)) old) refl e
     where
       here : slice_get (map items new) i ≡ Some (items key)
-      here = get_map new i x at ∙ ap Some (sym (pointwise_same (items key) (items x) same))
+      here = map_at_place items new i x at ∙ ap Some (sym (pointwise_same (items key) (items x) same))
 
       go : (b : Bool) → list_any (λ y. pointwise nat_eq (items key) (items y)) old ≡ b → new ≡ (if b then old else old ++ key ∷ []) → IsNumberOf (map items old) (map items new) (items key) i
-      go true any is = record {
-        place = inl (subst (λ l. i < length l) (ap (map items) is) (place_within (map items new) i (items key) here), ap (λ l. length (map items l)) is);
-        at = here;
-        kept = λ m l f. subst (λ k. slice_get (map items k) m ≡ Some l) (sym is) f;
-        distinct = places_differ new distinct;
-      }
+      go true any is = record { which = inl (ap (map items) is, subst (λ l. i < length l) (ap (map items) is) (place_within (map items new) i (items key) here)); at = here }
       go false any is = record {
-        place = inr (place ∙ place_of_new (λ y. pointwise nat_eq (items key) (items y)) old any ∙ sym (length-map old items), ap (λ l. length (map items l)) is ∙ length-map (old ++ key ∷ []) items ∙ length-append old (key ∷ []) ∙ ap (λ n. n + 1) (sym (length-map old items)));
+        which = inr (ap (map items) is ∙ map-append items old (key ∷ []), place ∙ place_of_new (λ y. pointwise nat_eq (items key) (items y)) old any ∙ sym (length-map old items));
         at = here;
-        kept = λ m l f. let h = map_get old m l f in subst (λ k. slice_get (map items k) m ≡ Some l) (sym is) (get_map (old ++ key ∷ []) m h.0 (push_front old key h.0 m h.1) ∙ ap Some h.2);
-        distinct = places_differ new distinct;
       }

@@ -1,8 +1,7 @@
 -- The certificate of a plan keeps the bounds and orders of its text.
-use Rattle.std.proofs.Common.{◌≡◌, ◌⊎◌, inl, inr, ⊎_elim, ℕ, ◌+◌, ◌*◌, ◌<◌, ◌≤◌, arith, refl, sym, ap, subst, ◌∙◌, List, [], ◌++◌, length, length-append, map, All}
+use Rattle.std.proofs.Common.{◌≡◌, inl, inr, ⊎_elim, ℕ, ◌+◌, ◌*◌, ◌<◌, ◌≤◌, arith, refl, sym, subst, List, [], ◌++◌, length, length-append, map, All}
 use Rattle.std.specs.Prelude.{flat_map}
 use Rattle.std.specs.FinSet as set
-use Rattle.std.specs.Ordering.{nat_cmp}
 use Rattle.std.proofs.lemmas.List.Elements.{All-append, All-cons, All-contains, All-map, All-nil}
 use Rattle.staat_vec.specs.declared.vector.V3.{V3}
 use Rattle.staat_vec.specs.declared.vector.TheConstants.{DIRECTION}
@@ -10,6 +9,7 @@ use Rattle.staat_vec.specs.Lists.{IsLeast}
 use Rattle.staat_vec.specs.Vectors.{vector_cmp}
 use Rattle.staat_cone.proofs.SourceSizes.{facet_within}
 use Rattle.staat_model.specs.declared.assembly.Part.{Part}
+use Rattle.staat_model.specs.declared.certificate.Arc.{Arc}
 use Rattle.staat_model.specs.declared.certificate.Node.{Node}
 use Rattle.staat_model.specs.declared.certificate.Node.TheVariants.{Leaf, Split}
 use Rattle.staat_model.specs.declared.certificate.Sep.{Sep}
@@ -17,23 +17,24 @@ use Rattle.staat_limits.specs.declared.limits.TheConstants.{MOST_PARTS}
 use Rattle.staat_model.specs.declared.line.Line.TheVariants as line
 use Rattle.staat_model.specs.declared.set.PartSet.{PartSet}
 use Rattle.staat_model.specs.Assemblies.{IsAssembly}
-use Rattle.staat_model.specs.Certificates.{WalledPlan, nodes_of, unwalled, walled_leaf, walled_parts, walled_split}
+use Rattle.staat_model.specs.Certificates.{IsAcross, WalledPlan, nodes_of, unwalled, walled_leaf, walled_parts, walled_split}
 use Rattle.staat_model.specs.Certify.{AreLeastWalls, ArePlanNodes, HasLeastWalls, IsFacetAway}
-use Rattle.staat_model.specs.Lines.{IsInBounds}
+use Rattle.staat_model.specs.Lines.{IsArcInBounds, IsInBounds}
 use Rattle.staat_model.specs.Plans.{IsGood, Plan, leaf, parts_of, split}
-use Rattle.staat_model.specs.Sets.{AreApart, Has, below, single}
+use Rattle.staat_model.specs.Sets.{AreApart, Has, IsSubset, below}
 use Rattle.staat_model.specs.Texts.{IsNodeInOrder, IsPlanInOrder, lines_of_node}
+use Rattle.staat_model.proofs.PartCounts.{piece_count_small}
+use Rattle.staat_model.proofs.SomePlanes.{part_there}
 use Rattle.staat_model.proofs.GraphLemmas.{piece_is}
 use Rattle.staat_model.proofs.Members.{All-from_members}
 use Rattle.staat_model.proofs.SetBits.{has-below}
-use Rattle.staat_model.proofs.SetMembers.{has-empty, has-insert, has-single, has-union}
-use Rattle.staat_model.proofs.SetSizes.{len_below, len_more}
-use Rattle.staat_model.proofs.SetWords.{same_members}
+use Rattle.staat_model.proofs.SetMembers.{has-empty, has-single, has-union}
+use Rattle.staat_model.proofs.SetSizes.{len_below}
+use Rattle.staat_graph.proofs.Finite.{len_fewer}
 use Rattle.staat_certify.specs.Plans.{AreWithin}
 use Rattle.staat_certify.specs.Plans.{HasPartNumbers}
-use Rattle.staat_certify.proofs.Forms.{all_flat, arc_formed}
 use Rattle.staat_model.proofs.LeavingLemmas.{good_parts}
-use Rattle.staat_vec.proofs.ListLaws.{Contains-map}
+use Rattle.staat_vec.proofs.ListLaws.{All-flat_map, Contains-map}
 
 -- ---- the parts of a plan
 
@@ -62,47 +63,43 @@ node_count (walled_split d seps moved rest) =
     let r = node_count rest in
     omega (arith, m, r, length-append (nodes_of moved) (nodes_of rest))
 
-union_single : (s : PartSet) (p : ℕ) → set.union s (single p) ≡ set.insert s p
-union_single s p = same_members (set.union s (single p)) (set.insert s p)
-    (λ q h. (has-insert s p q).1 (⊎_elim {C = (q ≡ p) ⊎ Has s q} (λ old. inr old) (λ new. inl ((has-single p q).0 new)) ((has-union s (single p) q).0 h)))
-    (λ q h. (has-union s (single p) q).1 (⊎_elim {C = Has s q ⊎ Has (single p) q} (λ new. inr ((has-single p q).1 new)) (λ old. inl old) ((has-insert s p q).0 h)))
-
-union_assoc : (s m r : PartSet) → set.union s (set.union m r) ≡ set.union (set.union s m) r
-union_assoc s m r = same_members (set.union s (set.union m r)) (set.union (set.union s m) r)
-    (λ q h. (has-union (set.union s m) r q).1 (⊎_elim {C = Has (set.union s m) q ⊎ Has r q}
-    (λ a. inl ((has-union s m q).1 (inl a)))
-    (λ b. ⊎_elim {C = Has (set.union s m) q ⊎ Has r q} (λ c. inl ((has-union s m q).1 (inr c))) (λ c. inr c) ((has-union m r q).0 b))
-    ((has-union s (set.union m r) q).0 h)))
-    (λ q h. (has-union s (set.union m r) q).1 (⊎_elim {C = Has s q ⊎ Has (set.union m r) q}
-    (λ a. ⊎_elim {C = Has s q ⊎ Has (set.union m r) q} (λ c. inl c) (λ c. inr ((has-union m r q).1 (inl c))) ((has-union s m q).0 a))
-    (λ b. inr ((has-union m r q).1 (inr b)))
-    ((has-union (set.union s m) r q).0 h)))
-
-union_empty : (s : PartSet) → set.union set.empty s ≡ s
-union_empty s = same_members (set.union set.empty s) s
-    (λ q h. ⊎_elim {C = Has s q} (λ none. absurd (has-empty q none)) (λ old. old) ((has-union set.empty s q).0 h))
-    (λ q h. (has-union set.empty s q).1 (inr h))
-
--- each leaf adds a part
-counted : (parts : List Part) (t : WalledPlan) (w s : PartSet) → IsGood parts w (unwalled t) → AreApart s (walled_parts t) → set.len (set.union s (walled_parts t)) ≡ set.len s + leaf_count t
-counted parts (walled_leaf p) w s good apart = ap set.len (union_single s p) ∙ len_more s p (λ h. apart p h ((has-single p p).1 refl))
-counted parts (walled_split d seps moved rest) w s good apart =
+-- each leaf adds a part: as many fit into u beside s
+counted : (parts : List Part) (t : WalledPlan) (w s u : PartSet) → IsGood parts w (unwalled t) → IsSubset s u → IsSubset (walled_parts t) u → AreApart s (walled_parts t) → set.len s + leaf_count t ≤ set.len u
+counted parts (walled_leaf p) w s u good within own apart =
+    let p_in = (has-single p p).1 refl in
+    let lt = len_fewer s u p within (own p p_in) (λ h. apart p h p_in) in
+    omega (arith, lt)
+counted parts (walled_split d seps moved rest) w s u good within own apart =
     let m = walled_parts moved in
     let r = walled_parts rest in
-    let one : set.len (set.union s m) ≡ set.len s + leaf_count moved = counted parts moved m s good.3 (λ q a b. apart q a ((has-union m r q).1 (inl b))) in
-    let two : set.len (set.union (set.union s m) r) ≡ set.len (set.union s m) + leaf_count rest = counted parts rest r (set.union s m) good.4 (λ q a b. ⊎_elim (λ in_s. apart q in_s ((has-union m r q).1 (inr b))) (λ in_m. good.1 q in_m b) ((has-union s m q).0 a)) in
-    ap set.len (union_assoc s m r) ∙ two ∙ (let e : set.len (set.union s m) + leaf_count rest ≡ set.len s + (leaf_count moved + leaf_count rest) = omega (arith, one) in e)
+    let one = counted parts moved m s (set.union s m) good.3 (λ q h. (has-union s m q).1 (inl h)) (λ q h. (has-union s m q).1 (inr h)) (λ q a b. apart q a ((has-union m r q).1 (inl b))) in
+    let two = counted parts rest r (set.union s m) u good.4
+        (λ q h. ⊎_elim (within q) (λ in_m. own q ((has-union m r q).1 (inl in_m))) ((has-union s m q).0 h))
+        (λ q h. own q ((has-union m r q).1 (inr h)))
+        (λ q a b. ⊎_elim (λ in_s. apart q in_s ((has-union m r q).1 (inr b))) (λ in_m. good.1 q in_m b) ((has-union s m q).0 a)) in
+    omega (arith, one, two)
 
 few_nodes : (parts : List Part) (n : ℕ) (t : WalledPlan) → IsGood parts (below n) (unwalled t) → length (nodes_of t) + 1 ≤ 2 * n
 few_nodes parts n t good =
-    let all : set.len (set.union set.empty (walled_parts t)) ≡ set.len (set.empty {R = nat_cmp}) + leaf_count t = counted parts t (below n) set.empty good (λ q none b. has-empty q none) in
-    let same : set.len (set.union set.empty (walled_parts t)) ≡ set.len (below n) = ap set.len (union_empty (walled_parts t) ∙ sym (good_parts parts (below n) (unwalled t) good)) in
+    let leaves = counted parts t (below n) set.empty (below n) good (λ q none. absurd (has-empty q none))
+        (λ q h. subst (λ (s : PartSet). Has s q) (sym (good_parts parts (below n) (unwalled t) good)) h) (λ q none b. has-empty q none) in
     let most : set.len (below n) ≤ n = len_below n (below n) (λ q h. (has-below n q).0 h) in
-    let none : set.len (set.empty {R = nat_cmp}) ≡ 0 = set.len-empty nat_cmp in
-    let nodes = node_count t in
-    omega (arith, all, same, most, none, nodes)
+    omega (arith, leaves, most, node_count t)
 
 -- ---- bounds and orders
+
+pub arc_formed : (parts : List Part) (s r : PartSet) (arc : Arc) → IsAssembly parts → IsAcross parts s r arc → IsArcInBounds arc
+arc_formed parts s r arc is across =
+    let a = part_there parts arc.a arc.i across.i_in in
+    let b = part_there parts arc.b arc.j across.j_in in
+    let i = piece_count_small parts arc.a in
+    let j = piece_count_small parts arc.b in
+    record {
+      a = omega (arith, a, is.at_most);
+      i = omega (arith, i, across.i_in, is.pieces);
+      b = omega (arith, b, is.at_most);
+      j = omega (arith, j, across.j_in, is.pieces);
+    }
 
 module _ (parts : List Part) (is : IsAssembly parts) where
   seps_formed : (s r : PartSet) (d : V3) (seps : List Sep) → AreLeastWalls parts s r d seps → All (λ sep. IsInBounds (line.Sep sep)) seps
@@ -129,8 +126,8 @@ module _ (parts : List Part) (is : IsAssembly parts) where
   pub plan_lines : (plan : Plan) (nodes : List Node) → IsGood parts (below (length parts)) plan → AreWithin DIRECTION plan → ArePlanNodes parts plan nodes → All IsInBounds (flat_map lines_of_node nodes)
   plan_lines plan nodes good sized are =
       let t = are.tree in
-      all_flat IsInBounds lines_of_node nodes (subst (All (λ node. All IsInBounds (lines_of_node node))) (sym are.nodes_are)
-      (nodes_formed t are.walls (subst (AreWithin DIRECTION) (sym are.plan_is) sized) (subst HasPartNumbers (sym are.plan_is) (part_numbers parts plan is good))))
+      All-flat_map IsInBounds lines_of_node nodes (λ node c. All-contains (λ node. All IsInBounds (lines_of_node node)) nodes node (subst (All (λ node. All IsInBounds (lines_of_node node))) (sym are.nodes_are)
+      (nodes_formed t are.walls (subst (AreWithin DIRECTION) (sym are.plan_is) sized) (subst HasPartNumbers (sym are.plan_is) (part_numbers parts plan is good)))) c)
 
   pub plan_in_order : (plan : Plan) (nodes : List Node) → IsGood parts (below (length parts)) plan → ArePlanNodes parts plan nodes → IsPlanInOrder (length parts) nodes
   plan_in_order plan nodes good are =

@@ -26,7 +26,7 @@ use Rattle.staat_model.proofs.Members.{All-from_members}
 use Rattle.staat_model.proofs.PlaneLemmas.{NoneParallel}
 use Rattle.staat_model.proofs.SetBits.{has-below}
 use Rattle.staat_model.proofs.SetSizes.{len-single, len_below, len_more}
-use Rattle.staat_certify.proofs.Forms.{arc_formed}
+use Rattle.staat_certify.proofs.PlanForms.{arc_formed}
 use Rattle.staat_certify.proofs.ListedLemmas.{few_directions, vertex_sized}
 use Rattle.staat_certify.proofs.SomeMember.{some_member}
 use Rattle.staat_vec.proofs.ListLaws.{Contains-map}

@@ -30,8 +30,8 @@ use Rattle.staat_model.proofs.Listings.{Listing, listing_sorted}
 use Rattle.staat_model.proofs.Orders.{arc_exact, arc_total}
 use Rattle.staat_model.proofs.PieceFacets.{meets_by_facets_lemma}
 use Rattle.staat_model.proofs.SomePlanes.{arcs_listing, facets_listing}
-use Rattle.staat_certify.specs.Walls.{IsAway, IsLeastWall}
-use Rattle.staat_certify.proofs.WallLemmas.{wall_away}
+use Rattle.staat_certify.specs.Walls.{IsAway}
+use Rattle.staat_certify.proofs.WallLemmas.{IsLeastWall, wall_away}
 
 -- ---- a wall for two pieces
 

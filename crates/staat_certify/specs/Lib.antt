@@ -1,7 +1,5 @@
-pub mod Arcs
 pub mod Walls
 pub mod Plans
-pub mod Numbers
 pub mod Witnesses
 pub mod WitnessListings
 pub mod Standing

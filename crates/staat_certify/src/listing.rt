@@ -15,8 +15,8 @@ ghost use Rattle.std.specs.Prelude.{
   slice_get,
 };
 ghost use Rattle.staat_model.specs.declared.certificate.Witness.{Witness as WitnessValue};
-ghost use Rattle.staat_certify.specs.WitnessListings.{AreDifferentWitnesses, AreKeys, AreListed, AreNames};
-ghost use Rattle.staat_certify.specs.WitnessListings.{IsWitnessListing, IsWitnessNumber};
+ghost use Rattle.staat_certify.specs.WitnessListings.{AreDifferent, AreKeys, AreListed, AreNames};
+ghost use Rattle.staat_certify.specs.WitnessListings.{IsWitnessListing, IsNumberOf};
 ghost use Rattle.staat_certify.specs.WitnessListings.{key_of, key_numbers};
 ghost use Rattle.staat_certify.specs.Visits.{IsNamed, visited_directions};
 
@@ -65,7 +65,7 @@ pub fn number_witness(
 ) -> Result<usize, OutOfMemory>
     requires { AreKeys (map (λ v. v.items) keys.old.keys) witnesses.old.items }
     ensures keys { OnOk result (AreKeys (map (λ v. v.items) keys.new.keys) witnesses.new.items) }
-    ensures number { IfOk result (IsWitnessNumber witnesses.old.items witnesses.new.items witness) }
+    ensures number { IfOk result (IsNumberOf witnesses.old.items witnesses.new.items witness) }
 {
     let key = key_of(alloc, &witness)?;
     let (number, _) = keys.insert_full(key)?;
@@ -105,7 +105,7 @@ fn name_of(
     requires names { AreNames found.now listing.old.witnesses.items listing.old.names.items }
     ensures names { OnOk result (AreNames found.now listing.new.witnesses.items listing.new.names.items) }
     ensures number { IfOk result (λ i. (witness : WitnessValue) → slice_get found.now p ≡ Some witness
-        → IsWitnessNumber listing.old.witnesses.items listing.new.witnesses.items witness i) }
+        → IsNumberOf listing.old.witnesses.items listing.new.witnesses.items witness i) }
     ensures dirs { listing.new.dirs ≡ listing.old.dirs }
 {
     if let Some(number) = listing.names[p] {
@@ -152,7 +152,7 @@ pub fn listing_of(
     table: &PlaneTable,
     found: &Found,
 ) -> Result<Body, OutOfMemory>
-    requires apart { AreDifferentWitnesses found.now.witnesses.items }
+    requires apart { AreDifferent found.now.witnesses.items }
     requires named { All (IsNamed sound.now table.now.of found.now.witnesses.items) found.now.visited.items }
     requires few { length found.now.visited.items < LIST_LIMIT }
     ensures { IfOk result (IsWitnessListing sound.now table.now.of (visited_directions found.now.visited.items)) }

@@ -6,27 +6,28 @@ ghost use Rattle.std.specs.Prelude.{
   ◌+◌,
   ◌-◌,
   ◌↔◌,
+  All,
   Contains,
   IfOk,
   IfSome,
   IsTrue,
   OnOk,
   Some,
-  [],
   false,
   length,
   map,
 };
-ghost use Rattle.staat_vec.specs.declared.vector.V3.{V3 as Vector};
+ghost use Rattle.staat_vec.specs.Lists.{Lists};
 ghost use Rattle.staat_vec.specs.Primitives.{IsCanon};
-ghost use Rattle.staat_vec.specs.Vectors.{origin};
+ghost use Rattle.staat_vec.specs.Vectors.{origin, vector_cmp};
 ghost use Rattle.staat_model.specs.Certify.{IsDirection, NamesWitness};
 ghost use Rattle.staat_model.specs.Plans.{IsStuck};
 ghost use Rattle.staat_pairs.specs.Tables.{WasMadeFrom};
 ghost use Rattle.staat_ring.specs.Belonging.{BelongTo};
 ghost use Rattle.staat_ring.specs.WholeCircles.{AreSignsAt, HaveSameFull, IsWholeCircle, vertex_at};
-ghost use Rattle.staat_certify.specs.WitnessListings.{AreKeys};
-ghost use Rattle.staat_certify.specs.Visits.{AreStillVisited, AreVisitedBelow, HasFound, IsNumberHere, IsSurvey};
+ghost use Rattle.staat_certify.specs.WitnessListings.{AreDifferent, AreKeys};
+ghost use Rattle.staat_certify.specs.Visits.{AreStillVisited, AreVisitedBelow, HasFound, IsNamed, IsNumberHere};
+ghost use Rattle.staat_certify.specs.Visits.{IsSurvey};
 ghost use Rattle.staat_certify.specs.Standing.{StandsAmong};
 ghost use Rattle.staat_certify.specs.Visits.{NamesIfTold, IsVisitedDirection, IsVisitedTo, KeepsTrees, SortsVisits};
 ghost use Rattle.staat_certify.specs.Visits.{visited_directions};
@@ -58,24 +59,6 @@ pub struct Found {
     pub kept: GraphTrees,
     // the number of the witness that was numbered last
     pub latest: usize,
-}
-
-impl Found {
-    /// Nothing.
-    pub fn none(alloc: Global) -> Found
-        ensures keys { result.keys.keys ≡ [] }
-        ensures witnesses { result.witnesses.items ≡ [] }
-        ensures visited { result.visited.items ≡ [] }
-        ensures kept { result.kept.known ≡ false }
-    {
-        Found {
-            keys: IndexSet::new(alloc),
-            witnesses: Vec::new(alloc),
-            visited: Vec::new(alloc),
-            kept: GraphTrees::none(),
-            latest: 0,
-        }
-    }
 }
 
 // whether the witness at the vertex is the one that was numbered last
@@ -333,7 +316,15 @@ impl<'a> Survey<'a> {
     }
 }
 
-/// Visits all directions of the version, with their witnesses.
+// puts the visits in the order of their directions, and keeps one of each
+fn sort_visits(visited: &mut Vec<Visit>)
+    ensures { SortsVisits visited.old.items visited.new.items }
+{
+    visited.sort_unstable_by_key(|visit| visit.d);
+    visited.dedup_by_key(|visit| visit.d);
+}
+
+/// Visits all directions of the version, with their witnesses. The visits come in the order of the directions.
 ///
 /// Each vertex is visited on the circle of the least plane through it. Its witness is looked for only where other
 /// pieces may meet than at the vertex before; no blocking graph is counted from the facets.
@@ -342,14 +333,14 @@ pub fn visit_all(
     sound: &Sound,
     table: &PlaneTable,
     version: u32,
-    found: &mut Found,
-) -> Result<(), OutOfMemory>
+) -> Result<Found, OutOfMemory>
     requires made { WasMadeFrom sound.now table.now }
     requires stuck { IsStuck sound.now table.now.of }
-    requires found { HasFound sound.now table.now version found.old }
-    ensures found { OnOk result (HasFound sound.now table.now version found.new) }
-    ensures all { OnOk result ((d : Vector) → IsDirection version table.now.planes d
-        → Contains (visited_directions found.new.visited.items) d) }
+    ensures apart { IfOk result (λ found. AreDifferent found.witnesses.items) }
+    ensures named { IfOk result (λ found. All (IsNamed sound.now table.now.of found.witnesses.items)
+        found.visited.items) }
+    ensures directions { IfOk result (λ found. Lists vector_cmp (IsDirection version table.now.planes)
+        (visited_directions found.visited.items)) }
 {
     let _set = table.set();
     let mut signs = CountedSigns::of(alloc, table)?;
@@ -359,13 +350,14 @@ pub fn visit_all(
         table,
         version,
     };
-    survey.go_round_all(&mut signs, found)
-}
-
-/// Puts the visits in the order of their directions, and keeps one of each.
-pub fn sort_visits(visited: &mut Vec<Visit>)
-    ensures { SortsVisits visited.old.items visited.new.items }
-{
-    visited.sort_unstable_by_key(|visit| visit.d);
-    visited.dedup_by_key(|visit| visit.d);
+    let mut found = Found {
+        keys: IndexSet::new(alloc),
+        witnesses: Vec::new(alloc),
+        visited: Vec::new(alloc),
+        kept: GraphTrees::none(),
+        latest: 0,
+    };
+    survey.go_round_all(&mut signs, &mut found)?;
+    sort_visits(&mut found.visited);
+    Ok(found)
 }

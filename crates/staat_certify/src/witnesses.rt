@@ -1,8 +1,7 @@
 // The witness that no side of a set is free of its rest along a vertex.
-ghost use Rattle.std.specs.Prelude.{◌≡◌, ◌≢◌, ◌<◌, All, IfOk, IsTrue, false, map, take};
+ghost use Rattle.std.specs.Prelude.{◌≡◌, ◌≢◌, All, IfOk, IsTrue, false};
 ghost use Rattle.staat_vec.specs.Vectors.{origin};
-ghost use Rattle.staat_model.specs.Certificates.{outward};
-ghost use Rattle.staat_model.specs.Certify.{IsLeastArc, IsWitnessAt};
+ghost use Rattle.staat_model.specs.Certify.{IsWitnessAt};
 ghost use Rattle.staat_model.specs.Plans.{IsStuck};
 ghost use Rattle.staat_graph.specs.Blocking.{ShowsBlocking};
 ghost use Rattle.staat_graph.specs.Graphs.{AreTrees, HasArc};
@@ -79,20 +78,7 @@ pub(crate) fn renew_trees(kept: &mut GraphTrees, at: &Vantage)
     };
 }
 
-// the first pieces with which the one part blocks the other
-fn arc_between(at: &Vantage, ends: (u32, u32)) -> Arc
-    requires at { StandsAmong at.now.sound.now at.now.table.now at.now.signs.now at.now.d }
-    requires ahead { AreEndsAhead at.now.table.now at.now.d ends }
-    ensures ends { outward result ≡ ends }
-    ensures least { IsLeastArc at.now.sound.now at.now.d result }
-{
-    match at.least_arc(ends.0, ends.1) {
-        Some(arc) => arc,
-        None => unreachable!(),
-    }
-}
-
-// those of each pair of parts
+// for each pair of parts the first pieces with which the one blocks the other
 fn arcs_between(alloc: Global, at: &Vantage, pairs: &[(u32, u32)]) -> Result<Vec<Arc>, OutOfMemory>
     requires at { StandsAmong at.now.sound.now at.now.table.now at.now.signs.now at.now.d }
     requires ahead { All (AreEndsAhead at.now.table.now at.now.d) pairs.now }
@@ -100,7 +86,7 @@ fn arcs_between(alloc: Global, at: &Vantage, pairs: &[(u32, u32)]) -> Result<Vec
 {
     let mut arcs = Vec::new(alloc);
     for ends in pairs {
-        arcs.push(arc_between(at, *ends))?;
+        arcs.push(at.least_arc(*ends))?;
     }
     Ok(arcs)
 }
@@ -115,7 +101,7 @@ fn are_between(at: &Vantage, pairs: &[(u32, u32)], arcs: &[Arc]) -> bool
         return false;
     }
     for k in 0..pairs.len() {
-        let arc = arc_between(at, pairs[k]);
+        let arc = at.least_arc(pairs[k]);
         if arc != arcs[k] {
             return false;
         }

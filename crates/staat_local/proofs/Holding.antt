@@ -30,7 +30,8 @@ use Rattle.staat_planes.proofs.GraphLaw.{meets_at}
 use Rattle.staat_local.specs.Beginnings.{HoldsBack, HoldsBetween, IsLoose, IsTight, Loosens}
 use Rattle.staat_local.specs.Contacts.{Contact, Starts}
 use Rattle.staat_local.specs.Touching.{AreMarks}
-use Rattle.staat_local.proofs.Contacts.{meets_of_start, starts_by_contact_lemma}
+use Rattle.staat_local.proofs.ByFacets.{starts_by_contact_lemma}
+use Rattle.staat_local.proofs.Contacts.{meets_of_start}
 use Rattle.staat_local.proofs.TouchMarks.{contact_back}
 use Rattle.staat_vec.proofs.Options.{one_answer}
 use Rattle.staat_model.proofs.OtherSides.{back_in, other_side}

@@ -3,7 +3,7 @@ use Rattle.std.specs.Prelude.{Option, Some, slice_get}
 use Rattle.std.proofs.lemmas.Option.{slice_get-get_or}
 use Rattle.staat_model.specs.declared.certificate.Witness.{Witness}
 use Rattle.staat_model.proofs.Places.{place_within}
-use Rattle.staat_certify.specs.WitnessListings.{AreNames, IsWitnessNumber}
+use Rattle.staat_certify.specs.WitnessListings.{AreNames, IsNumberOf}
 use Rattle.staat_certify.proofs.listing.name_of.Goals as goal
 use Rattle.staat_vec.proofs.ListLaws.{place_is, push_end, push_front, set_here}
 use Rattle.staat_vec.proofs.Naturals.{lt_one_more_cases}
@@ -66,7 +66,7 @@ returns-clause-number c witness named =
     let r = c.index-found-p.result in
     let at : slice_get found c.args.p ≡ Some x = slice_get-get_or found c.args.p r c.requires.place ∙ ap Some (sym (c.in_ok-copy_of.ensures ∙ c.index-found-p.is)) in
     let last : c.len-number.result ≡ length listed = omega (arith, c.len-number.ensures) in
-    subst (λ y. IsWitnessNumber listed c.push.new.self.items y c.len-number.result) (from_some (sym at ∙ named)) (record {
+    subst (λ y. IsNumberOf listed c.push.new.self.items y c.len-number.result) (from_some (sym at ∙ named)) (record {
       which = inr (c.in_ok-push.ensures.items, last);
       at = ap (slice_get c.push.new.self.items) last ∙ ap (λ ws. slice_get ws (length listed)) c.in_ok-push.ensures.items ∙ push_end listed x;
     })

@@ -1,7 +1,7 @@
 use Rattle.std.proofs.Common.{subst, sym}
 use Rattle.staat_model.specs.declared.set.PartSet.{PartSet}
 use Rattle.staat_graph.specs.Graphs.{AreTrees, HasArc, IsStrong}
-use Rattle.staat_certify.proofs.TreeArcs.{stuck_is_strong}
+use Rattle.staat_certify.proofs.WitnessLemmas.{stuck_is_strong}
 use Rattle.staat_certify.proofs.witnesses.trees_here.Goals as goal
 
 pub unreachable-requires : goal.unreachable-requires
