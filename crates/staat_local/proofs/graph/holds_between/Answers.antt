@@ -1,4 +1,4 @@
-use Rattle.std.proofs.Common.{◌≡◌, ◌<◌, ◌≤◌, inl, inr, arith, subst, All, pos, ◌<ℤ◌}
+use Rattle.std.proofs.Common.{◌≡◌, ◌+◌, ◌<◌, ◌≤◌, inl, inr, arith, subst, All, pos, ◌<ℤ◌}
 use Rattle.staat_vec.specs.Vectors.{dot}
 use Rattle.staat_vec.proofs.Naturals.{lt_or_le}
 use Rattle.staat_model.specs.declared.certificate.Arc.{Arc}
