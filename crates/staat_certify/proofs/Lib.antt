@@ -1,16 +1,11 @@
 pub mod SomeMember
 pub mod WallLemmas
 pub mod NodeLemmas
-pub mod NumberLemmas
 pub mod WitnessLemmas
-pub mod Keys
 pub mod Numbering
-pub mod LineLemmas
 pub mod SameWitness
 pub mod VisitLemmas
 pub mod ListedLemmas
-pub mod PlanForms
-pub mod RefusalForms
 pub mod CertificateLemmas
 pub mod SomeCertificate
 pub mod CertificateSizes

@@ -22,7 +22,7 @@ use Rattle.staat_ring.specs.CountedSigns.{Signed, positives}
 use Rattle.staat_ring.specs.WholeCircles.{HaveSameFull, IsFull}
 use Rattle.staat_ring.proofs.ArcLaw.{full_says}
 use Rattle.staat_ring.proofs.WholeCircles.{all, all_linked, to_linked}
-use Rattle.staat_certify.specs.Standing.{StandsAmong}
+use Rattle.staat_certify.specs.Witnesses.{StandsAmong}
 use Rattle.staat_certify.specs.Visits.{NamesIfTold}
 use Rattle.staat_certify.proofs.WitnessLemmas.{met_of, root_within, tree_carried}
 

@@ -1,6 +1,7 @@
 -- A set that is stuck has a certificate in each version.
-use Rattle.std.proofs.Common.{◌≡◌, ◌≢◌, ◌⊎◌, ◌∙◌, inl, inr, ⊎_elim, ℕ, zero, suc, append_assoc, append-nil, ◌+◌, ◌≤◌, arith, refl, sym, ap, subst, pos, ◌<ℤ◌, List, [], ◌∷◌, ◌++◌, length, map, All, Contains}
 use Rattle.std.specs.FinSet as set
+use Rattle.staat_model.specs.declared.certificate.Body.TheVariants as body
+use Rattle.std.proofs.Common.{◌≡◌, ◌≢◌, ◌⊎◌, ◌∙◌, inl, inr, ⊎_elim, ℕ, zero, suc, append_assoc, append-nil, ◌+◌, ◌≤◌, arith, refl, sym, ap, subst, pos, ◌<ℤ◌, List, [], ◌∷◌, ◌++◌, length, map, All, Contains}
 use Rattle.std.specs.Prelude.{Some, slice_get}
 use Rattle.std.proofs.lemmas.List.Elements.{All-cons, All-contains, All-nil}
 use Rattle.staat_vec.specs.declared.vector.V3.{V3}
@@ -11,16 +12,16 @@ use Rattle.staat_vec.proofs.Unique.{Contains-front, Contains-later}
 use Rattle.staat_vec.proofs.VectorOrder.{vector_exact, vector_total}
 use Rattle.staat_model.specs.declared.assembly.Part.{Part}
 use Rattle.staat_model.specs.declared.certificate.Arc.{Arc}
-use Rattle.staat_model.specs.declared.certificate.Body.TheVariants as body
 use Rattle.staat_model.specs.declared.certificate.Certificate.{Certificate}
 use Rattle.staat_model.specs.declared.certificate.Dir.{Dir}
 use Rattle.staat_model.specs.declared.certificate.Witness.{Witness}
 use Rattle.staat_model.specs.declared.set.PartSet.{PartSet}
-use Rattle.staat_model.specs.Assemblies.{HoldsAt, IsAssembly}
+use Rattle.staat_model.specs.Assemblies.{IsAssembly}
 use Rattle.staat_model.specs.Bridges.{Back, IsNextBridge, IsTree, swapped}
 use Rattle.staat_model.specs.Certificates.{IsAcross, arc_cmp, inward, outward}
 use Rattle.staat_model.specs.Certify.{IsCertificateOf, IsDirection, IsLeastArc, IsWitnessAt}
 use Rattle.staat_model.specs.Facets.{IsFacet}
+use Rattle.staat_model.specs.Meeting.{Meets}
 use Rattle.staat_model.specs.Outcomes.{stuck}
 use Rattle.staat_model.specs.Planes.{vertices}
 use Rattle.staat_model.specs.Plans.{IsStuck}
@@ -29,7 +30,7 @@ use Rattle.staat_model.specs.Sets.{Has, IsLeastOf, IsSubset, single}
 use Rattle.staat_model.proofs.Decisions.{Decided, all_decided, all_or, below_or, both_or, carried, least_or, less_or, nat_or, not_or}
 use Rattle.staat_model.proofs.FirstUse.{IsDistinct}
 use Rattle.staat_model.proofs.FreeSides.{member_or, subset_or}
-use Rattle.staat_model.proofs.GraphLemmas.{piece_is}
+use Rattle.staat_model.proofs.GraphLemmas.{at_pieces}
 use Rattle.staat_model.proofs.Listings.{Listing, listing_and, listing_as, listing_members, listing_sorted}
 use Rattle.staat_model.proofs.Members.{All-from_members}
 use Rattle.staat_model.proofs.Orders.{arc_exact, arc_total}
@@ -41,14 +42,13 @@ use Rattle.staat_model.proofs.SetSizes.{len_more}
 use Rattle.staat_model.proofs.SetWords.{same_members}
 use Rattle.staat_model.proofs.SomePlanes.{arcs_listing, facets_listing, holds_or, some_planes}
 use Rattle.staat_graph.specs.Graphs.{IsShut, Walks, here}
-use Rattle.staat_graph.proofs.Finite.{len_subset, some_least, some_or_none}
+use Rattle.staat_graph.proofs.Finite.{same_by_len, some_least, some_or_none}
 use Rattle.staat_graph.proofs.Reaching.{reach_of}
 use Rattle.staat_graph.proofs.Walking.{reach_shut, stays, turned, walk_ends}
 use Rattle.staat_certify.specs.WitnessListings.{IsNumberOf, key_of}
-use Rattle.staat_certify.proofs.Keys.{key_tells}
+use Rattle.staat_certify.proofs.Numbering.{key_tells}
 use Rattle.staat_certify.proofs.WitnessLemmas.{IsLink, more_within, root_within, tree_links}
-use Rattle.staat_certify.proofs.LineLemmas.{line_pushed, listed_more}
-use Rattle.staat_certify.proofs.ListedLemmas.{HasLines, no_lines, refusal_listed}
+use Rattle.staat_certify.proofs.ListedLemmas.{line_pushed, listed_more, HasLines, no_lines, refusal_listed}
 use Rattle.staat_certify.proofs.SomeMember.{some_member}
 use Rattle.staat_vec.proofs.Naturals.{le_from_not_lt}
 use Rattle.staat_model.proofs.ListedVertices.{vertex_some}
@@ -110,12 +110,7 @@ module _ (R : ℕ → ℕ → Type 0) (dec : (a b : ℕ) → Decided (R a b)) (w
         ([], same_members s w within (λ q h. stays s shut own (walks q h)))
 
     tree_from : (n : ℕ) (s : PartSet) → set.len w ≤ set.len s + n → Has s root → IsSubset s w → HasTree s
-    tree_from zero s le own within = grown s own within
-        (λ q new q_in.
-        let longer = len_more s q new in
-        let most = len_subset (set.insert s q) w (more_within w s q within q_in) in
-        absurd (omega (arith, le, longer, most)))
-        (some_or_none (IsReachable s) (reachable_or s) w)
+    tree_from zero s le own within = ([], same_by_len s w within (omega (arith, le)))
     tree_from (suc n) s le own within = grown s own within
         (λ q new q_in.
         let longer = len_more s q new in
@@ -137,13 +132,10 @@ module _ (parts : List Part) (is : IsAssembly parts) (d : V3) where
       (all_decided (λ n. pos 0 <ℤ dot n d) (λ n. less_or (pos 0) (dot n d)) t.xs)
 
   meets_or : (arc : Arc) → Decided (MeetsAlong parts d arc)
-  meets_or arc = carried to from (holds_or parts arc AreAhead (λ p q. ahead_or p q (facets_listing p q)))
-    where
-      to : HoldsAt parts arc AreAhead → MeetsAlong parts d arc
-      to h = record { p = h.p; q = h.q; p_is = h.p_is; q_is = h.q_is; holds = (meets_by_facets_lemma h.p h.q d (piece_is parts arc.a arc.i h.p is h.p_is) (piece_is parts arc.b arc.j h.q is h.q_is)).1 h.holds }
-
-      from : MeetsAlong parts d arc → HoldsAt parts arc AreAhead
-      from h = record { p = h.p; q = h.q; p_is = h.p_is; q_is = h.q_is; holds = (meets_by_facets_lemma h.p h.q d (piece_is parts arc.a arc.i h.p is h.p_is) (piece_is parts arc.b arc.j h.q is h.q_is)).0 h.holds }
+  meets_or arc = carried
+      (λ h. at_pieces parts arc AreAhead (λ p q. Meets p q d) is.each (λ p q p_is q_is is_p is_q all. (meets_by_facets_lemma p q d is_p is_q).1 all) h)
+      (λ h. at_pieces parts arc (λ p q. Meets p q d) AreAhead is.each (λ p q p_is q_is is_p is_q meets. (meets_by_facets_lemma p q d is_p is_q).0 meets) h)
+      (holds_or parts arc AreAhead (λ p q. ahead_or p q (facets_listing p q)))
 
   -- a piece of a meets one of b
   abbrev IsBetween : ℕ → ℕ → Arc → Type 0

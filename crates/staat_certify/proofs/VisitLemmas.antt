@@ -33,7 +33,7 @@ use Rattle.staat_pairs.specs.Tables.{AreTablePlanes}
 use Rattle.staat_certify.specs.WitnessListings.{AreKeys, IsNumberOf}
 use Rattle.staat_certify.specs.declared.visits.Visit.{Visit}
 use Rattle.staat_certify.specs.Visits.{AreStillVisited, AreVisitedBelow, AreVisitedOn, IsNamed, IsNumberHere, IsVisitedDirection, SortsVisits, visited_directions}
-use Rattle.staat_certify.proofs.LineLemmas.{kept}
+use Rattle.staat_certify.proofs.ListedLemmas.{kept}
 use Rattle.staat_ring.specs.declared.entry.Entry.{Entry}
 use Rattle.staat_ring.specs.Rings.{Ring, crossing, facet_by}
 use Rattle.staat_ring.specs.WholeCircles.{IsWholeCircle, vertex_at}

@@ -5,8 +5,7 @@ ghost use Rattle.staat_model.specs.Certificates.{outward};
 ghost use Rattle.staat_model.specs.Certify.{IsLeastArc};
 ghost use Rattle.staat_graph.specs.Blocking.{ShowsBlocking};
 ghost use Rattle.staat_pairs.specs.Tables.{IsTableArc, facets_of};
-ghost use Rattle.staat_certify.specs.Standing.{StandsAmong};
-ghost use Rattle.staat_certify.specs.Witnesses.{AreEndsAhead};
+ghost use Rattle.staat_certify.specs.Witnesses.{AreEndsAhead, StandsAmong};
 
 use staat_graph::Graph;
 use staat_model::{Arc, Sound};

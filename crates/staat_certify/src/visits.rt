@@ -28,10 +28,9 @@ ghost use Rattle.staat_ring.specs.WholeCircles.{AreSignsAt, HaveSameFull, IsWhol
 ghost use Rattle.staat_certify.specs.WitnessListings.{AreDifferent, AreKeys};
 ghost use Rattle.staat_certify.specs.Visits.{AreStillVisited, AreVisitedBelow, HasFound, IsNamed, IsNumberHere};
 ghost use Rattle.staat_certify.specs.Visits.{IsSurvey};
-ghost use Rattle.staat_certify.specs.Standing.{StandsAmong};
+ghost use Rattle.staat_certify.specs.Witnesses.{AreTreesAlong, StandsAmong};
 ghost use Rattle.staat_certify.specs.Visits.{NamesIfTold, IsVisitedDirection, IsVisitedTo, KeepsTrees, SortsVisits};
 ghost use Rattle.staat_certify.specs.Visits.{visited_directions};
-ghost use Rattle.staat_certify.specs.Witnesses.{AreTreesAlong};
 
 use crate::listing::number_witness;
 use crate::vantage::Vantage;
@@ -74,23 +73,8 @@ fn is_latest(at: &Vantage, found: &Found) -> bool
     is_witness(at, &found.kept.trees, &found.witnesses[found.latest])
 }
 
-// the number of the witness at the vertex, which is put at the end of the list if it is a new one
-fn number_anew(alloc: Global, at: &Vantage, found: &mut Found) -> Result<usize, OutOfMemory>
-    requires at { StandsAmong at.now.sound.now at.now.table.now at.now.signs.now at.now.d }
-    requires along { AreTreesAlong at.now.sound.now at.now.table.now at.now.d found.old.kept.trees }
-    requires keys { AreKeys (map (λ v. v.items) found.old.keys.keys) found.old.witnesses.items }
-    ensures number { IfOk result (IsNumberHere at.now.sound.now at.now.table.now.of at.now.d
-        (map (λ v. v.items) found.new.keys.keys) found.old.witnesses.items found.new.witnesses.items) }
-    ensures kept { found.new.kept ≡ found.old.kept }
-    ensures visited { found.new.visited.items ≡ found.old.visited.items }
-{
-    let witness = witness_here(alloc, at, &found.kept.trees)?;
-    let number = number_witness(alloc, &mut found.keys, &mut found.witnesses, witness)?;
-    found.latest = number;
-    Ok(number)
-}
-
-// the number of the witness at the vertex, looked for where it is not told
+// the number of the witness at the vertex, which is looked for where it is not told, and put at the end of the list if
+// it is a new one
 fn number_here(
     alloc: Global,
     at: &Vantage,
@@ -115,7 +99,10 @@ fn number_here(
     if is_latest(at, found) {
         return Ok(found.latest);
     }
-    number_anew(alloc, at, found)
+    let witness = witness_here(alloc, at, &found.kept.trees)?;
+    let number = number_witness(alloc, &mut found.keys, &mut found.witnesses, witness)?;
+    found.latest = number;
+    Ok(number)
 }
 
 // the number that is told, unless other pieces may meet now

@@ -5,8 +5,7 @@ ghost use Rattle.staat_model.specs.Certify.{IsWitnessAt};
 ghost use Rattle.staat_model.specs.Plans.{IsStuck};
 ghost use Rattle.staat_graph.specs.Blocking.{ShowsBlocking};
 ghost use Rattle.staat_graph.specs.Graphs.{AreTrees, HasArc};
-ghost use Rattle.staat_certify.specs.Witnesses.{AreEndsAhead, AreEndsAndLeast, AreTreesAlong};
-ghost use Rattle.staat_certify.specs.Standing.{StandsAmong};
+ghost use Rattle.staat_certify.specs.Witnesses.{AreEndsAhead, AreEndsAndLeast, AreTreesAlong, StandsAmong};
 ghost use Rattle.staat_certify.specs.Visits.{KeepsTrees};
 
 use crate::vantage::Vantage;

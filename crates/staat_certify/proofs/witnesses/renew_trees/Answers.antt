@@ -1,13 +1,13 @@
+use Rattle.staat_certify.proofs.witnesses.renew_trees.Goals as goal
 use Rattle.std.proofs.Common.{List, ℕ, subst, sym}
 use Rattle.staat_model.specs.declared.set.PartSet.{PartSet}
 use Rattle.staat_model.specs.Sets.{IsLeastOf}
 use Rattle.staat_graph.specs.Blocking.{ShowsBlocking}
-use Rattle.staat_certify.proofs.NumberLemmas.{pointwise_same}
-use Rattle.staat_certify.proofs.witnesses.renew_trees.Goals as goal
+use Rattle.std.proofs.lemmas.Slice.Eq.{bytes_eq-Decides}
 
 pub returns-then-eq-clause-along : goal.returns-then-eq-clause-along
 returns-then-eq-clause-along c =
-    let same = pointwise_same c.args.kept.now.graph.rows c.graph-graph.result.rows (sym c.if-eq.ensures) in
+    let same = (bytes_eq-Decides c.args.kept.now.graph.rows c.graph-graph.result.rows).0 (sym c.if-eq.ensures) in
     record {
       root = c.least-root.result;
       root_is = subst (λ (s : PartSet). IsLeastOf s c.least-root.result) c.set-w.ensures.is c.least-root.ensures.least;
