@@ -3,7 +3,7 @@ use Rattle.std.specs.FinSet as set
 use Rattle.staat_model.specs.declared.certificate.Body.TheVariants as body
 use Rattle.std.proofs.Common.{◌≡◌, ◌≢◌, ◌⊎◌, ◌∙◌, inl, inr, ⊎_elim, ℕ, zero, suc, append_assoc, append-nil, ◌+◌, ◌≤◌, arith, refl, sym, ap, subst, pos, ◌<ℤ◌, List, [], ◌∷◌, ◌++◌, length, map, All, Contains}
 use Rattle.std.specs.Prelude.{Some, slice_get}
-use Rattle.std.proofs.lemmas.List.Elements.{All-cons, All-contains, All-nil}
+use Rattle.std.proofs.lemmas.List.Elements.{All-contains}
 use Rattle.staat_vec.specs.declared.vector.V3.{V3}
 use Rattle.staat_vec.specs.Lists.{Lists}
 use Rattle.staat_vec.specs.Primitives.{IsCanon, first_nonzero}
@@ -49,6 +49,7 @@ use Rattle.staat_certify.specs.WitnessListings.{IsNumberOf, key_of}
 use Rattle.staat_certify.proofs.Numbering.{key_tells}
 use Rattle.staat_certify.proofs.WitnessLemmas.{IsLink, more_within, root_within, tree_links}
 use Rattle.staat_certify.proofs.ListedLemmas.{line_pushed, listed_more, HasLines, no_lines, refusal_listed}
+use Rattle.staat_certify.proofs.SomeCertificate.{chosen}
 use Rattle.staat_certify.proofs.SomeMember.{some_member}
 use Rattle.staat_vec.proofs.Naturals.{le_from_not_lt}
 use Rattle.staat_model.proofs.ListedVertices.{vertex_some}
@@ -188,13 +189,6 @@ module _ (parts : List Part) (is : IsAssembly parts) (d : V3) where
     | inr none ↦ absurd (none (record { a = a; i = h.i; b = b; j = h.j }) (refl, refl, h.meets))
   ]
 
-  arcs_for : (f : Arc → ℕ × ℕ) (pairs : List (ℕ × ℕ)) → ((x : ℕ × ℕ) → Contains pairs x → HasArcFor f x) → (arcs : List Arc) × (map f arcs ≡ pairs) × All (IsLeastArc parts d) arcs
-  arcs_for f [] each = ([], refl, All-nil (IsLeastArc parts d))
-  arcs_for f (x ∷ pairs) each =
-      let (arc, ends, least) = each x (Contains-front x pairs) in
-      let (arcs, are, all) = arcs_for f pairs (λ y c. each y (Contains-later x pairs y c)) in
-      (arc ∷ arcs, (λ z. ends z ∷ are z), All-cons (IsLeastArc parts d) arc arcs least all)
-
   -- ---- the witness that a set is stuck
 
   module _ (w : PartSet) (held : IsStuck parts w) (moves : d ≢ origin) where
@@ -227,7 +221,7 @@ module _ (parts : List Part) (is : IsAssembly parts) (d : V3) where
     arcs_along R f first dec root root_is walks =
         let (pairs, tree) = some_tree R dec w root walks root_is.has in
         let links = tree_links R w (single root) pairs (root_within w root root_is) tree in
-        let (arcs, are, least) = arcs_for f pairs (λ x c. first x (All-contains (IsLink R w) pairs x links c).arc) in
+        let (arcs, are, least) = chosen f (IsLeastArc parts d) pairs (λ x c. first x (All-contains (IsLink R w) pairs x links c).arc) in
         (arcs, subst (IsTree R w (single root)) (sym are) tree, least)
 
     pub some_witness : (x : Witness) × IsWitnessAt parts w d x
@@ -316,12 +310,10 @@ some_directions version planes = listing_sorted vector_cmp vector_total vector_e
     (listing_and (λ d. version ≡ 2 → IsCanon d) canonical_or (listing_members (vertices planes))))
   where
     canonical_or : (d : V3) → Decided (version ≡ 2 → IsCanon d)
-    canonical_or d = go (nat_or version 2) (less_or (pos 0) (first_nonzero d))
-      where
-        go : Decided (version ≡ 2) → Decided (IsCanon d) → Decided (version ≡ 2 → IsCanon d)
-        go (inl two) (inl canon) = inl (λ e. canon)
-        go (inl two) (inr not) = inr (λ h. not (h two))
-        go (inr other) c = inl (λ e. absurd (other e))
+    canonical_or d = elim (nat_or version 2) [
+      | inl two ↦ carried (λ canon e. canon) (λ h. h two) (less_or (pos 0) (first_nonzero d))
+      | inr other ↦ inl (λ e. absurd (other e))
+    ]
 
 -- ---- the certificate
 

@@ -75,22 +75,13 @@ pub fn number_witness(
     Ok(number)
 }
 
-// a copy of arcs
-fn copied(alloc: Global, arcs: &[Arc]) -> Result<Arcs, OutOfMemory>
-    ensures { IfOk result (λ copy. copy ≡ arcs.now) }
-{
-    let mut copy = Vec::new(alloc);
-    copy.extend_from_slice(arcs)?;
-    Ok(Arcs::from_vec(copy))
-}
-
 // a copy of a witness
 fn copy_of(alloc: Global, witness: &Witness) -> Result<Witness, OutOfMemory>
     ensures { IfOk result (λ copy. copy ≡ witness.now) }
 {
     Ok(Witness {
-        outs: copied(alloc, witness.outs.as_slice())?,
-        ins: copied(alloc, witness.ins.as_slice())?,
+        outs: Arcs::from_vec(witness.outs.as_slice().to_vec(alloc)?),
+        ins: Arcs::from_vec(witness.ins.as_slice().to_vec(alloc)?),
     })
 }
 

@@ -130,40 +130,8 @@ impl<'a> Survey<'a> {
         self.version != 2 || vertex.is_canon()
     }
 
-    // keeps the vertex with its witness, and gives the number of that
-    fn keep_visit(
-        &self,
-        vertex: &Vertex,
-        signs: &CountedSigns,
-        told: Option<usize>,
-        found: &mut Found,
-    ) -> Result<usize, OutOfMemory>
-        requires survey { IsSurvey self.now.sound.now self.now.table.now }
-        requires made { BelongTo self.now.table.now signs.now }
-        requires signs { AreSignsAt self.now.table.now.planes signs.now vertex.now }
-        requires direction { IsDirection self.now.version self.now.table.now.planes vertex.now }
-        requires some { vertex.now ≢ origin }
-        requires told { NamesIfTold self.now.sound.now self.now.table.now.of found.old.witnesses.items vertex.now told }
-        requires found { HasFound self.now.sound.now self.now.table.now self.now.version found.old }
-        ensures found { OnOk result (HasFound self.now.sound.now self.now.table.now self.now.version found.new) }
-        ensures number { IfOk result (λ number. NamesWitness self.now.sound.now self.now.table.now.of
-            found.new.witnesses.items (record { d = vertex.now; witness = number })) }
-        ensures here { OnOk result (Contains (visited_directions found.new.visited.items) vertex.now) }
-        ensures kept { OnOk result (AreStillVisited found.old.visited.items found.new.visited.items) }
-    {
-        let at = Vantage {
-            sound: self.sound,
-            table: self.table,
-            signs,
-            d: vertex.direction(),
-        };
-        let number = number_here(self.alloc, &at, told, found)?;
-        found.visited.push(Visit { d: at.d, number })?;
-        Ok(number)
-    }
-
-    // Keeps the vertex k of a circle, unless it has been visited on the circle of a lesser plane. The number that is
-    // told is that of its witness, if any is, and so is the answer.
+    // Keeps the vertex k of a circle with its witness, unless it has been visited on the circle of a lesser plane. The
+    // number that is told is that of its witness, if any is, and so is the answer.
     fn visit(
         &self,
         circle: &Circle,
@@ -196,7 +164,14 @@ impl<'a> Survey<'a> {
             return Ok(told);
         }
         let vertex = circle.vertex(self.table, k);
-        let number = self.keep_visit(&vertex, signs, told, found)?;
+        let at = Vantage {
+            sound: self.sound,
+            table: self.table,
+            signs,
+            d: vertex.direction(),
+        };
+        let number = number_here(self.alloc, &at, told, found)?;
+        found.visited.push(Visit { d: at.d, number })?;
         Ok(Some(number))
     }
 

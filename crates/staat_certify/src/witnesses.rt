@@ -3,8 +3,6 @@ ghost use Rattle.std.specs.Prelude.{◌≡◌, ◌≢◌, All, IfOk, IsTrue, fal
 ghost use Rattle.staat_vec.specs.Vectors.{origin};
 ghost use Rattle.staat_model.specs.Certify.{IsWitnessAt};
 ghost use Rattle.staat_model.specs.Plans.{IsStuck};
-ghost use Rattle.staat_graph.specs.Blocking.{ShowsBlocking};
-ghost use Rattle.staat_graph.specs.Graphs.{AreTrees, HasArc};
 ghost use Rattle.staat_certify.specs.Witnesses.{AreEndsAhead, AreEndsAndLeast, AreTreesAlong, StandsAmong};
 ghost use Rattle.staat_certify.specs.Visits.{KeepsTrees};
 
@@ -40,21 +38,6 @@ impl GraphTrees {
     }
 }
 
-// the trees of the graph at the vertex, which is strong because the set is stuck
-fn trees_here(at: &Vantage, graph: &Graph) -> Trees
-    requires at { StandsAmong at.now.sound.now at.now.table.now at.now.signs.now at.now.d }
-    requires stuck { IsStuck at.now.sound.now at.now.table.now.of }
-    requires some { at.now.d ≢ origin }
-    requires shows { ShowsBlocking at.now.sound.now at.now.d at.now.table.now.of graph.now.rows }
-    ensures { AreTrees (HasArc graph.now.rows) at.now.table.now.of result }
-{
-    let w = at.table.set();
-    match trees_of(graph, w) {
-        Some(trees) => trees,
-        None => unreachable!(),
-    }
-}
-
 /// Makes the trees those of the graph at the vertex, anew only where that is another graph.
 pub(crate) fn renew_trees(kept: &mut GraphTrees, at: &Vantage)
     requires at { StandsAmong at.now.sound.now at.now.table.now at.now.signs.now at.now.d }
@@ -70,11 +53,17 @@ pub(crate) fn renew_trees(kept: &mut GraphTrees, at: &Vantage)
     if kept.known && kept.graph == graph {
         return;
     }
-    *kept = GraphTrees {
-        known: true,
-        graph,
-        trees: trees_here(at, &graph),
-    };
+    // the graph is strong because the set is stuck
+    match trees_of(&graph, w) {
+        Some(trees) => {
+            *kept = GraphTrees {
+                known: true,
+                graph,
+                trees,
+            };
+        }
+        None => unreachable!(),
+    }
 }
 
 // for each pair of parts the first pieces with which the one blocks the other

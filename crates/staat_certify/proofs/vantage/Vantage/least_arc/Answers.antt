@@ -10,12 +10,6 @@ use Rattle.staat_certify.specs.Witnesses.{AreEndsAhead}
 use Rattle.staat_certify.proofs.WitnessLemmas.{least_found}
 use Rattle.staat_certify.proofs.vantage.Vantage.least_arc.Goals as goal
 
-pub loop-i-init : goal.loop-i-init
-loop-i-init c = λ h. omega arith
-
-pub loop-j-init : goal.loop-j-init
-loop-j-init c = record { from = c.loop-i.invariant; here = λ h e. omega arith }
-
 across_of : (t : Table) (d : V3) (ends : ℕ × ℕ) (i j : ℕ) → AreEndsAhead t d ends → i < pieces_of t ends.0 → j < pieces_of t ends.1 → IsTableArc t (arc_of ends.0 i ends.1 j)
 across_of t d ends i j ahead i_is j_is = let across = ahead.across in record { a_in = across.a_in; b_in = across.b_in; different = across.different; i_is = i_is; j_is = j_is }
 
