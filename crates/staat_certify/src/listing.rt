@@ -50,9 +50,12 @@ fn push_arcs(key: &mut Vec<u32>, side: u32, arcs: &[Arc]) -> Result<(), OutOfMem
 fn key_of(alloc: Global, witness: &Witness) -> Result<Vec<u32>, OutOfMemory>
     ensures { IfOk result (λ key. key.items ≡ key_of witness.now) }
 {
-    let mut key = Vec::new(alloc);
-    push_arcs(&mut key, 0, witness.outs.as_slice())?;
-    push_arcs(&mut key, 1, witness.ins.as_slice())?;
+    let (outs, ins) = (witness.outs.as_slice(), witness.ins.as_slice());
+    // five numbers for each arc
+    let room = outs.len().saturating_add(ins.len()).saturating_mul(5);
+    let mut key = Vec::with_capacity(alloc, room)?;
+    push_arcs(&mut key, 0, outs)?;
+    push_arcs(&mut key, 1, ins)?;
     Ok(key)
 }
 

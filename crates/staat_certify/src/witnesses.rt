@@ -72,7 +72,7 @@ fn arcs_between(alloc: Global, at: &Vantage, pairs: &[(u32, u32)]) -> Result<Vec
     requires ahead { All (AreEndsAhead at.now.table.now at.now.d) pairs.now }
     ensures { IfOk result (λ arcs. AreEndsAndLeast at.now.sound.now at.now.d pairs.now arcs.items) }
 {
-    let mut arcs = Vec::new(alloc);
+    let mut arcs = Vec::with_capacity(alloc, pairs.len())?;
     for ends in pairs {
         arcs.push(at.least_arc(*ends))?;
     }
