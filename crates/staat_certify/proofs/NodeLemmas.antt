@@ -1,8 +1,6 @@
 -- The nodes of a plan, put together.
 use Rattle.std.proofs.Common.{◌≡◌, ℕ, refl, sym, ap, subst, ◌∙◌, List, [], ◌∷◌, ◌++◌, append_assoc}
-use Rattle.std.specs.Prelude.{Result, Ok, Err, OnOk}
 use Rattle.staat_vec.specs.declared.vector.V3.{V3}
-use Rattle.staat_vec.specs.declared.memory.OutOfMemory.{OutOfMemory}
 use Rattle.staat_model.specs.declared.assembly.Part.{Part}
 use Rattle.staat_model.specs.declared.certificate.Node.{Node}
 use Rattle.staat_model.specs.declared.certificate.Node.TheVariants.{Leaf, Split}
@@ -31,10 +29,6 @@ split_nodes parts d seps moved rest s r old one two new es er walls e a b =
         walls = (subst (λ (p : Plan). AreLeastWalls parts (parts_of p) (walled_parts t.tree) d seps) (sym m.plan_is) (subst (λ (p : Plan). AreLeastWalls parts (parts_of moved) (parts_of p) d seps) (sym t.plan_is) placed), m.walls, t.walls);
       };
     }
-
-pub split_done : (parts : List Part) (d : V3) (seps : List Sep) (moved rest : Plan) (s r : PartSet) (old one two new : List Node) (answer : Result (Unit {0}) OutOfMemory) → s ≡ parts_of moved → r ≡ parts_of rest → AreLeastWalls parts s r d seps → one ≡ old ++ Split d seps ∷ [] → AddsNodes parts moved one two → OnOk answer (AddsNodes parts rest two new) → OnOk answer (AddsNodes parts (split d moved rest) old new)
-split_done parts d seps moved rest s r old one two new (Ok x) es er walls e a b = split_nodes parts d seps moved rest s r old one two new es er walls e a b
-split_done parts d seps moved rest s r old one two new (Err x) es er walls e a b = tt
 
 -- the nodes that were added to none are the plan's
 pub from_nothing : (parts : List Part) (plan : Plan) (old new nodes : List Node) → old ≡ []

@@ -30,8 +30,8 @@ use Rattle.staat_model.proofs.Listings.{Listing, listing_sorted}
 use Rattle.staat_model.proofs.Orders.{arc_exact, arc_total}
 use Rattle.staat_model.proofs.PieceFacets.{meets_by_facets_lemma}
 use Rattle.staat_model.proofs.SomePlanes.{arcs_listing, facets_listing}
-use Rattle.staat_certify.specs.Walls.{IsAway, IsLeastWall}
-use Rattle.staat_certify.proofs.WallLemmas.{wall_away}
+use Rattle.staat_certify.specs.Walls.{IsAway}
+use Rattle.staat_certify.proofs.WallLemmas.{IsLeastWall, wall_away}
 
 -- ---- a wall for two pieces
 
@@ -63,6 +63,14 @@ some_piece parts a i lt = go (slice_get parts a) refl
 
 -- ---- the walls of a split
 
+-- one with P for each of a list
+pub chosen : {X Y : Type 0} (f : Y → X) (P : Y → Type 0) (xs : List X) → ((x : X) → Contains xs x → (y : Y) × (f y ≡ x) × P y) → (ys : List Y) × (map f ys ≡ xs) × All P ys
+chosen f P [] each = ([], refl, All-nil P)
+chosen f P (x ∷ xs) each =
+    let (y, is, has) = each x (Contains-front x xs) in
+    let (ys, are, all) = chosen f P xs (λ z c. each z (Contains-later x xs z c)) in
+    (y ∷ ys, (λ i. is i ∷ are i), All-cons P y ys has all)
+
 module _ (parts : List Part) (is : IsAssembly parts) where
   abbrev HasLeast : V3 → Sep → Type 0
   HasLeast d sep = IsLeast vector_cmp (IsFacetAway parts d sep.arc) sep.n
@@ -75,19 +83,10 @@ module _ (parts : List Part) (is : IsAssembly parts) where
       (λ meets. free.clear arc across.a_in across.b_in (record { p = p; q = q; p_is = p_is; q_is = q_is; holds = meets })) in
       (n, wall_away parts arc p q d n p_is q_is least)
 
-  walls_for : (s r : PartSet) (d : V3) → IsFree parts s r d → (arcs : List Arc) → ((x : Arc) → Contains arcs x → IsAcross parts s r x)
-      → (seps : List Sep) × (map (λ sep. sep.arc) seps ≡ arcs) × All (HasLeast d) seps
-  walls_for s r d free [] each = ([], refl, All-nil (HasLeast d))
-  walls_for s r d free (x ∷ arcs) each =
-      let (n, least) = arc_wall s r d free x (each x (Contains-front x arcs)) in
-      let (seps, are, all) = walls_for s r d free arcs (λ y c. each y (Contains-later x arcs y c)) in
-      let sep : Sep = record { arc = x; n = n } in
-      (sep ∷ seps, ap (λ l. x ∷ l) are, All-cons (HasLeast d) sep seps least all)
-
   some_walls : (s r : PartSet) (d : V3) → IsFree parts s r d → (seps : List Sep) × AreLeastWalls parts s r d seps
   some_walls s r d free =
       let (arcs, lists) = listing_sorted arc_cmp arc_total arc_exact (arcs_listing parts s r) in
-      let (seps, are, all) = walls_for s r d free arcs (λ x c. lists.each x c) in
+      let (seps, are, all) = chosen (λ (sep : Sep). sep.arc) (HasLeast d) arcs (λ x c. let (n, least) = arc_wall s r d free x (lists.each x c) in (record { arc = x; n = n }, refl, least)) in
       (seps, record { arcs = subst (Lists arc_cmp (IsAcross parts s r)) (sym are) lists; least = all })
 
   -- ---- the walls of a plan

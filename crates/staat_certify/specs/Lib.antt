@@ -1,9 +1,6 @@
-pub mod Arcs
 pub mod Walls
 pub mod Plans
-pub mod Numbers
 pub mod Witnesses
 pub mod WitnessListings
-pub mod Standing
 pub mod Visits
 pub mod Certifying

@@ -27,10 +27,9 @@ pub record IsSizedDirection (d : V3) : Type 0 where
   pub size : IsWithin DIRECTION d
   pub some : d ≢ origin
 
--- no witness stands at two places
-abbrev pub AreDifferentWitnesses : List Witness → Type 0
-AreDifferentWitnesses witnesses =
-    (k m : ℕ) (x : Witness) → slice_get witnesses k ≡ Some x → slice_get witnesses m ≡ Some x → k ≡ m
+-- nothing stands at two places
+abbrev pub AreDifferent : {X : Type 0} → List X → Type 0
+AreDifferent {X} xs = (k m : ℕ) (x : X) → slice_get xs k ≡ Some x → slice_get xs m ≡ Some x → k ≡ m
 
 -- each line names the witness of its direction, and the witnesses are numbered by first use
 pub record AreListed (parts : List Part) (w : PartSet) (witnesses : List Witness) (dirs : List Dir) : Type 0 where
@@ -41,19 +40,18 @@ pub record AreListed (parts : List Part) (w : PartSet) (witnesses : List Witness
 -- what a certificate says of w, with such lines for these directions, and different witnesses
 abbrev pub IsWitnessListing : List Part → PartSet → List V3 → Body → Type 0
 IsWitnessListing parts w ds (body.Plan nodes) = ⊥
-IsWitnessListing parts w ds (body.Stuck v witnesses dirs) = (v ≡ w) × AreDifferentWitnesses witnesses
+IsWitnessListing parts w ds (body.Stuck v witnesses dirs) = (v ≡ w) × AreDifferent witnesses
     × AreListed parts w witnesses dirs × (map (λ dir. dir.d) dirs ≡ ds)
 
--- the witness stands at its number in the new list, which is the old one or has it at the end
-pub record IsWitnessNumber (old new : List Witness) (witness : Witness) (i : ℕ) : Type 0 where
-  pub which : ((new ≡ old) × (i < length old)) ⊎ ((new ≡ old ++ witness ∷ []) × (i ≡ length old))
-  pub at : slice_get new i ≡ Some witness
+-- x stands at its number in the new list, which is the old one or has it at the end
+pub record IsNumberOf {X : Type 0} (old new : List X) (x : X) (i : ℕ) : Type 0 where
+  pub which : ((new ≡ old) × (i < length old)) ⊎ ((new ≡ old ++ x ∷ []) × (i ≡ length old))
+  pub at : slice_get new i ≡ Some x
 
 -- these are the keys of the witnesses, and they are different
 pub record AreKeys (keys : List (List ℕ)) (witnesses : List Witness) : Type 0 where
   pub are : keys ≡ map key_of witnesses
-  pub distinct : (k m : ℕ) (key : List ℕ) → slice_get keys k ≡ Some key → slice_get keys m ≡ Some key
-      → k ≡ m
+  pub distinct : AreDifferent keys
 
 -- the number, where there is one, at which a witness that was found stands among those that are listed, which have all
 -- been found

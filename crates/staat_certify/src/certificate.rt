@@ -1,44 +1,23 @@
 // The certificate of an outcome.
-ghost use Rattle.std.specs.Prelude.{◌≤◌, IfOk, length};
+ghost use Rattle.std.specs.Prelude.{IfOk};
 ghost use Rattle.staat_model.specs.Certify.{IsBodyOf, IsCertificateOf};
 ghost use Rattle.staat_limits.specs.Versions.{IsVersion};
 ghost use Rattle.staat_model.specs.Outcomes.{finding_of, stuck};
 ghost use Rattle.staat_model.specs.Plans.{IsStuck};
 ghost use Rattle.staat_model.specs.Texts.{IsWellFormed};
-ghost use Rattle.staat_pairs.specs.Tables.{WasMadeFrom};
-ghost use Rattle.staat_certify.specs.Visits.{HasFound};
 ghost use Rattle.staat_certify.specs.Certifying.{CanBeCertified, HasFewPlanes, IsValidFor};
 
 use crate::listing::listing_of;
 use crate::nodes::plan_body;
-use crate::visits::{Found, sort_visits, visit_all};
+use crate::visits::visit_all;
 use staat_cone::FacetSource;
 use staat_limits::MOST_PLANES;
 use staat_model::{Body, Certificate, Outcome, PartSet, Sound};
-use staat_planes::{PlaneTable, PlanesRefusal, tabulate};
+use staat_planes::{PlanesRefusal, tabulate};
 use staat_vec::OutOfMemory;
 use std::alloc::Global;
 
-// what the certificate says of a set that is stuck, with the table of its planes, where nothing is found yet
-fn refusal_at(
-    alloc: Global,
-    sound: &Sound,
-    table: &PlaneTable,
-    version: u32,
-    found: &mut Found,
-) -> Result<Body, OutOfMemory>
-    requires made { WasMadeFrom sound.now table.now }
-    requires few { length table.now.planes ≤ MOST_PLANES }
-    requires stuck { IsStuck sound.now table.now.of }
-    requires found { HasFound sound.now table.now version found.old }
-    ensures { IfOk result (IsBodyOf sound.now version (stuck table.now.of)) }
-{
-    visit_all(alloc, sound, table, version, found)?;
-    sort_visits(&mut found.visited);
-    listing_of(alloc, sound, table, found)
-}
-
-// the same with the set alone
+// what the certificate says of a set that is stuck
 fn refusal_of<F: FacetSource>(
     alloc: Global,
     source: &F,
@@ -52,8 +31,8 @@ fn refusal_of<F: FacetSource>(
 {
     match tabulate(alloc, source, sound, w, MOST_PLANES) {
         Ok(table) => {
-            let mut found = Found::none(alloc);
-            refusal_at(alloc, sound, &table, version, &mut found)
+            let found = visit_all(alloc, sound, &table, version)?;
+            listing_of(alloc, sound, &table, &found)
         }
         Err(PlanesRefusal::OutOfMemory) => Err(OutOfMemory),
         Err(PlanesRefusal::TooManyPlanes(_)) => unreachable!(),

@@ -43,7 +43,7 @@ pub fn plan_has_certificate()
 {}
 
 /// The text of the certificate of a plan is never too long, where the directions of the plan are within their bound: a
-/// plan has at most 63 nodes, a split at most one wall for each two of the 64 pieces, and a line has at most 256 bytes.
+/// plan has at most 63 nodes, a split at most one wall for each two of the 64 pieces, and a line has at most 128 bytes.
 pub fn plan_certificate_is_short()
     ensures { (parts : List PartValue) (version : ℕ) (plan : Plan) (marks : List KindValue) (c : CertificateValue) →
         IsAssembly parts → IsVersion version → IsGood parts (below (length parts)) plan →

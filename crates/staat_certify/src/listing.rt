@@ -15,8 +15,8 @@ ghost use Rattle.std.specs.Prelude.{
   slice_get,
 };
 ghost use Rattle.staat_model.specs.declared.certificate.Witness.{Witness as WitnessValue};
-ghost use Rattle.staat_certify.specs.WitnessListings.{AreDifferentWitnesses, AreKeys, AreListed, AreNames};
-ghost use Rattle.staat_certify.specs.WitnessListings.{IsWitnessListing, IsWitnessNumber};
+ghost use Rattle.staat_certify.specs.WitnessListings.{AreDifferent, AreKeys, AreListed, AreNames};
+ghost use Rattle.staat_certify.specs.WitnessListings.{IsWitnessListing, IsNumberOf};
 ghost use Rattle.staat_certify.specs.WitnessListings.{key_of, key_numbers};
 ghost use Rattle.staat_certify.specs.Visits.{IsNamed, visited_directions};
 
@@ -50,9 +50,12 @@ fn push_arcs(key: &mut Vec<u32>, side: u32, arcs: &[Arc]) -> Result<(), OutOfMem
 fn key_of(alloc: Global, witness: &Witness) -> Result<Vec<u32>, OutOfMemory>
     ensures { IfOk result (λ key. key.items ≡ key_of witness.now) }
 {
-    let mut key = Vec::new(alloc);
-    push_arcs(&mut key, 0, witness.outs.as_slice())?;
-    push_arcs(&mut key, 1, witness.ins.as_slice())?;
+    let (outs, ins) = (witness.outs.as_slice(), witness.ins.as_slice());
+    // five numbers for each arc
+    let room = outs.len().saturating_add(ins.len()).saturating_mul(5);
+    let mut key = Vec::with_capacity(alloc, room)?;
+    push_arcs(&mut key, 0, outs)?;
+    push_arcs(&mut key, 1, ins)?;
     Ok(key)
 }
 
@@ -65,7 +68,7 @@ pub fn number_witness(
 ) -> Result<usize, OutOfMemory>
     requires { AreKeys (map (λ v. v.items) keys.old.keys) witnesses.old.items }
     ensures keys { OnOk result (AreKeys (map (λ v. v.items) keys.new.keys) witnesses.new.items) }
-    ensures number { IfOk result (IsWitnessNumber witnesses.old.items witnesses.new.items witness) }
+    ensures number { IfOk result (IsNumberOf witnesses.old.items witnesses.new.items witness) }
 {
     let key = key_of(alloc, &witness)?;
     let (number, _) = keys.insert_full(key)?;
@@ -75,22 +78,13 @@ pub fn number_witness(
     Ok(number)
 }
 
-// a copy of arcs
-fn copied(alloc: Global, arcs: &[Arc]) -> Result<Arcs, OutOfMemory>
-    ensures { IfOk result (λ copy. copy ≡ arcs.now) }
-{
-    let mut copy = Vec::new(alloc);
-    copy.extend_from_slice(arcs)?;
-    Ok(Arcs::from_vec(copy))
-}
-
 // a copy of a witness
 fn copy_of(alloc: Global, witness: &Witness) -> Result<Witness, OutOfMemory>
     ensures { IfOk result (λ copy. copy ≡ witness.now) }
 {
     Ok(Witness {
-        outs: copied(alloc, witness.outs.as_slice())?,
-        ins: copied(alloc, witness.ins.as_slice())?,
+        outs: Arcs::from_vec(witness.outs.as_slice().to_vec(alloc)?),
+        ins: Arcs::from_vec(witness.ins.as_slice().to_vec(alloc)?),
     })
 }
 
@@ -105,7 +99,7 @@ fn name_of(
     requires names { AreNames found.now listing.old.witnesses.items listing.old.names.items }
     ensures names { OnOk result (AreNames found.now listing.new.witnesses.items listing.new.names.items) }
     ensures number { IfOk result (λ i. (witness : WitnessValue) → slice_get found.now p ≡ Some witness
-        → IsWitnessNumber listing.old.witnesses.items listing.new.witnesses.items witness i) }
+        → IsNumberOf listing.old.witnesses.items listing.new.witnesses.items witness i) }
     ensures dirs { listing.new.dirs ≡ listing.old.dirs }
 {
     if let Some(number) = listing.names[p] {
@@ -152,7 +146,7 @@ pub fn listing_of(
     table: &PlaneTable,
     found: &Found,
 ) -> Result<Body, OutOfMemory>
-    requires apart { AreDifferentWitnesses found.now.witnesses.items }
+    requires apart { AreDifferent found.now.witnesses.items }
     requires named { All (IsNamed sound.now table.now.of found.now.witnesses.items) found.now.visited.items }
     requires few { length found.now.visited.items < LIST_LIMIT }
     ensures { IfOk result (IsWitnessListing sound.now table.now.of (visited_directions found.now.visited.items)) }

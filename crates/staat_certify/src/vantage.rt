@@ -1,11 +1,11 @@
 // What is seen at a vertex.
-ghost use Rattle.std.specs.Prelude.{◌≢◌, ◌<◌, ◌↔◌, All, IsTrue, MatchOption, pos, ◌<ℤ◌};
+ghost use Rattle.std.specs.Prelude.{◌≡◌, ◌↔◌, All, IsTrue, pos, ◌<ℤ◌};
 ghost use Rattle.staat_vec.specs.Vectors.{dot};
-ghost use Rattle.staat_model.specs.Sets.{Has};
+ghost use Rattle.staat_model.specs.Certificates.{outward};
+ghost use Rattle.staat_model.specs.Certify.{IsLeastArc};
 ghost use Rattle.staat_graph.specs.Blocking.{ShowsBlocking};
-ghost use Rattle.staat_pairs.specs.Tables.{IsTableArc, facets_of, pieces_of};
-ghost use Rattle.staat_certify.specs.Arcs.{IsFirstMet, IsLeastMet, MeetsNoPiece, MeetsNone};
-ghost use Rattle.staat_certify.specs.Standing.{StandsAmong};
+ghost use Rattle.staat_pairs.specs.Tables.{IsTableArc, facets_of};
+ghost use Rattle.staat_certify.specs.Witnesses.{AreEndsAhead, StandsAmong};
 
 use staat_graph::Graph;
 use staat_model::{Arc, Sound};
@@ -41,39 +41,26 @@ impl<'a> Vantage<'a> {
         self.signs.is_full(self.table.slot(arc) as u16)
     }
 
-    // the first piece of b that piece i of a meets
-    fn first_met(&self, a: u32, i: u32, b: u32) -> Option<u32>
+    /// The first two pieces of two parts with which the one blocks the other along the vertex.
+    pub(crate) fn least_arc(&self, ends: (u32, u32)) -> Arc
         requires at { StandsAmong self.now.sound.now self.now.table.now self.now.signs.now self.now.d }
-        requires a_in { Has self.now.table.now.of a }
-        requires b_in { Has self.now.table.now.of b }
-        requires different { a ≢ b }
-        requires piece { i < pieces_of self.now.table.now a }
-        ensures { MatchOption result (MeetsNoPiece self.now.table.now self.now.d a i b)
-            (IsFirstMet self.now.table.now self.now.d a i b) }
+        requires ahead { AreEndsAhead self.now.table.now self.now.d ends }
+        ensures ends { outward result ≡ ends }
+        ensures least { IsLeastArc self.now.sound.now self.now.d result }
     {
-        for j in 0..self.table.pieces(b) {
-            if self.leads_ahead(Arc { a, i, b, j }) {
-                return Some(j);
+        for i in 0..self.table.pieces(ends.0) {
+            for j in 0..self.table.pieces(ends.1) {
+                let arc = Arc {
+                    a: ends.0,
+                    i,
+                    b: ends.1,
+                    j,
+                };
+                if self.leads_ahead(arc) {
+                    return arc;
+                }
             }
         }
-        None
-    }
-
-    /// The first two pieces of two parts of which the one meets the other along the vertex.
-    pub(crate) fn least_arc(&self, a: u32, b: u32) -> Option<Arc>
-        requires at { StandsAmong self.now.sound.now self.now.table.now self.now.signs.now self.now.d }
-        requires a_in { Has self.now.table.now.of a }
-        requires b_in { Has self.now.table.now.of b }
-        requires different { a ≢ b }
-        ensures { MatchOption result (MeetsNone self.now.table.now self.now.d a b)
-            (IsLeastMet self.now.table.now self.now.d a b) }
-    {
-        for i in 0..self.table.pieces(a) {
-            match self.first_met(a, i, b) {
-                Some(j) => return Some(Arc { a, i, b, j }),
-                None => {}
-            }
-        }
-        None
+        unreachable!()
     }
 }

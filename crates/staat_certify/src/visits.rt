@@ -6,31 +6,31 @@ ghost use Rattle.std.specs.Prelude.{
   ◌+◌,
   ◌-◌,
   ◌↔◌,
+  All,
   Contains,
   IfOk,
   IfSome,
   IsTrue,
   OnOk,
   Some,
-  [],
   false,
   length,
   map,
 };
-ghost use Rattle.staat_vec.specs.declared.vector.V3.{V3 as Vector};
+ghost use Rattle.staat_vec.specs.Lists.{Lists};
 ghost use Rattle.staat_vec.specs.Primitives.{IsCanon};
-ghost use Rattle.staat_vec.specs.Vectors.{origin};
+ghost use Rattle.staat_vec.specs.Vectors.{origin, vector_cmp};
 ghost use Rattle.staat_model.specs.Certify.{IsDirection, NamesWitness};
 ghost use Rattle.staat_model.specs.Plans.{IsStuck};
 ghost use Rattle.staat_pairs.specs.Tables.{WasMadeFrom};
 ghost use Rattle.staat_ring.specs.Belonging.{BelongTo};
 ghost use Rattle.staat_ring.specs.WholeCircles.{AreSignsAt, HaveSameFull, IsWholeCircle, vertex_at};
-ghost use Rattle.staat_certify.specs.WitnessListings.{AreKeys};
-ghost use Rattle.staat_certify.specs.Visits.{AreStillVisited, AreVisitedBelow, HasFound, IsNumberHere, IsSurvey};
-ghost use Rattle.staat_certify.specs.Standing.{StandsAmong};
+ghost use Rattle.staat_certify.specs.WitnessListings.{AreDifferent, AreKeys};
+ghost use Rattle.staat_certify.specs.Visits.{AreStillVisited, AreVisitedBelow, HasFound, IsNamed, IsNumberHere};
+ghost use Rattle.staat_certify.specs.Visits.{IsSurvey};
+ghost use Rattle.staat_certify.specs.Witnesses.{AreTreesAlong, StandsAmong};
 ghost use Rattle.staat_certify.specs.Visits.{NamesIfTold, IsVisitedDirection, IsVisitedTo, KeepsTrees, SortsVisits};
 ghost use Rattle.staat_certify.specs.Visits.{visited_directions};
-ghost use Rattle.staat_certify.specs.Witnesses.{AreTreesAlong};
 
 use crate::listing::number_witness;
 use crate::vantage::Vantage;
@@ -60,24 +60,6 @@ pub struct Found {
     pub latest: usize,
 }
 
-impl Found {
-    /// Nothing.
-    pub fn none(alloc: Global) -> Found
-        ensures keys { result.keys.keys ≡ [] }
-        ensures witnesses { result.witnesses.items ≡ [] }
-        ensures visited { result.visited.items ≡ [] }
-        ensures kept { result.kept.known ≡ false }
-    {
-        Found {
-            keys: IndexSet::new(alloc),
-            witnesses: Vec::new(alloc),
-            visited: Vec::new(alloc),
-            kept: GraphTrees::none(),
-            latest: 0,
-        }
-    }
-}
-
 // whether the witness at the vertex is the one that was numbered last
 fn is_latest(at: &Vantage, found: &Found) -> bool
     requires at { StandsAmong at.now.sound.now at.now.table.now at.now.signs.now at.now.d }
@@ -91,23 +73,8 @@ fn is_latest(at: &Vantage, found: &Found) -> bool
     is_witness(at, &found.kept.trees, &found.witnesses[found.latest])
 }
 
-// the number of the witness at the vertex, which is put at the end of the list if it is a new one
-fn number_anew(alloc: Global, at: &Vantage, found: &mut Found) -> Result<usize, OutOfMemory>
-    requires at { StandsAmong at.now.sound.now at.now.table.now at.now.signs.now at.now.d }
-    requires along { AreTreesAlong at.now.sound.now at.now.table.now at.now.d found.old.kept.trees }
-    requires keys { AreKeys (map (λ v. v.items) found.old.keys.keys) found.old.witnesses.items }
-    ensures number { IfOk result (IsNumberHere at.now.sound.now at.now.table.now.of at.now.d
-        (map (λ v. v.items) found.new.keys.keys) found.old.witnesses.items found.new.witnesses.items) }
-    ensures kept { found.new.kept ≡ found.old.kept }
-    ensures visited { found.new.visited.items ≡ found.old.visited.items }
-{
-    let witness = witness_here(alloc, at, &found.kept.trees)?;
-    let number = number_witness(alloc, &mut found.keys, &mut found.witnesses, witness)?;
-    found.latest = number;
-    Ok(number)
-}
-
-// the number of the witness at the vertex, looked for where it is not told
+// the number of the witness at the vertex, which is looked for where it is not told, and put at the end of the list if
+// it is a new one
 fn number_here(
     alloc: Global,
     at: &Vantage,
@@ -132,7 +99,10 @@ fn number_here(
     if is_latest(at, found) {
         return Ok(found.latest);
     }
-    number_anew(alloc, at, found)
+    let witness = witness_here(alloc, at, &found.kept.trees)?;
+    let number = number_witness(alloc, &mut found.keys, &mut found.witnesses, witness)?;
+    found.latest = number;
+    Ok(number)
 }
 
 // the number that is told, unless other pieces may meet now
@@ -160,40 +130,8 @@ impl<'a> Survey<'a> {
         self.version != 2 || vertex.is_canon()
     }
 
-    // keeps the vertex with its witness, and gives the number of that
-    fn keep_visit(
-        &self,
-        vertex: &Vertex,
-        signs: &CountedSigns,
-        told: Option<usize>,
-        found: &mut Found,
-    ) -> Result<usize, OutOfMemory>
-        requires survey { IsSurvey self.now.sound.now self.now.table.now }
-        requires made { BelongTo self.now.table.now signs.now }
-        requires signs { AreSignsAt self.now.table.now.planes signs.now vertex.now }
-        requires direction { IsDirection self.now.version self.now.table.now.planes vertex.now }
-        requires some { vertex.now ≢ origin }
-        requires told { NamesIfTold self.now.sound.now self.now.table.now.of found.old.witnesses.items vertex.now told }
-        requires found { HasFound self.now.sound.now self.now.table.now self.now.version found.old }
-        ensures found { OnOk result (HasFound self.now.sound.now self.now.table.now self.now.version found.new) }
-        ensures number { IfOk result (λ number. NamesWitness self.now.sound.now self.now.table.now.of
-            found.new.witnesses.items (record { d = vertex.now; witness = number })) }
-        ensures here { OnOk result (Contains (visited_directions found.new.visited.items) vertex.now) }
-        ensures kept { OnOk result (AreStillVisited found.old.visited.items found.new.visited.items) }
-    {
-        let at = Vantage {
-            sound: self.sound,
-            table: self.table,
-            signs,
-            d: vertex.direction(),
-        };
-        let number = number_here(self.alloc, &at, told, found)?;
-        found.visited.push(Visit { d: at.d, number })?;
-        Ok(number)
-    }
-
-    // Keeps the vertex k of a circle, unless it has been visited on the circle of a lesser plane. The number that is
-    // told is that of its witness, if any is, and so is the answer.
+    // Keeps the vertex k of a circle with its witness, unless it has been visited on the circle of a lesser plane. The
+    // number that is told is that of its witness, if any is, and so is the answer.
     fn visit(
         &self,
         circle: &Circle,
@@ -226,7 +164,14 @@ impl<'a> Survey<'a> {
             return Ok(told);
         }
         let vertex = circle.vertex(self.table, k);
-        let number = self.keep_visit(&vertex, signs, told, found)?;
+        let at = Vantage {
+            sound: self.sound,
+            table: self.table,
+            signs,
+            d: vertex.direction(),
+        };
+        let number = number_here(self.alloc, &at, told, found)?;
+        found.visited.push(Visit { d: at.d, number })?;
         Ok(Some(number))
     }
 
@@ -333,7 +278,15 @@ impl<'a> Survey<'a> {
     }
 }
 
-/// Visits all directions of the version, with their witnesses.
+// puts the visits in the order of their directions, and keeps one of each
+fn sort_visits(visited: &mut Vec<Visit>)
+    ensures { SortsVisits visited.old.items visited.new.items }
+{
+    visited.sort_unstable_by_key(|visit| visit.d);
+    visited.dedup_by_key(|visit| visit.d);
+}
+
+/// Visits all directions of the version, with their witnesses. The visits come in the order of the directions.
 ///
 /// Each vertex is visited on the circle of the least plane through it. Its witness is looked for only where other
 /// pieces may meet than at the vertex before; no blocking graph is counted from the facets.
@@ -342,14 +295,14 @@ pub fn visit_all(
     sound: &Sound,
     table: &PlaneTable,
     version: u32,
-    found: &mut Found,
-) -> Result<(), OutOfMemory>
+) -> Result<Found, OutOfMemory>
     requires made { WasMadeFrom sound.now table.now }
     requires stuck { IsStuck sound.now table.now.of }
-    requires found { HasFound sound.now table.now version found.old }
-    ensures found { OnOk result (HasFound sound.now table.now version found.new) }
-    ensures all { OnOk result ((d : Vector) → IsDirection version table.now.planes d
-        → Contains (visited_directions found.new.visited.items) d) }
+    ensures apart { IfOk result (λ found. AreDifferent found.witnesses.items) }
+    ensures named { IfOk result (λ found. All (IsNamed sound.now table.now.of found.witnesses.items)
+        found.visited.items) }
+    ensures directions { IfOk result (λ found. Lists vector_cmp (IsDirection version table.now.planes)
+        (visited_directions found.visited.items)) }
 {
     let _set = table.set();
     let mut signs = CountedSigns::of(alloc, table)?;
@@ -359,13 +312,14 @@ pub fn visit_all(
         table,
         version,
     };
-    survey.go_round_all(&mut signs, found)
-}
-
-/// Puts the visits in the order of their directions, and keeps one of each.
-pub fn sort_visits(visited: &mut Vec<Visit>)
-    ensures { SortsVisits visited.old.items visited.new.items }
-{
-    visited.sort_unstable_by_key(|visit| visit.d);
-    visited.dedup_by_key(|visit| visit.d);
+    let mut found = Found {
+        keys: IndexSet::new(alloc),
+        witnesses: Vec::new(alloc),
+        visited: Vec::new(alloc),
+        kept: GraphTrees::none(),
+        latest: 0,
+    };
+    survey.go_round_all(&mut signs, &mut found)?;
+    sort_visits(&mut found.visited);
+    Ok(found)
 }

@@ -1,18 +1,16 @@
 // The walls of a split.
-ghost use Rattle.std.specs.Prelude.{◌≡◌, ◌<◌, ◌<ℤ◌};
-ghost use Rattle.std.specs.Prelude.{pos, Bool, false, All, IfOk, IsTrue, MatchOption, OnOk, length};
-ghost use Rattle.staat_vec.specs.Lists.{IsFirst};
-ghost use Rattle.staat_vec.specs.Vectors.{IsWithin, dot};
+ghost use Rattle.std.specs.Prelude.{◌≡◌, ◌<◌, ◌<ℤ◌, ◌↔◌, ℕ};
+ghost use Rattle.std.specs.Prelude.{pos, false, All, IfOk, IsTrue, MatchOption, OnOk, length};
+ghost use Rattle.staat_vec.specs.Lists.{IsFirst, IsLeast};
+ghost use Rattle.staat_vec.specs.Vectors.{IsWithin, dot, vector_cmp};
 ghost use Rattle.staat_model.specs.Assemblies.{piece_count};
-ghost use Rattle.staat_model.specs.Meeting.{Meets};
+ghost use Rattle.staat_model.specs.Certify.{IsFacetAway};
 ghost use Rattle.staat_model.specs.Removal.{IsFree, MeetsAlong};
 ghost use Rattle.staat_model.specs.Sets.{Has};
-ghost use Rattle.staat_model.specs.Certificates.{IsAcrossFrom, IsAcrossFromPiece, IsAcrossTo};
-ghost use Rattle.staat_certify.specs.Walls.{AddsSplit, AddsWalls, HasPieces};
-ghost use Rattle.staat_certify.specs.Walls.{IsAway, IsLeastWall};
+ghost use Rattle.staat_certify.specs.Walls.{AddsSplit, HasPieces, IsAway};
 
 use staat_cone::FacetSource;
-use staat_model::{Arc, Assembly, Node, PartSet, Piece, Sep, Seps};
+use staat_model::{Arc, Assembly, Node, PartSet, Sep, Seps};
 use staat_vec::{DIRECTION, NORMAL, OutOfMemory, V3, dot};
 use std::alloc::Global;
 
@@ -51,12 +49,25 @@ pub(crate) struct Parting<'a, F: FacetSource> {
 }
 
 impl<'a, F: FacetSource> Parting<'a, F> {
-    // the least facet of two pieces that the direction does not lead ahead of
-    fn least_wall(&self, p: &Piece, q: &Piece) -> Result<V3, OutOfMemory>
-        requires direction { IsWithin DIRECTION self.now.d }
-        requires apart { Meets p.now q.now self.now.d → ⊥ }
-        ensures { IfOk result (IsLeastWall p.now q.now self.now.d) }
+    // how many pieces the part has, and none where it is not in the set
+    fn pieces_in(&self, set: PartSet, part: u32) -> u32
+        requires { part < length self.now.assembly.now }
+        ensures { (piece : ℕ) → piece < result ↔ (Has set part × (piece < piece_count self.now.assembly.now part)) }
     {
+        // an assembly has few parts
+        let _parts = self.assembly.parts();
+        if set.has(part) { self.assembly.pieces(part) } else { 0 }
+    }
+
+    // the wall of an arc: the least facet of its pieces that the direction does not lead ahead of
+    fn wall(&self, arc: Arc) -> Result<V3, OutOfMemory>
+        requires direction { IsWithin DIRECTION self.now.d }
+        requires pieces { HasPieces self.now.assembly.now arc }
+        requires apart { MeetsAlong self.now.assembly.now self.now.d arc → ⊥ }
+        ensures { IfOk result (IsLeast vector_cmp (IsFacetAway self.now.assembly.now self.now.d arc)) }
+    {
+        let p = self.assembly.piece(arc.a, arc.i);
+        let q = self.assembly.piece(arc.b, arc.j);
         // pieces are solid
         let _first = p.points();
         let _second = q.points();
@@ -65,79 +76,6 @@ impl<'a, F: FacetSource> Parting<'a, F> {
             Some(n) => Ok(n),
             None => unreachable!(),
         }
-    }
-
-    // adds the wall of an arc
-    fn push_wall(&self, arc: Arc, seps: &mut Vec<Sep>) -> Result<(), OutOfMemory>
-        requires direction { IsWithin DIRECTION self.now.d }
-        requires pieces { HasPieces self.now.assembly.now arc }
-        requires apart { MeetsAlong self.now.assembly.now self.now.d arc → ⊥ }
-        ensures { OnOk result (AddsWalls self.now.assembly.now self.now.d (λ other. other ≡ arc) seps.old.items
-            seps.new.items) }
-    {
-        let p = self.assembly.piece(arc.a, arc.i);
-        let q = self.assembly.piece(arc.b, arc.j);
-        let n = self.least_wall(p, q)?;
-        seps.push(Sep { arc, n })?;
-        Ok(())
-    }
-
-    // adds the walls for piece i of part a and the pieces of part b, where that is a part of the rest
-    fn walls_to(&self, a: u32, i: u32, b: u32, seps: &mut Vec<Sep>) -> Result<(), OutOfMemory>
-        requires direction { IsWithin DIRECTION self.now.d }
-        requires free { IsFree self.now.assembly.now self.now.side self.now.rest self.now.d }
-        requires first { Has self.now.side a }
-        requires part { a < length self.now.assembly.now }
-        requires piece { i < piece_count self.now.assembly.now a }
-        requires second { b < length self.now.assembly.now }
-        ensures { OnOk result (AddsWalls self.now.assembly.now self.now.d
-            (IsAcrossTo self.now.assembly.now self.now.side self.now.rest a i b) seps.old.items seps.new.items) }
-    {
-        // an assembly has few parts
-        let _parts = self.assembly.parts();
-        if !self.rest.has(b) {
-            return Ok(());
-        }
-        for j in 0..self.assembly.pieces(b) {
-            self.push_wall(Arc { a, i, b, j }, seps)?;
-        }
-        Ok(())
-    }
-
-    // adds those for piece i of part a
-    fn walls_of_piece(&self, a: u32, i: u32, seps: &mut Vec<Sep>) -> Result<(), OutOfMemory>
-        requires direction { IsWithin DIRECTION self.now.d }
-        requires free { IsFree self.now.assembly.now self.now.side self.now.rest self.now.d }
-        requires first { Has self.now.side a }
-        requires part { a < length self.now.assembly.now }
-        requires piece { i < piece_count self.now.assembly.now a }
-        ensures { OnOk result (AddsWalls self.now.assembly.now self.now.d
-            (IsAcrossFromPiece self.now.assembly.now self.now.side self.now.rest a i) seps.old.items
-            seps.new.items) }
-    {
-        for b in 0..self.assembly.parts() {
-            self.walls_to(a, i, b, seps)?;
-        }
-        Ok(())
-    }
-
-    // adds those for part a, where it is a part of the side
-    fn walls_of_part(&self, a: u32, seps: &mut Vec<Sep>) -> Result<(), OutOfMemory>
-        requires direction { IsWithin DIRECTION self.now.d }
-        requires free { IsFree self.now.assembly.now self.now.side self.now.rest self.now.d }
-        requires part { a < length self.now.assembly.now }
-        ensures { OnOk result (AddsWalls self.now.assembly.now self.now.d
-            (IsAcrossFrom self.now.assembly.now self.now.side self.now.rest a) seps.old.items seps.new.items) }
-    {
-        // an assembly has few parts
-        let _parts = self.assembly.parts();
-        if !self.side.has(a) {
-            return Ok(());
-        }
-        for i in 0..self.assembly.pieces(a) {
-            self.walls_of_piece(a, i, seps)?;
-        }
-        Ok(())
     }
 
     /// Adds the node of the split, with its walls: for each piece of a part of the side and each of a part of the rest
@@ -150,7 +88,15 @@ impl<'a, F: FacetSource> Parting<'a, F> {
     {
         let mut seps = Vec::new(self.alloc);
         for a in 0..self.assembly.parts() {
-            self.walls_of_part(a, &mut seps)?;
+            for i in 0..self.pieces_in(self.side, a) {
+                for b in 0..self.assembly.parts() {
+                    for j in 0..self.pieces_in(self.rest, b) {
+                        let arc = Arc { a, i, b, j };
+                        let n = self.wall(arc)?;
+                        seps.push(Sep { arc, n })?;
+                    }
+                }
+            }
         }
         nodes.push(Node::Split {
             d: self.d,

@@ -1,13 +1,9 @@
 // The witness that no side of a set is free of its rest along a vertex.
-ghost use Rattle.std.specs.Prelude.{◌≡◌, ◌≢◌, ◌<◌, All, IfOk, IsTrue, false, map, take};
+ghost use Rattle.std.specs.Prelude.{◌≡◌, ◌≢◌, All, IfOk, IsTrue, false};
 ghost use Rattle.staat_vec.specs.Vectors.{origin};
-ghost use Rattle.staat_model.specs.Certificates.{outward};
-ghost use Rattle.staat_model.specs.Certify.{IsLeastArc, IsWitnessAt};
+ghost use Rattle.staat_model.specs.Certify.{IsWitnessAt};
 ghost use Rattle.staat_model.specs.Plans.{IsStuck};
-ghost use Rattle.staat_graph.specs.Blocking.{ShowsBlocking};
-ghost use Rattle.staat_graph.specs.Graphs.{AreTrees, HasArc};
-ghost use Rattle.staat_certify.specs.Witnesses.{AreEndsAhead, AreEndsAndLeast, AreTreesAlong};
-ghost use Rattle.staat_certify.specs.Standing.{StandsAmong};
+ghost use Rattle.staat_certify.specs.Witnesses.{AreEndsAhead, AreEndsAndLeast, AreTreesAlong, StandsAmong};
 ghost use Rattle.staat_certify.specs.Visits.{KeepsTrees};
 
 use crate::vantage::Vantage;
@@ -42,21 +38,6 @@ impl GraphTrees {
     }
 }
 
-// the trees of the graph at the vertex, which is strong because the set is stuck
-fn trees_here(at: &Vantage, graph: &Graph) -> Trees
-    requires at { StandsAmong at.now.sound.now at.now.table.now at.now.signs.now at.now.d }
-    requires stuck { IsStuck at.now.sound.now at.now.table.now.of }
-    requires some { at.now.d ≢ origin }
-    requires shows { ShowsBlocking at.now.sound.now at.now.d at.now.table.now.of graph.now.rows }
-    ensures { AreTrees (HasArc graph.now.rows) at.now.table.now.of result }
-{
-    let w = at.table.set();
-    match trees_of(graph, w) {
-        Some(trees) => trees,
-        None => unreachable!(),
-    }
-}
-
 /// Makes the trees those of the graph at the vertex, anew only where that is another graph.
 pub(crate) fn renew_trees(kept: &mut GraphTrees, at: &Vantage)
     requires at { StandsAmong at.now.sound.now at.now.table.now at.now.signs.now at.now.d }
@@ -72,35 +53,28 @@ pub(crate) fn renew_trees(kept: &mut GraphTrees, at: &Vantage)
     if kept.known && kept.graph == graph {
         return;
     }
-    *kept = GraphTrees {
-        known: true,
-        graph,
-        trees: trees_here(at, &graph),
-    };
-}
-
-// the first pieces with which the one part blocks the other
-fn arc_between(at: &Vantage, ends: (u32, u32)) -> Arc
-    requires at { StandsAmong at.now.sound.now at.now.table.now at.now.signs.now at.now.d }
-    requires ahead { AreEndsAhead at.now.table.now at.now.d ends }
-    ensures ends { outward result ≡ ends }
-    ensures least { IsLeastArc at.now.sound.now at.now.d result }
-{
-    match at.least_arc(ends.0, ends.1) {
-        Some(arc) => arc,
+    // the graph is strong because the set is stuck
+    match trees_of(&graph, w) {
+        Some(trees) => {
+            *kept = GraphTrees {
+                known: true,
+                graph,
+                trees,
+            };
+        }
         None => unreachable!(),
     }
 }
 
-// those of each pair of parts
+// for each pair of parts the first pieces with which the one blocks the other
 fn arcs_between(alloc: Global, at: &Vantage, pairs: &[(u32, u32)]) -> Result<Vec<Arc>, OutOfMemory>
     requires at { StandsAmong at.now.sound.now at.now.table.now at.now.signs.now at.now.d }
     requires ahead { All (AreEndsAhead at.now.table.now at.now.d) pairs.now }
     ensures { IfOk result (λ arcs. AreEndsAndLeast at.now.sound.now at.now.d pairs.now arcs.items) }
 {
-    let mut arcs = Vec::new(alloc);
+    let mut arcs = Vec::with_capacity(alloc, pairs.len())?;
     for ends in pairs {
-        arcs.push(arc_between(at, *ends))?;
+        arcs.push(at.least_arc(*ends))?;
     }
     Ok(arcs)
 }
@@ -115,7 +89,7 @@ fn are_between(at: &Vantage, pairs: &[(u32, u32)], arcs: &[Arc]) -> bool
         return false;
     }
     for k in 0..pairs.len() {
-        let arc = arc_between(at, pairs[k]);
+        let arc = at.least_arc(pairs[k]);
         if arc != arcs[k] {
             return false;
         }

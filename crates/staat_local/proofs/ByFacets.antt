@@ -1,8 +1,9 @@
--- Two pieces touch where some difference lies across all facets, and so where the sum of the facets keeps no two of their points apart.
-use Rattle.std.proofs.Common.{◌≡◌, ◌↔◌, ◌⊎◌, inl, inr, refl, Bool, true, false, IsTrue, Any, ⊎_elim, ◌≢◌, sym, subst, ◌∙◌, arith, ℤ, pos, ◌+ℤ◌, ◌-ℤ◌, ◌*ℤ◌, ◌≤ℤ◌, ◌<ℤ◌, neg_ℤ, List, All, Contains}
+-- Two pieces touch where some difference lies across all facets, and so where the sum of the facets keeps no two of their
+-- points apart; they collide soon where they touch and meet.
+use Rattle.std.proofs.Common.{◌≡◌, ◌↔◌, ◌⊎◌, inl, inr, refl, Bool, true, false, IsTrue, Any, ⊎_elim, ◌≢◌, sym, subst, ◌∙◌, arith, ℤ, pos, ◌+ℤ◌, ◌-ℤ◌, ◌*ℤ◌, ◌≤ℤ◌, ◌<ℤ◌, neg_ℤ, List, [], ◌∷◌, ◌≤◌, length, All, Contains}
 use Rattle.std.specs.Prelude.{Some}
 use Rattle.std.proofs.lemmas.Int.{ints, by_lt_z}
-use Rattle.std.proofs.lemmas.List.Elements.{All-contains, All-weaker}
+use Rattle.std.proofs.lemmas.List.Elements.{All-cons, All-contains, All-nil, All-weaker}
 use Rattle.staat_vec.specs.declared.vector.V3.{V3}
 use Rattle.staat_vec.specs.Lists.{Lists}
 use Rattle.staat_vec.specs.Vectors.{cross, dot, minus, negative, origin, vector_cmp}
@@ -16,17 +17,22 @@ use Rattle.staat_model.specs.Assemblies.{HoldsAt, IsAssembly, piece_at}
 use Rattle.staat_model.proofs.GraphLemmas.{piece_is}
 use Rattle.staat_model.specs.Cones.{IsAbove, differences}
 use Rattle.staat_model.specs.Facets.{IsFacet}
+use Rattle.staat_model.specs.Meeting.{Meets}
 use Rattle.staat_model.specs.Pieces.{IsPiece}
 use Rattle.staat_model.proofs.Alternative.{IsSeparated, alternative}
 use Rattle.staat_model.proofs.CornerLemmas.{above_primitive, dot_multiple}
+use Rattle.staat_model.proofs.Decisions.{all_or, le_or, not_or}
+use Rattle.staat_model.proofs.SomePlanes.{facets_listing}
+use Rattle.staat_vec.proofs.ListLaws.{Contains-there}
+use Rattle.staat_vec.proofs.Unique.{Contains-front, from_place}
 use Rattle.staat_model.proofs.Differences.{in_differences}
 use Rattle.staat_model.proofs.Edge.{edge_below}
 use Rattle.staat_model.proofs.Members.{All-from_members}
 use Rattle.staat_model.proofs.PieceFacets.{beyond_is_above, differences_are, from_cone_facet, pieces_span}
-use Rattle.staat_local.specs.Contacts.{Contact, total}
+use Rattle.staat_local.specs.Contacts.{Contact, Starts, total}
 use Rattle.staat_local.specs.Touching.{IsNoFarther}
-use Rattle.staat_local.proofs.Contacts.{contact_combined, past_no_contact}
-use Rattle.staat_local.proofs.Points.{all_level}
+use Rattle.staat_local.proofs.Contacts.{IsPastAt, contact_combined, meets_of_start, past_no_contact, past_no_start, soon_weights}
+use Rattle.staat_local.proofs.Points.{all_level, itself, no_farther_on, other_way}
 use Rattle.staat_vec.proofs.Integers.{add_one_le, product_zero}
 use Rattle.staat_vec.proofs.VectorLaws.{dot_minus}
 use Rattle.staat_vec.proofs.Options.{one_answer}
@@ -85,12 +91,51 @@ module _ (p q facets : List V3) (is_p : IsPiece p) (is_q : IsPiece q) (are : (n 
   more b a c e not = by_lt_z {P = (a +ℤ pos 1) ≤ℤ b} (pos 0) c (λ up. add_one_le b a c e up) (λ low. absurd (not low))
 
   -- where all of q lies farther along some vector than what lies farthest of p
-  pub no_contact_where_far : (n a : V3) → All (IsNoFarther n a) p → ((b : V3) → Contains q b → IsNoFarther n a b → ⊥) → Contact p q → ⊥
-  no_contact_where_far n a most far =
-      past_no_contact p q n (dot a n) (record {
-        first = All-weaker (IsNoFarther n a) (λ v. dot v n ≤ℤ dot a n) (λ v h. no_more (dot v n) (dot a n) (dot (minus v a) n) (dot_minus v a n) h) p most;
-        second = All-from_members (λ v. (dot a n +ℤ pos 1) ≤ℤ dot v n) q (λ v v_in. more (dot v n) (dot a n) (dot (minus v a) n) (dot_minus v a n) (far v v_in));
-      })
+  past_where_far : (n a : V3) → All (IsNoFarther n a) p → ((b : V3) → Contains q b → IsNoFarther n a b → ⊥) → IsPastAt p q n (dot a n)
+  past_where_far n a most far = record {
+    first = All-weaker (IsNoFarther n a) (λ v. dot v n ≤ℤ dot a n) (λ v h. no_more (dot v n) (dot a n) (dot (minus v a) n) (dot_minus v a n) h) p most;
+    second = All-from_members (λ v. (dot a n +ℤ pos 1) ≤ℤ dot v n) q (λ v v_in. more (dot v n) (dot a n) (dot (minus v a) n) (dot_minus v a n) (far v v_in));
+  }
+
+-- ---- what starts to collide touches
+
+-- a point that lies farthest along n
+farthest : (n v : V3) (vs : List V3) → (m : V3) × Contains (v ∷ vs) m × All (IsNoFarther n m) (v ∷ vs)
+farthest n v [] = (v, Contains-front v [], All-cons (IsNoFarther n v) v [] (itself n v) (All-nil (IsNoFarther n v)))
+farthest n v (u ∷ us) =
+    let (m, m_in, most) = farthest n u us in
+    elim (le_or (dot (minus v m) n) (pos 0)) [
+      | inl near ↦ (m, Contains-there v m (u ∷ us) m_in, All-cons (IsNoFarther n m) v (u ∷ us) near most)
+      | inr far ↦ (
+        v,
+        Contains-front v (u ∷ us),
+        All-cons (IsNoFarther n v) v (u ∷ us) (itself n v) (All-weaker (IsNoFarther n m) (IsNoFarther n v) (λ w h. no_farther_on n v w m (other_way n m v far) h) (u ∷ us) most),
+      )
+    ]
+
+farthest_of : (n : V3) (p : List V3) → 1 ≤ length p → (m : V3) × Contains p m × All (IsNoFarther n m) p
+farthest_of n [] some = absurd (omega arith)
+farthest_of n (v ∷ vs) some = farthest n v vs
+
+contact_of_start : (p q : List V3) (d : V3) → IsPiece p → IsPiece q → Starts p q d → Contact p q
+contact_of_start p q d is_p is_q starts =
+    let some : 1 ≤ length p = (let four = is_p.at_least in omega (arith, four)) in
+    let facets = facets_listing p q in
+    let n = total facets.xs in
+    let (top, top_in, most) = farthest_of n p some in
+    elim (all_or (λ b. IsNoFarther n top b → ⊥) (λ b. not_or (le_or (dot (minus b top) n) (pos 0))) q) [
+      | inl far ↦ absurd (past_no_start p q n d (dot top n) some (past_where_far p q facets.xs is_p is_q (λ m. (facets.from m, facets.all m)) n top most (λ b b_in. All-contains (λ b. IsNoFarther n top b → ⊥) q b far b_in)) starts)
+      | inr t ↦ (elim (le_or (dot (minus t.1.x top) n) (pos 0)) [
+        | inl near ↦ contact_where_near p q facets.xs is_p is_q (λ m. (facets.from m, facets.all m)) top t.1.x top_in (from_place q t.0 t.1.x t.1.at) near
+        | inr off ↦ absurd (t.1.fails off)
+      ])
+    ]
+
+pub starts_by_contact_lemma : (p q : List V3) (d : V3) → IsPiece p → IsPiece q → Starts p q d ↔ (Contact p q × Meets p q d)
+starts_by_contact_lemma p q d is_p is_q = (
+  (λ starts. (contact_of_start p q d is_p is_q starts, meets_of_start p q d starts)),
+  λ both k one. soon_weights p q d k both.0 both.1,
+)
 
 -- ---- the two pieces of an arc
 
@@ -111,8 +156,8 @@ touching_is parts facets p q arc n far near is h p_is q_is sum far_in most test 
   λ touch.
       let contact : Contact p q = subst (λ x. Contact x q) (one_answer (piece_at parts arc.a arc.i) touch.p p touch.p_is p_is) (subst (λ y. Contact touch.p y) (one_answer (piece_at parts arc.b arc.j) touch.q q touch.q_is q_is) touch.holds) in
       ⊎_elim {C = IsTrue near} (λ t. t)
-      (λ off. absurd (no_contact_where_far p q facets piece_p piece_q are n far most
-      (λ b b_in close. off (test.1 (b_in.0, b, b_in.1, b_in.2, close))) contact))
+      (λ off. absurd (past_no_contact p q n (dot far n) (past_where_far p q facets piece_p piece_q are n far most
+      (λ b b_in close. off (test.1 (b_in.0, b, b_in.1, b_in.2, close)))) contact))
       (true_or near),
 )
   where

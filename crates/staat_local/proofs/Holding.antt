@@ -17,7 +17,7 @@ use Rattle.staat_model.specs.Planes.{ArePlanes, vertices}
 use Rattle.staat_model.specs.Plans.{IsStuck}
 use Rattle.staat_model.specs.Removal.{HoldsAlong, MeetsAlong}
 use Rattle.staat_model.specs.Sets.{AreApart, Has, IsSubset}
-use Rattle.staat_model.proofs.GraphLemmas.{arc_from_border, piece_is}
+use Rattle.staat_model.proofs.GraphLemmas.{arc_from_border, at_pieces}
 use Rattle.staat_model.proofs.RestrictLemmas.{rest_apart, rest_within}
 use Rattle.staat_model.proofs.Reversed.{meets_opposite_lemma}
 use Rattle.staat_model.proofs.VertexLemmas.{holds_axes, vertex_on_border_lemma}
@@ -30,7 +30,8 @@ use Rattle.staat_planes.proofs.GraphLaw.{meets_at}
 use Rattle.staat_local.specs.Beginnings.{HoldsBack, HoldsBetween, IsLoose, IsTight, Loosens}
 use Rattle.staat_local.specs.Contacts.{Contact, Starts}
 use Rattle.staat_local.specs.Touching.{AreMarks}
-use Rattle.staat_local.proofs.Contacts.{meets_of_start, starts_by_contact_lemma}
+use Rattle.staat_local.proofs.ByFacets.{starts_by_contact_lemma}
+use Rattle.staat_local.proofs.Contacts.{meets_of_start}
 use Rattle.staat_local.proofs.TouchMarks.{contact_back}
 use Rattle.staat_vec.proofs.Options.{one_answer}
 use Rattle.staat_model.proofs.OtherSides.{back_in, other_side}
@@ -67,30 +68,22 @@ module _ (R : ℕ → ℕ → Type 0) (rows : List ℕ) (n : ℕ) where
 -- the pieces of an arc collide at once where they touch and meet
 pub starts_at : (parts : List Part) (d : V3) (arc : Arc) → IsAssembly parts → HoldsAlong Starts parts d arc ↔ (HoldsAt parts arc Contact × MeetsAlong parts d arc)
 starts_at parts d arc is = (
-  (λ h.
-      let both = (starts_by_contact_lemma h.p h.q d (piece_is parts arc.a arc.i h.p is h.p_is) (piece_is parts arc.b arc.j h.q is h.q_is)).0 h.holds in (
-        record { p = h.p; q = h.q; p_is = h.p_is; q_is = h.q_is; holds = both.0 },
-        record { p = h.p; q = h.q; p_is = h.p_is; q_is = h.q_is; holds = both.1 },
-      )),
+  (λ h. (
+    at_pieces parts arc (λ p q. Starts p q d) Contact is.each (λ p q p_is q_is is_p is_q s. ((starts_by_contact_lemma p q d is_p is_q).0 s).0) h,
+    at_pieces parts arc (λ p q. Starts p q d) (λ p q. Meets p q d) is.each (λ p q p_is q_is is_p is_q s. ((starts_by_contact_lemma p q d is_p is_q).0 s).1) h,
+  )),
   λ both.
-      let c = both.0 in
       let m = both.1 in
-      let first : m.p ≡ c.p = one_answer (piece_at parts arc.a arc.i) m.p c.p m.p_is c.p_is in
-      let second : m.q ≡ c.q = one_answer (piece_at parts arc.b arc.j) m.q c.q m.q_is c.q_is in
-      let meets : Meets c.p c.q d = subst (λ x. Meets x c.q d) first (subst (λ y. Meets m.p y d) second m.holds) in record {
-        p = c.p;
-        q = c.q;
-        p_is = c.p_is;
-        q_is = c.q_is;
-        holds = (starts_by_contact_lemma c.p c.q d (piece_is parts arc.a arc.i c.p is c.p_is) (piece_is parts arc.b arc.j c.q is c.q_is)).1 (c.holds, meets);
-      },
+      at_pieces parts arc Contact (λ p q. Starts p q d) is.each (λ p q p_is q_is is_p is_q c.
+      let first : m.p ≡ p = one_answer (piece_at parts arc.a arc.i) m.p p m.p_is p_is in
+      let second : m.q ≡ q = one_answer (piece_at parts arc.b arc.j) m.q q m.q_is q_is in
+      (starts_by_contact_lemma p q d is_p is_q).1 (c, subst (λ x. Meets x q d) first (subst (λ y. Meets m.p y d) second m.holds))) both.0,
 )
 
 module _ (parts : List Part) (t : Table) (marks : List Bool) (made : WasMadeFrom parts t) (are : AreMarks parts t marks) (d : V3) where
   pub holding_is : (a b : ℕ) → HoldsBetween t marks d a b ↔ HoldsBack parts t.of d a b
   holding_is a b = (
     (λ h.
-        let arc : Arc = arc_of a h.i b h.j in
         let meets : MeetsAlong parts d (arc_of a h.i b h.j) = (meets_at parts t d (arc_of a h.i b h.j) made.assembly (made.facets (arc_of a h.i b h.j) h.across)).1 h.ahead in record {
           a_in = h.across.a_in;
           b_in = h.across.b_in;
@@ -104,7 +97,6 @@ module _ (parts : List Part) (t : Table) (marks : List Bool) (made : WasMadeFrom
     λ h.
         let block = h.starts in
         let m = block.meets in
-        let arc : Arc = arc_of a block.i b block.j in
         let across : IsTableArc t (arc_of a block.i b block.j) = record {
           a_in = h.a_in;
           b_in = h.b_in;

@@ -1,6 +1,6 @@
 -- Where contacts hold a set of parts together, no side of it begins to move.
 use Rattle.std.proofs.Common.{inl, inr, sym, subst, map, List, Bool, All, Contains}
-use Rattle.std.proofs.lemmas.List.Elements.{All-contains, All-weaker, Contains-append_cases}
+use Rattle.std.proofs.lemmas.List.Elements.{All-contains, Contains-append_cases}
 use Rattle.staat_vec.specs.declared.vector.V3.{V3}
 use Rattle.staat_model.specs.declared.assembly.Part.{Part}
 use Rattle.staat_model.specs.declared.certificate.Arc.{Arc}
@@ -9,7 +9,6 @@ use Rattle.staat_model.specs.Assemblies.{HoldsAt}
 use Rattle.staat_model.proofs.Differences.{from_map}
 use Rattle.staat_pairs.specs.Tables.{Table, WasMadeFrom, back}
 use Rattle.staat_core.specs.declared.joins.Moving.TheVariants.{AnySide}
-use Rattle.staat_core.specs.Listed.{IsTablePair}
 use Rattle.staat_core.specs.Moves.{HoldsMoves}
 use Rattle.staat_core.specs.Sources.{both_ways}
 use Rattle.staat_local.specs.Beginnings.{Loosens}
@@ -33,6 +32,3 @@ module _ (parts : List Part) (t : Table) (marks : List Bool) (pairs : List Arc) 
   held_loosens_not w d held loosens =
       let free = loosens.free in
       held loosens.side loosens.is_side (λ arc listed a_in b_in m. free.clear arc a_in b_in ((starts_at parts d arc made.assembly).1 (both_touch arc listed, m)))
-
-pub table_pairs : (t : Table) (marks : List Bool) (pairs : List Arc) → All (IsMarkedPair t marks) pairs → All (IsTablePair t) pairs
-table_pairs t marks pairs = All-weaker (IsMarkedPair t marks) (IsTablePair t) (λ pair h. h.pair_is) pairs

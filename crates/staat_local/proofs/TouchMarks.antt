@@ -79,14 +79,6 @@ module _ (parts : List Part) (t : Table) (is : IsTable t) where
           let same : x ≡ back arc = one_slot t x (back arc) is at (back_across t arc across) e in
           (inr (ap back same), subst (λ y. HoldsAt parts y Contact) (sym same) (contact_back parts arc touch))
 
--- nothing is marked
-pub marked_none : (parts : List Part) (t : Table) (R : Arc → Type 0) (marks : List Bool) → ((arc : Arc) → R arc → HoldsAt parts arc Contact → ⊥) → MarksTouching parts t R marks marks
-marked_none parts t R marks none x at = (
-  inl,
-  λ h. ⊎_elim {C = IsPairMarked marks (slot t.pieces x)} (λ o. o)
-      (λ r. ⊎_elim {C = IsPairMarked marks (slot t.pieces x)} (λ here. absurd (none x here r.1)) (λ there. absurd (none (back x) there (contact_back parts x r.1))) r.0) h,
-)
-
 -- all arcs lead to a greater part, this way round or the other
 pub all_marked : (parts : List Part) (t : Table) (n : ℕ) (start marks : List Bool) → IsTable t → 32 ≤ n → ((s : ℕ) → IsPairMarked start s → ⊥) → MarksTouching parts t (IsUpward n) start marks → AreMarks parts t marks
 all_marked parts t n start marks is most none all x at = (

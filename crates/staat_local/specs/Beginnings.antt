@@ -50,14 +50,7 @@ IsFoundIn parts w None = (set.len w < 2) ⊎ IsTight parts w
 
 -- ---- in a table whose touching pairs are marked
 
--- piece i of the part a touches some piece of the part b, and d leads ahead of all facets of the two
-pub record HoldsFrom (t : Table) (marks : List Bool) (d : V3) (a i b : ℕ) : Type 0 where
-  pub j : ℕ
-  pub across : IsTableArc t (arc_of a i b j)
-  pub marked : IsPairMarked marks (slot t.pieces (arc_of a i b j))
-  pub ahead : All (λ n. pos 0 <ℤ dot n d) (facets_of t (arc_of a i b j))
-
--- some piece of the part a does so
+-- some piece of the part a touches some piece of the part b, and d leads ahead of all facets of the two
 pub record HoldsBetween (t : Table) (marks : List Bool) (d : V3) (a b : ℕ) : Type 0 where
   pub i : ℕ
   pub j : ℕ

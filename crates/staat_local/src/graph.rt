@@ -5,8 +5,8 @@ ghost use Rattle.staat_vec.specs.Vectors.{IsWithin, dot};
 ghost use Rattle.staat_model.specs.Sets.{Has};
 ghost use Rattle.staat_graph.specs.Blocking.{ShowsBlockingBy};
 ghost use Rattle.staat_graph.specs.Graphs.{HasArc};
-ghost use Rattle.staat_pairs.specs.Tables.{IsTableArc, WasMadeFrom, facets_of, pieces_of, slot};
-ghost use Rattle.staat_local.specs.Beginnings.{HoldsBack, HoldsBetween, HoldsFrom};
+ghost use Rattle.staat_pairs.specs.Tables.{IsTableArc, WasMadeFrom, facets_of, slot};
+ghost use Rattle.staat_local.specs.Beginnings.{HoldsBack, HoldsBetween};
 ghost use Rattle.staat_local.specs.Contacts.{Starts};
 ghost use Rattle.staat_local.specs.Touching.{IsPairMarked};
 
@@ -27,23 +27,6 @@ fn holds(marks: &TouchMarks, table: &PlaneTable, arc: Arc, d: V3) -> bool
     marks[table.slot(arc) as usize] && table.leads_ahead(arc, d)
 }
 
-// whether this is so for piece i of the part a and some piece of the part b
-fn holds_from(marks: &TouchMarks, table: &PlaneTable, a: u32, i: u32, b: u32, d: V3) -> bool
-    requires a_in { Has table.now.of a }
-    requires b_in { Has table.now.of b }
-    requires different { a ≢ b }
-    requires piece { i < pieces_of table.now a }
-    requires direction { IsWithin DIRECTION d }
-    ensures { IsTrue result ↔ HoldsFrom table.now marks.now d a i b }
-{
-    for j in 0..table.pieces(b) {
-        if holds(marks, table, Arc { a, i, b, j }, d) {
-            return true;
-        }
-    }
-    false
-}
-
 // whether this is so for some piece of the part a and some piece of the part b
 fn holds_between(marks: &TouchMarks, table: &PlaneTable, a: u32, b: u32, d: V3) -> bool
     requires a_in { Has table.now.of a }
@@ -53,8 +36,10 @@ fn holds_between(marks: &TouchMarks, table: &PlaneTable, a: u32, b: u32, d: V3) 
     ensures { IsTrue result ↔ HoldsBetween table.now marks.now d a b }
 {
     for i in 0..table.pieces(a) {
-        if holds_from(marks, table, a, i, b, d) {
-            return true;
+        for j in 0..table.pieces(b) {
+            if holds(marks, table, Arc { a, i, b, j }, d) {
+                return true;
+            }
         }
     }
     false

@@ -34,20 +34,6 @@ fn mark_arc(marks: &mut TouchMarks, table: &PlaneTable, sound: &Sound, arc: Arc)
     }
 }
 
-// marks those of piece i of the part a and a piece of the part b
-fn mark_from(marks: &mut TouchMarks, table: &PlaneTable, sound: &Sound, a: u32, i: u32, b: u32)
-    requires made { WasMadeFrom sound.now table.now }
-    requires a_in { Has table.now.of a }
-    requires b_in { Has table.now.of b }
-    requires different { a ≢ b }
-    requires piece { i < pieces_of table.now a }
-    ensures { MarksTouching sound.now table.now (IsFromPiece a i b (pieces_of table.now b)) marks.old marks.new }
-{
-    for j in 0..table.pieces(b) {
-        mark_arc(marks, table, sound, Arc { a, i, b, j });
-    }
-}
-
 // marks those of a piece of the part a and a piece of the part b
 fn mark_between(marks: &mut TouchMarks, table: &PlaneTable, sound: &Sound, a: u32, b: u32)
     requires made { WasMadeFrom sound.now table.now }
@@ -57,20 +43,8 @@ fn mark_between(marks: &mut TouchMarks, table: &PlaneTable, sound: &Sound, a: u3
     ensures { MarksTouching sound.now table.now (LinksParts a b (pieces_of table.now a)) marks.old marks.new }
 {
     for i in 0..table.pieces(a) {
-        mark_from(marks, table, sound, a, i, b);
-    }
-}
-
-// marks those of the part a and a greater part
-fn mark_greater(marks: &mut TouchMarks, table: &PlaneTable, sound: &Sound, a: u32)
-    requires made { WasMadeFrom sound.now table.now }
-    requires a_in { Has table.now.of a }
-    ensures { MarksTouching sound.now table.now (IsToGreater a 32) marks.old marks.new }
-{
-    let set = table.set();
-    for b in 0..MOST_PARTS {
-        if a < b && set.has(b) {
-            mark_between(marks, table, sound, a, b);
+        for j in 0..table.pieces(b) {
+            mark_arc(marks, table, sound, Arc { a, i, b, j });
         }
     }
 }
@@ -83,8 +57,10 @@ pub(crate) fn touching(table: &PlaneTable, sound: &Sound) -> TouchMarks
     let set = table.set();
     let mut marks = [false; 4096];
     for a in 0..MOST_PARTS {
-        if set.has(a) {
-            mark_greater(&mut marks, table, sound, a);
+        for b in 0..MOST_PARTS {
+            if a < b && set.has(a) && set.has(b) {
+                mark_between(&mut marks, table, sound, a, b);
+            }
         }
     }
     marks

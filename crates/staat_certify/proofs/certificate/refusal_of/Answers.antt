@@ -1,16 +1,14 @@
-use Rattle.std.proofs.Common.{◌∙◌, All, ap, arith, length, map, subst, sym}
+use Rattle.std.proofs.Common.{arith, length, subst, sym}
 use Rattle.std.specs.Prelude.{IfOk}
-use Rattle.std.proofs.lemmas.Bool.{false≢true}
-use Rattle.std.proofs.lemmas.List.Elements.{All-nil}
-use Rattle.staat_model.specs.Certify.{IsBodyOf, IsDirection}
+use Rattle.staat_model.specs.Certify.{IsBodyOf}
 use Rattle.staat_model.specs.Outcomes.{stuck}
 use Rattle.staat_model.specs.Plans.{IsStuck}
 use Rattle.staat_model.proofs.SetBits.{has-below}
 use Rattle.staat_model.proofs.StuckSets.{stuck_exists}
 use Rattle.staat_planes.specs.Refusals.{IsPlanesRefusal, IsTableWithin}
-use Rattle.staat_certify.specs.Visits.{IsNamed}
+use Rattle.staat_certify.specs.Visits.{visited_directions}
 use Rattle.staat_certify.proofs.CertificateLemmas.{none_refused}
-use Rattle.staat_certify.proofs.Numbering.{no_keys}
+use Rattle.staat_certify.proofs.ListedLemmas.{few_visits, listed_end}
 use Rattle.staat_certify.proofs.SomeMember.{some_member}
 use Rattle.staat_certify.proofs.certificate.refusal_of.Goals as goal
 
@@ -23,24 +21,18 @@ tabulate-requires-clause-parts g c = λ p h. (has-below (length c.args.sound.now
 pub unreachable-requires : goal.unreachable-requires
 unreachable-requires g c = none_refused c.args.sound.now c.args.w 1024 c.in-Err-TooManyPlanes.field-0-0 c.requires.few (subst (IsPlanesRefusal c.args.sound.now c.args.w 1024) c.in-Err-TooManyPlanes.field-0-is c.in-Err-TooManyPlanes.ensures)
 
-pub refusal_at-requires : goal.refusal_at-requires
-refusal_at-requires g c =
+pub visit_all-requires : goal.visit_all-requires
+visit_all-requires g c =
     let within : IsTableWithin c.args.sound.now c.args.w 1024 c.in-Ok.table = c.in-Ok.ensures in
-    let none = c.none-found.ensures in
-    let found = c.none-found.result in
-    record {
-      made = within.table.made;
-      few = within.few;
-      stuck = subst (IsStuck c.args.sound.now) (sym within.table.set) c.requires.stuck;
-      found = record {
-        kept = record { trees = λ known. absurd (false≢true (sym none.kept ∙ known)) };
-        keys_are = no_keys (map (λ v. v.items) found.keys.keys) found.witnesses.items (ap (map (λ v. v.items)) none.keys) none.witnesses;
-        each = subst (All (λ visit. IsDirection c.args.version c.in-Ok.table.planes visit.d)) (sym none.visited) (All-nil (λ visit. IsDirection c.args.version c.in-Ok.table.planes visit.d));
-        named = subst (All (IsNamed c.args.sound.now c.in-Ok.table.of found.witnesses.items)) (sym none.visited) (All-nil (IsNamed c.args.sound.now c.in-Ok.table.of found.witnesses.items));
-      };
-    }
+    record { made = within.table.made; stuck = subst (IsStuck c.args.sound.now) (sym within.table.set) c.requires.stuck }
 
-pub returns-in-Ok : goal.returns-in-Ok
-returns-in-Ok g c =
+pub listing_of-requires-clause-few : goal.listing_of-requires-clause-few
+listing_of-requires-clause-few g c =
     let within : IsTableWithin c.args.sound.now c.args.w 1024 c.in-Ok.table = c.in-Ok.ensures in
-    subst (λ v. IfOk c.refusal_at.result (IsBodyOf c.args.sound.now c.args.version (stuck v))) within.table.set c.refusal_at.ensures
+    few_visits c.args.version c.in-Ok.table.planes c.in_ok-found-in-Ok.found.visited.items within.few c.in_ok-found-in-Ok.ensures.directions
+
+pub returns-in_ok-found-in-Ok : goal.returns-in_ok-found-in-Ok
+returns-in_ok-found-in-Ok g c =
+    let within : IsTableWithin c.args.sound.now c.args.w 1024 c.in-Ok.table = c.in-Ok.ensures in
+    subst (λ v. IfOk c.listing_of.result (IsBodyOf c.args.sound.now c.args.version (stuck v))) within.table.set
+    (listed_end c.args.sound.now c.args.version c.in-Ok.table.of c.in-Ok.table.planes (visited_directions c.in_ok-found-in-Ok.found.visited.items) c.listing_of.result within.table.made.planes c.in_ok-found-in-Ok.ensures.directions c.listing_of.ensures)

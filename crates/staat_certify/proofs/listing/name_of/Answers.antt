@@ -1,28 +1,20 @@
-use Rattle.std.proofs.Common.{◌≡◌, ◌≢◌, ◌⊎◌, ◌∙◌, ◌<◌, ◌∷◌, [], ◌++◌, inl, inr, ⊎_elim, ℕ, zero, suc, List, ap, arith, length, length-append, length-set, refl, set, subst, sym}
+use Rattle.std.proofs.Common.{◌≡◌, ◌≢◌, ◌∙◌, ◌<◌, ◌∷◌, [], ◌++◌, inr, ⊎_elim, ℕ, zero, suc, List, ap, arith, length, length-append, length-set, refl, set, subst, sym}
 use Rattle.std.specs.Prelude.{Option, Some, slice_get}
 use Rattle.std.proofs.lemmas.Option.{slice_get-get_or}
 use Rattle.staat_model.specs.declared.certificate.Witness.{Witness}
 use Rattle.staat_model.proofs.Places.{place_within}
-use Rattle.staat_certify.specs.WitnessListings.{AreNames, IsWitnessNumber}
+use Rattle.staat_certify.specs.WitnessListings.{AreNames, IsNumberOf}
 use Rattle.staat_certify.proofs.listing.name_of.Goals as goal
 use Rattle.staat_vec.proofs.ListLaws.{place_is, push_end, push_front, set_here}
-use Rattle.staat_vec.proofs.Naturals.{lt_one_more_cases}
+use Rattle.staat_vec.proofs.Naturals.{lt_one_more_cases, same_or}
 use Rattle.staat_vec.proofs.Options.{from_some}
 
--- one place of a list is written
-set_cases : {X : Type 0} (xs : List X) (k j : ℕ) (x y : X) → slice_get (set xs k x) j ≡ Some y → ((j ≡ k) × (x ≡ y)) ⊎ (slice_get xs j ≡ Some y)
-set_cases [] k j x y e = absurd cc
-set_cases (z ∷ xs) zero zero x y e = let same : x ≡ y = cc in inl (refl, same)
-set_cases (z ∷ xs) zero (suc j) x y e = inr e
-set_cases (z ∷ xs) (suc k) zero x y e = inr e
-set_cases (z ∷ xs) (suc k) (suc j) x y e = ⊎_elim (λ h. inl (ap suc h.0, h.1)) (λ h. inr h) (set_cases xs k j x y e)
-
-set_other : {X : Type 0} (xs : List X) (k j : ℕ) (x y : X) → slice_get xs j ≡ Some y → j ≢ k → slice_get (set xs k x) j ≡ Some y
-set_other [] k j x y e ne = absurd cc
-set_other (z ∷ xs) zero zero x y e ne = absurd (ne refl)
-set_other (z ∷ xs) zero (suc j) x y e ne = e
-set_other (z ∷ xs) (suc k) zero x y e ne = e
-set_other (z ∷ xs) (suc k) (suc j) x y e ne = set_other xs k j x y e (λ q. ne (ap suc q))
+set_there : {X : Type 0} (xs : List X) (k m : ℕ) (x : X) → m ≢ k → slice_get (set xs k x) m ≡ slice_get xs m
+set_there [] k m x ne = refl
+set_there (y ∷ xs) zero zero x ne = absurd (ne refl)
+set_there (y ∷ xs) zero (suc m) x ne = refl
+set_there (y ∷ xs) (suc k) zero x ne = refl
+set_there (y ∷ xs) (suc k) (suc m) x ne = set_there xs k m x (λ e. ne (ap suc e))
 
 -- the names with that of one witness more
 names_more : (found listed more : List Witness) (names : List (Option ℕ)) (p i : ℕ) (x : Witness)
@@ -31,15 +23,15 @@ names_more : (found listed more : List Witness) (names : List (Option ℕ)) (p i
 names_more found listed more names p i x before at none is last = record {
   size = length-set names p (Some i) ∙ before.size;
   each = λ q j named. ⊎_elim {C = (y : Witness) × (slice_get found q ≡ Some y) × (slice_get more j ≡ Some y)}
-      (λ h. (
-        x,
-        ap (slice_get found) h.0 ∙ at,
-        ap (slice_get more) (sym (from_some h.1) ∙ last) ∙ ap (λ ws. slice_get ws (length listed)) is ∙ push_end listed x,
-      ))
-      (λ h. let (y, there, listed_at) = before.each q j h in (y, there, ap (λ ws. slice_get ws j) is ∙ push_front listed x y j listed_at))
-      (set_cases names p q (Some i) (Some j) named);
+      (λ e.
+      let same = sym (set_here names p (Some i) within) ∙ ap (slice_get (set names p (Some i))) (sym e) ∙ named in
+      (x, ap (slice_get found) e ∙ at, ap (slice_get more) (sym (from_some (from_some same)) ∙ last) ∙ ap (λ ws. slice_get ws (length listed)) is ∙ push_end listed x))
+      (λ ne.
+      let (y, there, listed_at) = before.each q j (sym (set_there names p q (Some i) ne) ∙ named) in
+      (y, there, ap (λ ws. slice_get ws j) is ∙ push_front listed x y j listed_at))
+      (same_or q p);
   all = λ j lt. ⊎_elim {C = (q : ℕ) × (slice_get (set names p (Some i)) q ≡ Some (Some j))}
-      (λ less. let (q, named) = before.all j less in (q, set_other names p q (Some i) (Some j) named (λ e. none j (ap (slice_get names) (sym e) ∙ named))))
+      (λ less. let (q, named) = before.all j less in (q, set_there names p q (Some i) (λ e. none j (ap (slice_get names) (sym e) ∙ named)) ∙ named))
       (λ e. (p, set_here names p (Some i) within ∙ ap (λ n. Some (Some n)) (last ∙ sym e)))
       (lt_one_more_cases j (length listed) (let long = ap length is ∙ length-append listed (x ∷ []) in omega (arith, lt, long)));
 }
@@ -66,7 +58,7 @@ returns-clause-number c witness named =
     let r = c.index-found-p.result in
     let at : slice_get found c.args.p ≡ Some x = slice_get-get_or found c.args.p r c.requires.place ∙ ap Some (sym (c.in_ok-copy_of.ensures ∙ c.index-found-p.is)) in
     let last : c.len-number.result ≡ length listed = omega (arith, c.len-number.ensures) in
-    subst (λ y. IsWitnessNumber listed c.push.new.self.items y c.len-number.result) (from_some (sym at ∙ named)) (record {
+    subst (λ y. IsNumberOf listed c.push.new.self.items y c.len-number.result) (from_some (sym at ∙ named)) (record {
       which = inr (c.in_ok-push.ensures.items, last);
       at = ap (slice_get c.push.new.self.items) last ∙ ap (λ ws. slice_get ws (length listed)) c.in_ok-push.ensures.items ∙ push_end listed x;
     })

@@ -1,10 +1,10 @@
+use Rattle.staat_certify.proofs.nodes.plan_body.Goals as goal
 use Rattle.std.proofs.Common.{length, subst}
 use Rattle.staat_model.specs.declared.set.PartSet.{PartSet}
 use Rattle.staat_model.specs.Plans.{IsGood, plan_of}
 use Rattle.staat_model.specs.Sets.{below}
 use Rattle.staat_certify.proofs.NodeLemmas.{from_nothing}
-use Rattle.staat_certify.proofs.PlanForms.{part_numbers}
-use Rattle.staat_certify.proofs.nodes.plan_body.Goals as goal
+use Rattle.staat_certify.proofs.CertificateLemmas.{part_numbers}
 use Rattle.staat_model.proofs.LeavingLemmas.{good_parts}
 
 pub push_nodes-requires-clause-parts : goal.push_nodes-requires-clause-parts

@@ -4,14 +4,14 @@ use Rattle.std.proofs.Common.{All, sym, subst, List}
 use Rattle.staat_model.specs.declared.certificate.Arc.{Arc}
 use Rattle.staat_model.specs.Certify.{IsLeastArc}
 use Rattle.staat_certify.specs.Witnesses.{AreEndsAndLeast}
-use Rattle.staat_certify.proofs.TreeArcs.{ends_more}
+use Rattle.staat_certify.proofs.WitnessLemmas.{ends_more}
 use Rattle.staat_certify.proofs.witnesses.arcs_between.Goals as goal
 
 pub loop-ends-preserved : goal.loop-ends-preserved
 loop-ends-preserved c =
     let is = c.in_ok-push.ensures.items in record {
-      ends = ends_more c.args.pairs.now c.loop-ends.ends-index (0, 0) c.loop-ends.arcs.items c.push.new.self.items c.arc_between.result c.loop-ends-test.true c.loop-ends.invariant.ends c.arc_between.ensures.ends is;
-      least = subst (λ (arcs : List Arc). All (IsLeastArc c.args.at.now.sound.now c.args.at.now.d) arcs) (sym is) (All-push (IsLeastArc c.args.at.now.sound.now c.args.at.now.d) c.loop-ends.arcs.items c.arc_between.result c.loop-ends.invariant.least c.arc_between.ensures.least);
+      ends = ends_more c.args.pairs.now c.loop-ends.ends-index (0, 0) c.loop-ends.arcs.items c.push.new.self.items c.least_arc.result c.loop-ends-test.true c.loop-ends.invariant.ends c.least_arc.ensures.ends is;
+      least = subst (λ (arcs : List Arc). All (IsLeastArc c.args.at.now.sound.now c.args.at.now.d) arcs) (sym is) (All-push (IsLeastArc c.args.at.now.sound.now c.args.at.now.d) c.loop-ends.arcs.items c.least_arc.result c.loop-ends.invariant.least c.least_arc.ensures.least);
     }
 
 pub returns : goal.returns

@@ -1,6 +1,6 @@
 use Rattle.std.proofs.Common.{arith, subst}
 use Rattle.staat_certify.specs.Witnesses.{AreEndsAndLeast}
-use Rattle.staat_certify.proofs.TreeArcs.{few_arcs, ins_ahead, outs_ahead, witness_along}
+use Rattle.staat_certify.proofs.WitnessLemmas.{few_arcs, ins_ahead, outs_ahead, witness_along}
 use Rattle.staat_certify.proofs.witnesses.is_witness.Goals as goal
 
 pub shared_ref_as_front-are_between : goal.shared_ref_as_front-are_between

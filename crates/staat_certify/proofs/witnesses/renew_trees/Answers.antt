@@ -1,13 +1,15 @@
+use Rattle.staat_certify.proofs.witnesses.renew_trees.Goals as goal
 use Rattle.std.proofs.Common.{List, ℕ, subst, sym}
 use Rattle.staat_model.specs.declared.set.PartSet.{PartSet}
 use Rattle.staat_model.specs.Sets.{IsLeastOf}
 use Rattle.staat_graph.specs.Blocking.{ShowsBlocking}
-use Rattle.staat_certify.proofs.NumberLemmas.{pointwise_same}
-use Rattle.staat_certify.proofs.witnesses.renew_trees.Goals as goal
+use Rattle.staat_graph.specs.Graphs.{AreTrees, HasArc, IsStrong}
+use Rattle.staat_certify.proofs.WitnessLemmas.{stuck_is_strong}
+use Rattle.std.proofs.lemmas.Slice.Eq.{bytes_eq-Decides}
 
 pub returns-then-eq-clause-along : goal.returns-then-eq-clause-along
 returns-then-eq-clause-along c =
-    let same = pointwise_same c.args.kept.now.graph.rows c.graph-graph.result.rows (sym c.if-eq.ensures) in
+    let same = (bytes_eq-Decides c.args.kept.now.graph.rows c.graph-graph.result.rows).0 (sym c.if-eq.ensures) in
     record {
       root = c.least-root.result;
       root_is = subst (λ (s : PartSet). IsLeastOf s c.least-root.result) c.set-w.ensures.is c.least-root.ensures.least;
@@ -15,3 +17,21 @@ returns-then-eq-clause-along c =
       shows = subst (λ (rows : List ℕ). ShowsBlocking c.args.at.now.sound.now c.args.at.now.d c.args.at.now.table.now.of rows) (sym same) c.graph-graph.ensures;
       trees_are = c.requires.kept.trees c.if-kept.true;
     }
+
+pub unreachable-requires : goal.unreachable-requires
+unreachable-requires c =
+    let rows = c.graph-graph.result.rows in
+    stuck_is_strong c.args.at.now.sound.now c.args.at.now.table.now.of c.args.at.now.d rows c.requires.some c.graph-graph.ensures c.requires.stuck
+    (λ strong. c.in-None.ensures.none (subst (λ (s : PartSet). IsStrong (HasArc rows) s) (sym c.set-w.ensures.is) strong))
+
+pub returns-clause-kept : goal.returns-clause-kept
+returns-clause-kept c = record { trees = λ known. subst (λ (s : PartSet). AreTrees (HasArc c.graph-graph.result.rows) s c.in-Some.trees) c.set-w.ensures.is c.in-Some.ensures.trees }
+
+pub returns-clause-along : goal.returns-clause-along
+returns-clause-along c = record {
+  root = c.least-root.result;
+  root_is = subst (λ (s : PartSet). IsLeastOf s c.least-root.result) c.set-w.ensures.is c.least-root.ensures.least;
+  rows = c.graph-graph.result.rows;
+  shows = c.graph-graph.ensures;
+  trees_are = subst (λ (s : PartSet). AreTrees (HasArc c.graph-graph.result.rows) s c.in-Some.trees) c.set-w.ensures.is c.in-Some.ensures.trees;
+}

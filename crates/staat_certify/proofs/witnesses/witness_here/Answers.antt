@@ -1,7 +1,7 @@
 use Rattle.std.proofs.Common.{List, arith, subst, sym}
 use Rattle.staat_model.specs.declared.certificate.Arc.{Arc}
 use Rattle.staat_model.specs.Certify.{IsWitnessAt}
-use Rattle.staat_certify.proofs.TreeArcs.{few_arcs, ins_ahead, outs_ahead, witness_along}
+use Rattle.staat_certify.proofs.WitnessLemmas.{few_arcs, ins_ahead, outs_ahead, witness_along}
 use Rattle.staat_certify.proofs.witnesses.witness_here.Goals as goal
 
 pub returns : goal.returns

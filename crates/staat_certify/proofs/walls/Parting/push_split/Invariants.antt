@@ -1,7 +1,14 @@
-use Rattle.std.proofs.Common.{◌<◌}
-use Rattle.staat_model.specs.Certificates.{IsAcross}
-use Rattle.staat_certify.specs.Walls.{AddsWalls}
+use Rattle.staat_certify.specs.Walls.{AreWallsBefore}
 use Rattle.staat_certify.proofs.walls.Parting.push_split.Given as goal
 
 abbrev pub invariant-loop-a : goal.invariant-loop-a
-invariant-loop-a g l = AddsWalls l.self.assembly.now l.self.d (λ x. IsAcross l.self.assembly.now l.self.side l.self.rest x × (x.a < l.a)) l.initial.seps.items l.seps.items
+invariant-loop-a g l = AreWallsBefore l.self.assembly.now l.self.side l.self.rest l.self.d l.a 0 0 0 l.seps.items
+
+abbrev pub invariant-loop-i : goal.invariant-loop-i
+invariant-loop-i g l = AreWallsBefore l.self.assembly.now l.self.side l.self.rest l.self.d l.a l.i 0 0 l.seps.items
+
+abbrev pub invariant-loop-b : goal.invariant-loop-b
+invariant-loop-b g l = AreWallsBefore l.self.assembly.now l.self.side l.self.rest l.self.d l.a l.i l.b 0 l.seps.items
+
+abbrev pub invariant-loop-j : goal.invariant-loop-j
+invariant-loop-j g l = AreWallsBefore l.self.assembly.now l.self.side l.self.rest l.self.d l.a l.i l.b l.j l.seps.items

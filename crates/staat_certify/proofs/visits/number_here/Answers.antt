@@ -1,6 +1,6 @@
 use Rattle.std.proofs.Common.{map}
 use Rattle.staat_certify.proofs.VisitLemmas.{number_is_here}
-use Rattle.staat_certify.proofs.visits.number_anew.Goals as goal
+use Rattle.staat_certify.proofs.visits.number_here.Goals as goal
 
 pub returns-clause-number : goal.returns-clause-number
 returns-clause-number c =
