@@ -12,10 +12,7 @@ pub mod WithoutLemmas
 pub mod CircleWithout
 pub mod RingWithout
 pub mod RingsWithout
-pub mod NextOnHalfCircle
 pub mod CircleFromHalf
-pub mod Deciding
-pub mod CircleFromPlaces
 pub mod Divided
 pub mod HalfTurn
 pub mod CircleFromEntries
