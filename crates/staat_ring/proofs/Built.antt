@@ -28,7 +28,8 @@ use Rattle.staat_ring.specs.Stands.{AllPresent, IsPresent, IsRing, StandFor, Tag
 use Rattle.staat_ring.specs.Within.{InRange}
 use Rattle.staat_ring.specs.Views.{lists_of}
 use Rattle.staat_ring.proofs.Covered.{entry_there}
-use Rattle.staat_ring.proofs.Linkable.{can_be_linked, other_plane}
+use Rattle.staat_ring.proofs.CircleStops.{entry_other}
+use Rattle.staat_ring.proofs.Linkable.{can_be_linked}
 use Rattle.staat_ring.proofs.Mapped.{few_below}
 use Rattle.staat_ring.proofs.Numbering.{entry_back, head_circle, head_small}
 use Rattle.staat_ring.proofs.RingLemmas.{below_small}
@@ -282,7 +283,7 @@ module _ (planes : List V3) (table : AreTablePlanes planes) (few : length planes
         let o = node_of c lc v cv in
         let (x, cx, q) = Contains-from_map (entry_number n c) (slot c lc o.place) e (subst (λ xs. Contains xs e) (entries_at c lc v o) ce) in
         let lx = rules.small n c lc (stops c lc) (can c lc) o.place o.within x cx in
-        let ne = other_plane planes table (numbers_below n) c (stops c lc) (has c lc).ring (slot c lc o.place) x (rules.slot_in n c lc (stops c lc) (can c lc) o.place o.within) cx in
+        let ne = entry_other planes (numbers_below n) table (ring_by c (stops c lc)) (has c lc).ring (record { node = 0; entries = slot c lc o.place }) (Contains-map (λ es. record { node = 0; entries = es }) (stops c lc) (slot c lc o.place) (rules.slot_in n c lc (stops c lc) (can c lc) o.place o.within)) x cx in
         let w = in_entries n x.plane n c (entry_number n c x) lc (on_circle n c x (λ z. ne (sym z))) in
         let p : plane_of n e ≡ x.plane = ap (plane_of n) (sym q) ∙ ap (λ (y : Entry). y.plane) (entry_back n c x lx) in
         subst (λ i. Contains (entries_of n i n) e) (sym p) (subst (Contains (entries_of n x.plane n)) q w);

@@ -1,7 +1,6 @@
 -- Entries in order, divided where their crossings differ, and their opposites are the circle.
-use Rattle.std.proofs.Common.{◌≡◌, ◌≢◌, ◌⊎◌, ◌↔◌, inl, inr, ⊎_elim, ℕ, zero, suc, ◌+◌, ◌-◌, ◌<◌, ◌≤◌, Bool, true, false, not, arith, ap, sym, subst, ◌∙◌, refl, List, [], ◌∷◌, ◌++◌, length, get_or, All, Contains, pos, neg_ℤ, ◌<ℤ◌}
+use Rattle.std.proofs.Common.{◌≡◌, ◌≢◌, ◌⊎◌, ◌↔◌, inl, inr, ⊎_elim, ℕ, zero, suc, ◌+◌, ◌-◌, ◌<◌, ◌≤◌, Bool, true, false, not, arith, ap, sym, subst, ◌∙◌, refl, List, [], ◌∷◌, ◌++◌, length, get_or, All, Contains, pos, ◌<ℤ◌}
 use Rattle.std.specs.Prelude.{Some, map, slice_get}
-use Rattle.std.specs.List.{between}
 use Rattle.std.specs.List.Sorted.{IsStrictlySortedBy}
 use Rattle.std.specs.Ordering.{nat_cmp}
 use Rattle.std.specs.declared.cmp.Ordering.TheVariants.{Less}
@@ -30,9 +29,9 @@ use Rattle.staat_planes.specs.PairOrder.{plane_at}
 use Rattle.staat_planes.proofs.UsedPlanes.{places_rise}
 use Rattle.staat_ring.specs.declared.entry.Entry.{Entry}
 use Rattle.staat_ring.specs.Builds.{AreStopsFrom, AreUpper, IsUpperEntry, all_around, opposite, ray, ring_by, slot_at, stops_from}
-use Rattle.staat_ring.specs.Order.{AreStopEnds, IsBreak, IsOrderOf, entry_at, facet_of, no_entry, order_det}
+use Rattle.staat_ring.specs.Order.{AreStopEnds, IsBreak, IsOrderOf, entry_at, no_entry, order_det}
 use Rattle.staat_ring.specs.Rings.{IsRingOf, RingStop, crossing, facet_by, stop_of, vertex_of}
-use Rattle.staat_ring.proofs.CircleFromHalf.{IsHalf, IsOfHalf, circle_from_half, whole_circle}
+use Rattle.staat_ring.proofs.CircleFromHalf.{IsHalf, circle_from_half, whole_circle}
 use Rattle.staat_ring.proofs.Divided.{length-stops, stop_at}
 use Rattle.staat_ring.proofs.HalfTurn.{IsOnHalf, Precedes, ahead_trans, axis_apart, axis_differs, axis_first, det_own, first_axis, flat_facet, not_before, on_half, one_vertex, precedes, ray_negative, some_normal, some_off, transitive, unit, vertex}
 use Rattle.staat_ring.proofs.Steps.{negative_on, not_both, primitive_on}

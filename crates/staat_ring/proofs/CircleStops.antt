@@ -1,11 +1,11 @@
 -- Stops of the circle of a plane among linked planes of a table.
-use Rattle.std.proofs.Common.{◌≡◌, ◌≢◌, ⊎_elim, ℕ, ◌+◌, ◌-◌, ◌<◌, ◌≤◌, arith, ap, sym, ◌∙◌, List, [], ◌∷◌, length, All, Contains, pos}
-use Rattle.std.specs.Prelude.{Some, map, slice_get}
+use Rattle.std.proofs.Common.{◌≡◌, ◌≢◌, ⊎_elim, ℕ, ◌<◌, ◌≤◌, arith, ap, sym, ◌∙◌, List, length, All, Contains, pos}
+use Rattle.std.specs.Prelude.{map}
 use Rattle.std.specs.Ordering.{nat_cmp}
 use Rattle.std.specs.List.Sorted.{IsStrictlySortedBy}
-use Rattle.std.specs.declared.cmp.Ordering.TheVariants.{Less}
 use Rattle.std.proofs.lemmas.List.{length-map}
-use Rattle.std.proofs.lemmas.List.Elements.{All-contains, All-from_recursion}
+use Rattle.std.proofs.lemmas.List.Elements.{All-contains}
+use Rattle.std.proofs.lemmas.Map.Views.{length-le_from_below}
 use Rattle.std.proofs.lemmas.Option.{slice_get_within}
 use Rattle.staat_vec.specs.declared.vector.V3.{V3}
 use Rattle.staat_vec.specs.Lists.{Lists}
@@ -13,7 +13,7 @@ use Rattle.staat_vec.specs.Primitives.{primitive}
 use Rattle.staat_vec.specs.Vectors.{cross, dot, negative, origin}
 use Rattle.staat_vec.proofs.Canons.{negative-negative}
 use Rattle.staat_vec.proofs.Primitives.{IsPrimitive-some, primitive-is}
-use Rattle.staat_vec.proofs.Unique.{Contains-front, Contains-later, from_place}
+use Rattle.staat_vec.proofs.Unique.{from_place}
 use Rattle.staat_model.specs.Circles.{IsOnCircle, PassesThrough, Stop}
 use Rattle.staat_model.specs.Planes.{vertices}
 use Rattle.staat_model.proofs.Members.{All-from_members}
@@ -21,20 +21,10 @@ use Rattle.staat_model.proofs.VertexLemmas.{in_vertices}
 use Rattle.staat_pairs.specs.Tables.{AreTablePlanes}
 use Rattle.staat_ring.specs.declared.entry.Entry.{Entry}
 use Rattle.staat_ring.specs.Rings.{IsRingOf, Ring, RingStop, stop_of, vertex_of}
-use Rattle.staat_ring.proofs.Stops.{AreLinkedApart, none_parallel, stop_there}
+use Rattle.staat_ring.proofs.Stops.{AreLinkedApart, none_parallel}
 use Rattle.staat_ring.proofs.Steps.{primitive_on, negative_on}
-use Rattle.staat_vec.proofs.Comparisons.{less_number}
 use Rattle.staat_vec.proofs.ListLaws.{Contains-map, Contains-from_map}
 use Rattle.staat_vec.proofs.VecRing.{dot_cross_right}
-
--- ascending numbers from lo to below n are few
-ascending_few : (n lo : ℕ) (xs : List ℕ) → IsStrictlySortedBy nat_cmp xs → ((x : ℕ) → Contains xs x → (lo ≤ x) × (x < n)) → length xs ≤ n - lo
-unfolding IsStrictlySortedBy
-ascending_few n lo [] s h = omega arith
-ascending_few n lo (x ∷ xs) s h =
-    let here = h x (Contains-front x xs) in
-    let rest = ascending_few n (x + 1) xs s.1 (λ y c. (let lt = less_number x y (All-contains (λ z. nat_cmp x z ≡ Less) xs y (All-from_recursion (λ z. nat_cmp x z ≡ Less) xs s.0) c) in omega (arith, lt), (h y (Contains-later x xs y c)).1)) in
-    omega (arith, here, rest)
 
 module _ (planes : List V3) (linked : List ℕ) (table : AreTablePlanes planes) (r : Ring) (is : IsRingOf planes linked r) where
   abbrev c : ℕ
@@ -52,9 +42,9 @@ module _ (planes : List V3) (linked : List ℕ) (table : AreTablePlanes planes) 
   pub circle_small : c < length planes
   circle_small = slice_get_within planes c g is.circle.g_is.is
 
-  module _ (m : ℕ) (s : RingStop) (at : slice_get r.stops m ≡ Some s) where
+  module _ (s : RingStop) (listed : Contains r.stops s) where
     here : Contains stops (stop_of planes c s)
-    here = from_place stops m (stop_of planes c s) (stop_there planes r m s at)
+    here = Contains-map (stop_of planes c) r.stops s listed
 
     abbrev v : V3
     v = vertex_of planes c s.entries
@@ -83,7 +73,7 @@ module _ (planes : List V3) (linked : List ℕ) (table : AreTablePlanes planes) 
 
     pub few : (length s.entries ≤ length planes) × All (λ e. e.plane < length planes) s.entries
     few = (
-      (let l = ascending_few (length planes) 0 (map (λ e. e.plane) s.entries) pass.ascending (λ x c. (omega arith, small x c)) in
+      (let l = length-le_from_below (length planes) (map (λ e. e.plane) s.entries) pass.ascending (All-from_members (λ k. k < length planes) (map (λ e. e.plane) s.entries) small) in
           let e = length-map s.entries (λ e. e.plane) in omega (arith, l, e)),
       All-from_members (λ e. e.plane < length planes) s.entries entry_small,
     )

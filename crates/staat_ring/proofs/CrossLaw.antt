@@ -1,21 +1,23 @@
 -- From one stop to the next, the signs of the planes through the two are all that changes.
-use Rattle.std.proofs.Common.{◌≡◌, ◌≢◌, ⊎_elim, ℕ, zero, suc, ◌+◌, ◌%◌, ◌<◌, Bool, true, false, arith, ap, sym, subst, ◌∙◌, refl, List, length, All, Contains, ℤ, pos, negsuc, ◌<ℤ◌}
+use Rattle.std.proofs.Common.{◌≡◌, ◌≢◌, ⊎_elim, ℕ, ◌+◌, ◌%◌, ◌<◌, Bool, true, false, ap, sym, subst, ◌∙◌, refl, List, length, Contains, pos, ◌<ℤ◌}
 use Rattle.std.specs.Prelude.{Some, map, slice_get}
-use Rattle.std.proofs.lemmas.Int.{ints}
 use Rattle.std.proofs.lemmas.List.{length-map}
-use Rattle.std.proofs.lemmas.List.Elements.{All-contains}
 use Rattle.std.proofs.lemmas.Option.{get_or_from_slice_get, same_Some, slice_get_within}
 use Rattle.staat_vec.specs.declared.vector.V3.{V3}
-use Rattle.staat_vec.specs.declared.vector.Sign.TheVariants.{Neg, Zero, Pos}
+use Rattle.staat_vec.specs.declared.vector.Sign.TheVariants.{Zero}
 use Rattle.staat_vec.specs.Primitives.{primitive}
 use Rattle.staat_vec.specs.Vectors.{cross, dot, origin, sign}
-use Rattle.staat_model.specs.Circles.{IsCircle, IsLinked, IsNext, IsOnCircle, Stop}
+use Rattle.staat_model.specs.Circles.{IsLinked, IsNext, Stop}
+use Rattle.staat_pairs.specs.Tables.{AreTablePlanes}
 use Rattle.staat_ring.specs.declared.entry.Entry.{Entry}
 use Rattle.staat_ring.specs.StopSigns.{stop_sign, with_stop_signs}
-use Rattle.staat_ring.specs.Rings.{IsRingOf, Ring, RingStop, crossing, stop_of, vertex_of}
+use Rattle.staat_ring.specs.Rings.{IsRingOf, Ring, RingStop, stop_of, vertex_of}
 use Rattle.staat_ring.specs.CountedSigns.{Signed, state_at}
 use Rattle.staat_ring.proofs.StepSigns.{StepSigns}
-use Rattle.staat_ring.proofs.Stops.{AreLinkedApart, stop_there}
+use Rattle.staat_ring.proofs.CircleStops.{entry_other}
+use Rattle.staat_ring.proofs.Covered.{entry_vertex}
+use Rattle.staat_ring.proofs.HalfTurn.{some_normal}
+use Rattle.staat_ring.proofs.Stops.{AreLinkedApart, none_parallel, stop_there}
 use Rattle.staat_ring.proofs.Turns.{turn}
 use Rattle.staat_ring.specs.Belonging.{HoldSigns}
 use Rattle.staat_ring.specs.Rings.{facet_by}
@@ -24,21 +26,15 @@ use Rattle.staat_ring.proofs.Leaving.{leaves_negative, leaves_positive}
 use Rattle.staat_ring.proofs.StopSigns.{stop_signs_other, stop_signs_same, stop_signs_there}
 use Rattle.staat_ring.proofs.StepLaw.{step_signs}
 use Rattle.staat_ring.proofs.Steps.{on_plane}
-use Rattle.staat_vec.proofs.VectorLaws.{cross_origin, some_square}
+use Rattle.staat_vec.proofs.Signs.{negative_sign, positive_sign}
 use Rattle.staat_vec.proofs.ListLaws.{contains_or, Contains-map, Contains-from_map}
 use Rattle.staat_vec.proofs.Naturals.{same_or}
 use Rattle.staat_vec.proofs.Unique.{from_place}
 
-neg_sign : (z : ℤ) → z <ℤ pos 0 → Neg ≡ sign z
-neg_sign (pos n) h = absurd (omega (arith, ints))
-neg_sign (negsuc n) h = refl
+module _ (planes : List V3) (linked : List ℕ) (table : AreTablePlanes planes) (r : Ring) (is : IsRingOf planes linked r) where
+  abbrev apart : AreLinkedApart planes linked
+  apart = none_parallel planes linked table
 
-pos_sign : (z : ℤ) → pos 0 <ℤ z → Pos ≡ sign z
-pos_sign (pos zero) h = absurd (omega (arith, ints))
-pos_sign (pos (suc n)) h = refl
-pos_sign (negsuc n) h = absurd (omega (arith, ints))
-
-module _ (planes : List V3) (linked : List ℕ) (r : Ring) (apart : AreLinkedApart planes linked) (is : IsRingOf planes linked r) where
   abbrev c : ℕ
   c = r.plane
 
@@ -51,7 +47,7 @@ module _ (planes : List V3) (linked : List ℕ) (r : Ring) (apart : AreLinkedApa
   pub on_it : (k : ℕ) (s : RingStop) → slice_get r.stops k ≡ Some s → dot g (vertex_of planes c s.entries) ≡ pos 0
   on_it k s e =
       let v : V3 = vertex_of planes c s.entries in
-      on_plane planes linked c g v apart is.circle.g_is (is.circle.vertices.each v (Contains-map (λ s. s.vertex) stops (stop_of planes c s) (from_place stops k (stop_of planes c s) (stop_there planes r k s e))))
+      on_plane planes linked c g v apart is.circle.g_is (is.circle.vertices.each v (Contains-map (λ s. s.vertex) stops (stop_of planes c s) (Contains-map (stop_of planes c) r.stops s (from_place r.stops k s e))))
 
   -- where an entry leads from its stop
   leads : (s t : RingStop) (k m : ℕ) → slice_get r.stops k ≡ Some s → slice_get r.stops m ≡ Some t → IsNext g stops (vertex_of planes c s.entries) (vertex_of planes c t.entries)
@@ -64,27 +60,18 @@ module _ (planes : List V3) (linked : List ℕ) (r : Ring) (apart : AreLinkedApa
       some : cross g h ≢ origin
       some = apart.apart c e.plane g h is.circle.g_is hi (λ q. ne (sym q))
 
-      some_g : g ≢ origin
-      some_g q = some (ap (λ x. cross x h) q ∙ cross_origin h)
-
       normal_is : plane_at planes c ≡ g
       normal_is = get_or_from_slice_get planes c g origin is.circle.g_is.is
 
       other_is : plane_at planes e.plane ≡ h
       other_is = get_or_from_slice_get planes e.plane h origin hi.is
 
-      agree : crossing planes c e ≡ vertex_of planes c s.entries
-      agree = All-contains (λ e. crossing planes c e ≡ vertex_of planes c s.entries) s.entries e (All-contains (λ s. All (λ e. crossing planes c e ≡ vertex_of planes c s.entries) s.entries) r.stops s is.agree (from_place r.stops k s ks)) ce
-
-      at : (b : Bool) → e.turned ≡ b → vertex_of planes c s.entries ≡ facet_by b (primitive (cross g h))
-      at b q = sym agree ∙ ((λ i. facet_by (q i) (primitive (cross (normal_is i) (other_is i)))))
-
-      ahead : (b : Bool) → e.turned ≡ b → pos 0 <ℤ turn g (facet_by b (primitive (cross g h))) w
-      ahead b q = subst (λ v. pos 0 <ℤ turn g v w) (at b q) n.after
+      at : (b : Bool) → e.turned ≡ b → pos 0 <ℤ turn g (facet_by b (primitive (cross g h))) w
+      at b q = subst (λ v. pos 0 <ℤ turn g v w) (sym (entry_vertex planes linked r apart is s e (from_place r.stops k s ks) ce) ∙ (λ i. facet_by (q i) (primitive (cross (normal_is i) (other_is i))))) n.after
 
       by : (b : Bool) → e.turned ≡ b → stop_sign true e.turned ≡ sign (dot h w)
-      by false q = ap (stop_sign true) q ∙ neg_sign (dot h w) (leaves_negative g h w (some_square g some_g) (on_it m t kt) some (ahead false q))
-      by true q = ap (stop_sign true) q ∙ pos_sign (dot h w) (leaves_positive g h w (some_square g some_g) (on_it m t kt) some (ahead true q))
+      by false q = ap (stop_sign true) q ∙ sym (negative_sign (dot h w) (leaves_negative g h w (some_normal g h some) (on_it m t kt) some (at false q)))
+      by true q = ap (stop_sign true) q ∙ sym (positive_sign (dot h w) (leaves_positive g h w (some_normal g h some) (on_it m t kt) some (at true q)))
 
   module _ (s t : RingStop) (k : ℕ) (ks : slice_get r.stops k ≡ Some s) (kt : slice_get r.stops ((k + 1) % length r.stops) ≡ Some t) where
     abbrev S : Stop
@@ -104,11 +91,6 @@ module _ (planes : List V3) (linked : List ℕ) (r : Ring) (apart : AreLinkedApa
         let cs = from_place stops k S (stop_there planes r k s ks) in
         let ct = from_place stops ((k + 1) % length stops) T next_at in
         step_signs planes linked c stops S T g apart is.circle is.circle.g_is refl cs ct (Contains-map (λ s. s.vertex) stops S cs) (Contains-map (λ s. s.vertex) stops T ct) next
-
-    other_planes : (q : RingStop) (m : ℕ) → slice_get r.stops m ≡ Some q → (e : Entry) → Contains q.entries e → e.plane ≢ c
-    other_planes q m at e ce =
-        let pass = All-contains (λ s. Rattle.staat_vec.specs.Lists.Lists Rattle.std.specs.Ordering.nat_cmp (Rattle.staat_model.specs.Circles.PassesThrough planes linked c s.vertex) s.through) stops (stop_of planes c q) is.circle.through (from_place stops m (stop_of planes c q) (stop_there planes r m q at)) in
-        (pass.each e.plane (Contains-map (λ e. e.plane) q.entries e ce)).different
 
     -- the planes through the stop left and then those through the stop reached get the signs there
     pub cross_signs : (now : Signed) → length now.states ≡ length planes → HoldSigns planes linked now S.vertex → HoldSigns planes linked (with_stop_signs false t.entries (with_stop_signs true s.entries now)) T.vertex
@@ -138,7 +120,7 @@ module _ (planes : List V3) (linked : List ℕ) (r : Ring) (apart : AreLinkedApa
         left none cj =
             let m = Contains-from_map (λ e. e.plane) s.entries j cj in
             not_reached none ∙ stop_signs_there true s.entries now j (sign (dot h T.vertex)) lt
-            (λ e ce q. leads s t k ((k + 1) % length r.stops) ks kt next h e ce (subst (λ i. IsLinked planes linked i h) (sym q) hi) (other_planes s k ks e ce)) m.0 m.1 m.2
+            (λ e ce q. leads s t k ((k + 1) % length r.stops) ks kt next h e ce (subst (λ i. IsLinked planes linked i h) (sym q) hi) (entry_other planes linked table r is s (from_place r.stops k s ks) e ce)) m.0 m.1 m.2
 
         neither : (Contains T.through j → ⊥) → (Contains S.through j → ⊥) → (state_at after.states j).sign ≡ sign (dot h T.vertex)
         neither nt ns =

@@ -1,5 +1,5 @@
 -- The half turn from the first vertex of a circle, and the order of the entries on it.
-use Rattle.std.proofs.Common.{◌≡◌, ◌≢◌, ◌⊎◌, ◌↔◌, inl, inr, ⊎_elim, ℕ, zero, suc, ◌+◌, ◌<◌, Bool, true, false, not, arith, ap, sym, subst, ◌∙◌, refl, List, [], ◌∷◌, ◌++◌, get_or, length, All, Contains, ℤ, pos, neg_ℤ, ◌-ℤ◌, ◌<ℤ◌}
+use Rattle.std.proofs.Common.{◌≡◌, ◌≢◌, ◌⊎◌, ◌↔◌, inl, inr, ⊎_elim, ℕ, zero, suc, ◌+◌, ◌<◌, Bool, true, false, not, arith, ap, sym, subst, ◌∙◌, refl, List, [], ◌∷◌, ◌++◌, get_or, length, All, Contains, ℤ, pos, neg_ℤ, ◌<ℤ◌}
 use Rattle.std.specs.Prelude.{IsPermutation, Some, map, slice_get}
 use Rattle.std.proofs.lemmas.Int.{ints}
 use Rattle.std.proofs.lemmas.List.Elements.{Contains-append_left, Contains-push, Contains-push_cases}
@@ -9,7 +9,7 @@ use Rattle.staat_vec.specs.declared.vector.V3.{V3}
 use Rattle.staat_vec.specs.Primitives.{primitive}
 use Rattle.staat_vec.specs.Vectors.{cross, det, dot, negative, origin, sign}
 use Rattle.staat_vec.proofs.Canons.{negative-negative}
-use Rattle.staat_vec.proofs.Integers.{opposite_positive_back, zero_from_opposite, zero_not_positive}
+use Rattle.staat_vec.proofs.Integers.{zero_from_opposite, zero_not_positive}
 use Rattle.staat_vec.proofs.ListLaws.{Contains-map}
 use Rattle.staat_vec.proofs.Naturals.{lt_one_more_cases}
 use Rattle.staat_vec.proofs.Primitives.{primitive-is, primitive-negative}

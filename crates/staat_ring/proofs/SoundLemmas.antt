@@ -1,9 +1,10 @@
 -- The invariant of the rings is kept.
-use Rattle.std.proofs.Common.{◌≡◌, ◌≢◌, ℕ, zero, suc, ◌+◌, ◌*◌, ◌/◌, ◌%◌, ◌<◌, ◌≤◌, refl, sym, ap, subst, ◌∙◌, arith, List, [], ◌∷◌, ◌++◌, length, Bool, true, false, not, ◌||◌, cond, if◌then◌else◌, Contains, inl, inr, eq-eqb, get_or}
+use Rattle.std.proofs.Common.{◌≡◌, ◌≢◌, ℕ, zero, suc, ◌+◌, ◌*◌, ◌/◌, ◌%◌, ◌<◌, ◌≤◌, refl, sym, ap, subst, ◌∙◌, arith, List, [], ◌∷◌, ◌++◌, length, Bool, true, false, not, ◌||◌, if◌then◌else◌, Contains, inl, inr, eq-eqb, get_or}
 use Rattle.std.specs.List.{filter}
 use Rattle.std.specs.Prelude.{◌==◌}
 use Rattle.std.proofs.Math.Nat.{mul-add-mod_self_left, mod-eq_of_lt}
 use Rattle.std.proofs.Math.ListN.{length-set}
+use Rattle.std.proofs.lemmas.List.Sums.{count_by-le-length, length-filter}
 use Rattle.std.proofs.lemmas.List.Elements.{Contains-append_cases}
 use Rattle.staat_ring.proofs.WithoutLemmas.{filter_from}
 use Rattle.staat_ring.specs.Links.{Arrays, Apart, Distinct, unlink, is_bare, take, take_all}
@@ -110,12 +111,7 @@ lengths_kept (e ∷ es) a =
     (r.0 ∙ length_if (is_bare (unlink e a.vertices) (home_of a e)) a.circles (home_of a e), r.1 ∙ length-set a.vertices.next (get_or a.vertices.prev e 0) (get_or a.vertices.next e 0))
 
 filter_length : (test : ℕ → Bool) (xs : List ℕ) → length (filter test xs) ≤ length xs
-filter_length test [] = omega arith
-filter_length test (x ∷ xs) = go (test x) (filter_length test xs)
-  where
-    go : (b : Bool) → length (filter test xs) ≤ length xs → length (cond b (x ∷ filter test xs) (filter test xs)) ≤ suc (length xs)
-    go true h = omega arith
-    go false h = omega arith
+filter_length test xs = rw length-filter (count_by-le-length test xs)
 
 listed_apart : (out : List ℕ) (p q : ℕ) → is_out (out ++ p ∷ []) q ≡ false → (is_out out q ≡ false) × (q ≢ p)
 listed_apart [] p q h = (refl, λ e. last (p == q) (eq-eqb p q (sym e)) h)

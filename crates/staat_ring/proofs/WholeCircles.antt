@@ -2,6 +2,7 @@
 use Rattle.std.proofs.Common.{◌≡◌, ◌≢◌, ℕ, ◌+◌, ◌-◌, ◌%◌, ◌<◌, arith, ap, sym, subst, ◌∙◌, List, length, All, Contains, Bool, false, true}
 use Rattle.std.specs.Prelude.{Some, slice_get}
 use Rattle.std.proofs.Math.Nat.{mod-eq_of_lt}
+use Rattle.std.proofs.lemmas.List.Elements.{Contains-get_or}
 use Rattle.std.proofs.lemmas.Option.{get_or_from_slice_get, slice_get-get_or, slice_get_within}
 use Rattle.staat_vec.specs.declared.vector.V3.{V3}
 use Rattle.staat_pairs.specs.Tables.{AreTablePlanes}
@@ -44,23 +45,26 @@ module _ (planes : List V3) (table : AreTablePlanes planes) (r : Ring) (is : IsW
     pub there : slice_get r.stops k ≡ Some (stop_at r k)
     there = slice_get-get_or r.stops k no_stop lt
 
+    listed : Contains r.stops (stop_at r k)
+    listed = Contains-get_or r.stops k no_stop lt
+
     pub entries_small : All (λ e. e.plane < length planes) (stop_at r k).entries
-    entries_small = (circle.few planes (all planes) table r ring k (stop_at r k) there).1
+    entries_small = (circle.few planes (all planes) table r ring (stop_at r k) listed).1
 
     pub entry_small : (e : Entry) → Contains (stop_at r k).entries e → e.plane < length planes
-    entry_small = circle.entry_small planes (all planes) table r ring k (stop_at r k) there
+    entry_small = circle.entry_small planes (all planes) table r ring (stop_at r k) listed
 
     pub entry_other : (e : Entry) → Contains (stop_at r k).entries e → e.plane ≢ r.plane
-    entry_other = circle.entry_other planes (all planes) table r ring k (stop_at r k) there
+    entry_other = circle.entry_other planes (all planes) table r ring (stop_at r k) listed
 
     pub some : 0 < length (stop_at r k).entries
-    some = circle.some planes (all planes) table r ring k (stop_at r k) there
+    some = circle.some planes (all planes) table r ring (stop_at r k) listed
 
     pub vertex_listed : Contains (vertices planes) (vertex_at planes r k)
-    vertex_listed = circle.vertex_listed planes (all planes) table r ring k (stop_at r k) there
+    vertex_listed = circle.vertex_listed planes (all planes) table r ring (stop_at r k) listed
 
     pub vertex_some : vertex_at planes r k ≢ origin
-    vertex_some = circle.vertex_some planes (all planes) table r ring k (stop_at r k) there
+    vertex_some = circle.vertex_some planes (all planes) table r ring (stop_at r k) listed
 
   -- the crossing with another plane is one of the vertices
   pub crossing_there : (j : ℕ) (turned : Bool) → j < length planes → j ≢ r.plane → (k : ℕ) × (k < length r.stops) × (vertex_at planes r k ≡ crossing planes r.plane (record { plane = j; turned = turned }))
@@ -74,5 +78,5 @@ module _ (planes : List V3) (table : AreTablePlanes planes) (r : Ring) (is : IsW
       let before : k - 1 < length r.stops = omega (arith, lt) in
       let next : k ≡ (k - 1 + 1) % length r.stops = (let e : k - 1 + 1 ≡ k = omega (arith, later) in sym (ap (λ m. m % length r.stops) e ∙ mod-eq_of_lt lt)) in
       from_all planes (with_stop_signs false (stop_at r k).entries (with_stop_signs true (stop_at r (k - 1)).entries now)) (vertex_at planes r k)
-      (cross_signs planes (all planes) r (none_parallel planes (all planes) table) ring (stop_at r (k - 1)) (stop_at r k) (k - 1) (there (k - 1) before)
+      (cross_signs planes (all planes) table r ring (stop_at r (k - 1)) (stop_at r k) (k - 1) (there (k - 1) before)
       (subst (λ m. slice_get r.stops m ≡ Some (stop_at r k)) next (there k lt)) now size (to_linked planes (all planes) now (vertex_at planes r (k - 1)) signs))
