@@ -20,43 +20,30 @@ none_below planes n a sizes alone home = record {
   own = λ x le lx. home x lx;
 }
 
-module _ (planes : List V3) (table : AreTablePlanes planes) (c : ℕ) (lc : c < length planes) (stops : List (List Entry)) (is : IsRingOf planes (numbers_below (length planes)) (ring_by c stops))
-    (a b : Arrays) (so_far : AreLinkedBelow planes (length planes) c a) (sizes : AreSized (length planes) b) (holds : HoldsCircle (length planes) b c stops)
-    (others : (x : ℕ) → (shape (length planes)).circle x ≢ c → IsKeptAt a b x)
-    (home : (x : ℕ) → 2 * (length planes * length planes) ≤ x → get_or b.home x 0 ≡ get_or a.home x 0) where
-  kept : (d : ℕ) → d < c → HasCircle planes (length planes) b d
-  kept d lt =
-      let old = so_far.circles d lt in
-      let ld : d < length planes = omega (arith, lt, lc) in
-      record {
-        stops = old.stops;
-        ring = old.ring;
-        holds = holds_still (length planes) d ld old.stops (can_be_linked planes table (numbers_below (length planes)) d old.stops old.ring) a b
-            (λ y e. others y (λ q. let s : d ≡ c = sym e ∙ q in absurd (omega (arith, s, lt)))) old.holds;
-      }
+module _ (planes : List V3) (table : AreTablePlanes planes) (n : ℕ) (n_is : n ≡ length planes) where
+  pub can : (c : ℕ) (stops : List (List Entry)) → IsRingOf planes (numbers_below n) (ring_by c stops) → CanBeLinked n c stops
+  can c stops is = subst (λ m. CanBeLinked m c stops) (sym n_is) (can_be_linked planes table (numbers_below n) c stops is)
 
-  pub one_more : AreLinkedBelow planes (length planes) (c + 1) b
-  one_more = record {
+  pub one_more : (c : ℕ) → c < n → (stops : List (List Entry)) → IsRingOf planes (numbers_below n) (ring_by c stops) → (a b : Arrays) → AreLinkedBelow planes n c a → AreSized n b → HoldsCircle n b c stops
+      → ((x : ℕ) → (shape n).circle x ≢ c → IsKeptAt a b x) → ((x : ℕ) → 2 * (n * n) ≤ x → get_or b.home x 0 ≡ get_or a.home x 0) → AreLinkedBelow planes n (c + 1) b
+  one_more c lc stops is a b so_far sizes holds others home = record {
     sizes = sizes;
-    circles = λ d lt. ⊎_elim {C = HasCircle planes (length planes) b d}
-        (λ e. subst (HasCircle planes (length planes) b) (sym e) (record { stops = stops; ring = is; holds = holds }))
-        (λ ne. kept d (omega (arith, lt, ne))) (same_or d c);
+    circles = λ d lt. ⊎_elim {C = HasCircle planes n b d} (λ e. subst (HasCircle planes n b) (sym e) (record { stops = stops; ring = is; holds = holds })) (λ ne. kept d (omega (arith, lt, ne))) (same_or d c);
     alone = λ x lx no.
-        let k = others x (λ e. no (let q : (shape (length planes)).circle x < c + 1 = omega (arith, e) in q)) in
-        let old = so_far.alone x lx (λ lt. no (let q : (shape (length planes)).circle x < c + 1 = omega (arith, lt) in q)) in
+        let k = others x (λ e. no (let q : (shape n).circle x < c + 1 = omega (arith, e) in q)) in
+        let old = so_far.alone x lx (λ lt. no (let q : (shape n).circle x < c + 1 = omega (arith, lt) in q)) in
         record {
           circles = (k.circles.next ∙ old.circles.0, k.circles.prev ∙ old.circles.1);
           vertices = (k.vertices.next ∙ old.vertices.0, k.vertices.prev ∙ old.vertices.1);
         };
     own = λ x le lx. home x le ∙ so_far.own x le lx;
   }
-
--- as the code has it: the number of planes by another name
-module _ (planes : List V3) (table : AreTablePlanes planes) (c : ℕ) (lc : c < length planes) (stops : List (List Entry)) (is : IsRingOf planes (numbers_below (length planes)) (ring_by c stops)) (n : ℕ) (n_is : n ≡ length planes) where
-  pub next_can : CanBeLinked n c stops
-  next_can = subst (λ m. CanBeLinked m c stops) (sym n_is) (can_be_linked planes table (numbers_below (length planes)) c stops is)
-
-  pub next_linked : (a b : Arrays) → AreLinkedBelow planes (length planes) c a → AreSized n b → HoldsCircle n b c stops → ((x : ℕ) → (shape n).circle x ≢ c → IsKeptAt a b x)
-      → ((x : ℕ) → 2 * (n * n) ≤ x → get_or b.home x 0 ≡ get_or a.home x 0) → AreLinkedBelow planes (length planes) (c + 1) b
-  next_linked a b so_far sizes holds others home = one_more planes table c lc stops is a b so_far (subst (λ m. AreSized m b) n_is sizes) (subst (λ m. HoldsCircle m b c stops) n_is holds)
-      (subst (λ m. (x : ℕ) → (shape m).circle x ≢ c → IsKeptAt a b x) n_is others) (subst (λ m. (x : ℕ) → 2 * (m * m) ≤ x → get_or b.home x 0 ≡ get_or a.home x 0) n_is home)
+    where
+      kept : (d : ℕ) → d < c → HasCircle planes n b d
+      kept d lt =
+          let old = so_far.circles d lt in
+          record {
+            stops = old.stops;
+            ring = old.ring;
+            holds = holds_still n d (omega (arith, lt, lc)) old.stops (can d old.stops old.ring) a b (λ y e. others y (λ q. let s : d ≡ c = sym e ∙ q in absurd (omega (arith, s, lt)))) old.holds;
+          }
