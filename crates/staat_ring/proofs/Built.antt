@@ -30,7 +30,7 @@ use Rattle.staat_ring.specs.Within.{InRange}
 use Rattle.staat_ring.specs.Views.{lists_of}
 use Rattle.staat_ring.proofs.Covered.{entry_there}
 use Rattle.staat_ring.proofs.CircleStops.{entry_other}
-use Rattle.staat_ring.proofs.Linkable.{can_be_linked}
+use Rattle.staat_ring.proofs.CircleSteps.{can_be_linked}
 use Rattle.staat_ring.proofs.Mapped.{few_below}
 use Rattle.staat_ring.proofs.Numbering.{entry_back, head_circle, head_small}
 use Rattle.staat_ring.proofs.RingLemmas.{below_small}

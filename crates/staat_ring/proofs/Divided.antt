@@ -1,7 +1,7 @@
 -- Entries that are divided by the ends of stops, and their opposites after them.
 use Rattle.std.proofs.Common.{◌≡◌, ℕ, zero, suc, ◌+◌, ◌-◌, ◌<◌, ◌≤◌, arith, ap, sym, subst, ◌∙◌, refl, List, [], ◌∷◌, ◌++◌, length, get_or, map, take, drop}
 use Rattle.std.specs.List.{between}
-use Rattle.std.proofs.lemmas.List.{append_assoc, drop-drop, drop-map, drop_at, get_or_read, length-append, length-map, take-append-le, take-map}
+use Rattle.std.proofs.lemmas.List.{append_assoc, drop-drop, drop-map, drop_at, get_or_read, length-append, length-map, take-append-le, take-map, get_or_append_left, map_more, take_all}
 use Rattle.std.proofs.lemmas.Slice.{between_is}
 use Rattle.staat_ring.specs.declared.entry.Entry.{Entry}
 use Rattle.staat_ring.specs.Builds.{AreStopsFrom, all_around, opposite, stops_from}
@@ -123,3 +123,21 @@ module _ (es : List Entry) (front ends : List ℕ) (last : ends ≡ front ++ len
 
       second : stops_from (length es) more all_entries ≡ map (λ l. map opposite l) (stops_from 0 ends es)
       second = ap (λ n. stops_from n more all_entries) (sym none) ∙ (later_stops 0 ends es (map opposite es) ∙ turned_stops 0 ends es)
+
+-- ---- a list that gets the images of its first items at its end
+
+module _ {X : Type 0} (f : X → X) (half old : List X) (k : ℕ) (is : old ≡ half ++ map f (take k half)) where
+  pub image_room : k < length half → k < length old
+  image_room lt = omega (arith, ap length is, length-append half (map f (take k half)), lt)
+
+  pub image_at : (x : X) → k < length half → x ≡ get_or old k x → x ≡ get_or half k x
+  image_at x lt at = at ∙ ap (λ l. get_or l k x) is ∙ get_or_append_left half (map f (take k half)) x k lt
+
+  pub image_more : (x : X) (new : List X) → k < length half → x ≡ get_or half k x → new ≡ old ++ f x ∷ []
+      → new ≡ half ++ map f (take (k + 1) half)
+  image_more x new lt at pushed =
+      pushed ∙ (λ i. is i ++ f (at i) ∷ []) ∙ append_assoc half (map f (take k half)) (f (get_or half k x) ∷ [])
+      ∙ ap (λ l. half ++ l) (sym (map_more f half k x lt))
+
+  pub image_all : length half ≤ k → old ≡ half ++ map f half
+  image_all le = is ∙ ap (λ l. half ++ map f l) (take_all k half le)

@@ -31,7 +31,6 @@ pub mod Appending
 pub mod Rows
 pub mod Numbers
 pub mod Numbering
-pub mod Linkable
 pub mod RowRules
 pub mod EntryHomes
 pub mod EntrySteps
@@ -48,7 +47,6 @@ pub mod SignLemmas
 pub mod SumsBelow
 pub mod ArcLaw
 pub mod PushLemmas
-pub mod Images
 pub mod IndexLemmas
 pub mod PairNumbers
 pub mod Starting
@@ -56,7 +54,6 @@ pub mod Walking
 pub mod Leaving
 pub mod StepLaw
 pub mod StopSigns
-pub mod CrossLaw
 pub mod SignAll
 pub mod CircleStops
 pub mod StopLemmas

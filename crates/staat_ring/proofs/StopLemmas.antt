@@ -16,7 +16,6 @@ use Rattle.staat_ring.specs.Rings.{AreRings, IsRingOf, Ring, RingStop, crossing,
 use Rattle.staat_ring.specs.CountedSigns.{Signed}
 use Rattle.staat_ring.specs.Belonging.{HoldSigns}
 use Rattle.staat_ring.proofs.CircleStops as circle
-use Rattle.staat_ring.proofs.CrossLaw.{cross_signs}
 use Rattle.staat_vec.proofs.Comparisons.{head_less, tail_sorted}
 use Rattle.staat_vec.proofs.ListLaws.{Contains-map}
 
@@ -56,7 +55,7 @@ module _ (planes : List V3) (rings : List Ring) (out : List ℕ) (table : AreTab
     pub next_signs : (now : Signed) → length now.states ≡ length planes → HoldSigns planes (linked_of rings) now (vertex_of planes c s.entries) → HoldSigns planes (linked_of rings) (with_stop_signs false t.entries (with_stop_signs true s.entries now)) (vertex_of planes c t.entries)
     next_signs now size holds =
         subst (λ k. HoldSigns planes (linked_of rings) (with_stop_signs false t.entries (with_stop_signs true s.entries now)) (vertex_of planes k t.entries)) at.plane
-        (cross_signs planes (linked_of rings) table at.ring is s t m at.is there now size
+        (circle.cross_signs planes (linked_of rings) table at.ring is s t m at.is there now size
         (subst (λ k. HoldSigns planes (linked_of rings) now (vertex_of planes k s.entries)) (sym at.plane) holds))
 
 -- the vertex of a stop is that of its first entry

@@ -21,7 +21,6 @@ use Rattle.staat_ring.specs.StopSigns.{with_stop_signs}
 use Rattle.staat_ring.specs.WholeCircles.{AreSignsAt, IsWholeCircle, no_stop, stop_at, vertex_at}
 use Rattle.staat_ring.proofs.Built.{below_all}
 use Rattle.staat_ring.proofs.CircleStops as circle
-use Rattle.staat_ring.proofs.CrossLaw.{cross_signs}
 use Rattle.staat_ring.proofs.Stops.{none_parallel}
 
 -- the numbers of all planes
@@ -78,5 +77,5 @@ module _ (planes : List V3) (table : AreTablePlanes planes) (r : Ring) (is : IsW
       let before : k - 1 < length r.stops = omega (arith, lt) in
       let next : k ≡ (k - 1 + 1) % length r.stops = (let e : k - 1 + 1 ≡ k = omega (arith, later) in sym (ap (λ m. m % length r.stops) e ∙ mod-eq_of_lt lt)) in
       from_all planes (with_stop_signs false (stop_at r k).entries (with_stop_signs true (stop_at r (k - 1)).entries now)) (vertex_at planes r k)
-      (cross_signs planes (all planes) table r ring (stop_at r (k - 1)) (stop_at r k) (k - 1) (there (k - 1) before)
+      (circle.cross_signs planes (all planes) table r ring (stop_at r (k - 1)) (stop_at r k) (k - 1) (there (k - 1) before)
       (subst (λ m. slice_get r.stops m ≡ Some (stop_at r k)) next (there k lt)) now size (to_linked planes (all planes) now (vertex_at planes r (k - 1)) signs))

@@ -34,15 +34,5 @@ returns c =
     let all : c.loop-c.c ≡ n = omega (arith, c.loop-c-test.false, c.loop-c.auto.c-end) in
     subst (λ m. AreLinkedBelow planes m m c.loop-c.arrays) c.len-planes.ensures.is (subst (λ d. AreLinkedBelow planes n d c.loop-c.arrays) all c.loop-c.invariant.below)
 
-pub returns-in_err-arrays : goal.returns-in_err-arrays
-returns-in_err-arrays c =
-    let p = err_from_is_err_and c.from_residual.result c.from_residual.ensures.1 in
-    rw p.1 tt
-
-pub returns-in_err-stops : goal.returns-in_err-stops
-returns-in_err-stops c =
-    let p = err_from_is_err_and c.from_residual-in_err-stops.result c.from_residual-in_err-stops.ensures.1 in
-    rw p.1 tt
-
 pub link_circle-requires-clause-alone : goal.link_circle-requires-clause-alone
 link_circle-requires-clause-alone c = λ x lt e. c.loop-c.invariant.below.alone x lt (λ less. omega (arith, less, e))
