@@ -6,6 +6,7 @@ use Rattle.std.specs.Ordering.{nat_cmp}
 use Rattle.std.specs.List.Sorted.{IsStrictlySortedBy}
 use Rattle.std.specs.List.{range_with_len}
 use Rattle.std.proofs.lemmas.List.{get_or_default}
+use Rattle.std.proofs.lemmas.List.Folds.{map_fixed}
 use Rattle.std.proofs.lemmas.List.FromFn.{get_or-map-range_with_len, length-map-range_with_len, map-range_with_len_more}
 use Rattle.std.proofs.lemmas.List.Elements.{All-contains, All-map, Contains-append_left, Contains-append_right, Contains-get_or}
 use Rattle.std.proofs.lemmas.Map.Keys.{sorted_from_strictly_increasing}
@@ -25,7 +26,7 @@ use Rattle.staat_ring.specs.Rings.{AreRings, IsRingOf, NameVertex, Ring, RingSto
 use Rattle.staat_planes.specs.PairOrder.{plane_at}
 use Rattle.staat_ring.specs.RingInvariant.{HaveTakenOut}
 use Rattle.staat_ring.specs.RingViews.{StandForCircles, CanBeUndone, arrangement_of, numbers_below, is_out, ring_of, rings_of, shape, still_linked}
-use Rattle.staat_ring.specs.Stands.{AllPresent, IsPresent, IsRing, StandFor, Tagged, home_of, is_empty}
+use Rattle.staat_ring.specs.Stands.{AllPresent, EachEntry, EachVertex, IsPresent, IsRing, StandFor, Tagged, home_of, is_empty}
 use Rattle.staat_ring.specs.Within.{InRange}
 use Rattle.staat_ring.specs.Views.{lists_of}
 use Rattle.staat_ring.proofs.Covered.{entry_there}
@@ -33,7 +34,7 @@ use Rattle.staat_ring.proofs.CircleStops.{entry_other}
 use Rattle.staat_ring.proofs.CircleSteps.{can_be_linked}
 use Rattle.staat_ring.proofs.Mapped.{few_below}
 use Rattle.staat_ring.proofs.Numbering.{entry_back, head_circle, head_small}
-use Rattle.staat_ring.proofs.RingLemmas.{below_small}
+use Rattle.staat_ring.proofs.RingLemmas.{below_small, map_same}
 use Rattle.staat_ring.proofs.RowRules as rules
 use Rattle.staat_ring.proofs.SoundLemmas.{entry_in, two_cases}
 use Rattle.staat_ring.proofs.Stops.{none_parallel}
@@ -179,18 +180,14 @@ module _ (planes : List V3) (table : AreTablePlanes planes) (few : length planes
   pub entries_are : (c : ℕ) (lc : c < n) (k : ℕ) → k < length (stops c lc) → l.entries (node c lc k) ≡ numbers c lc k
   entries_are c lc k lk = nodes_of_is a.vertices (home_of a) (node c lc k) (numbers c lc k) (short_stop c lc k lk) (stop_ring c lc k lk)
 
-  -- ---- a vertex of the lists is the node of a stop
+  -- ---- a vertex of the lists is the node of a stop, and its entries are the numbers of the entries there
 
-  record IsNode (c : ℕ) (lc : c < n) (v : ℕ) : Type 0 where
-    place : ℕ
-    within : place < length (stops c lc)
-    is : node c lc place ≡ v
+  each_vertex : (P : ℕ → ℕ → Type 0) → ((c : ℕ) (lc : c < n) (k : ℕ) → k < length (stops c lc) → P c (node c lc k)) → EachVertex n l P
+  each_vertex P h c v lc cv = let (k, lk, q) = rules.node_in n c lc (stops c lc) (can c lc) v (subst (λ xs. Contains xs v) (vertices_are c lc) cv) in subst (P c) q (h c lc k lk)
 
-  node_of : (c : ℕ) (lc : c < n) (v : ℕ) → Contains (l.vertices c) v → IsNode c lc v
-  node_of c lc v cv = let (k, lk, q) = rules.node_in n c lc (stops c lc) (can c lc) v (subst (λ xs. Contains xs v) (vertices_are c lc) cv) in record { place = k; within = lk; is = q }
-
-  entries_at : (c : ℕ) (lc : c < n) (v : ℕ) (o : IsNode c lc v) → l.entries v ≡ numbers c lc o.place
-  entries_at c lc v o = ap l.entries (sym o.is) ∙ entries_are c lc o.place o.within
+  each_entry : (P : ℕ → ℕ → ℕ → Type 0) → ((c : ℕ) (lc : c < n) (k : ℕ) → k < length (stops c lc) → (x : Entry) → Contains (slot c lc k) x → P c (node c lc k) (entry_number n c x)) → EachEntry n l P
+  each_entry P h c v e lc cv = each_vertex (λ c v. (e : ℕ) → Contains (l.entries v) e → P c v e) (λ c lc k lk e ce.
+      let (x, cx, q) = Contains-from_map (entry_number n c) (slot c lc k) e (subst (λ xs. Contains xs e) (entries_are c lc k lk) ce) in subst (P c (node c lc k)) q (h c lc k lk x cx)) c v lc cv e
 
   stands : StandFor (shape n) l a
   stands = record {
@@ -198,15 +195,10 @@ module _ (planes : List V3) (table : AreTablePlanes planes) (few : length planes
     vertices_in_range = vertices_in;
     heads = λ c lc. head_circle n c lc;
     circles = λ c lc. subst (λ xs. IsRing a.circles (shape n).circle (head_number n c) xs) (sym (vertices_are c lc)) (circle_ring c lc);
-    owns = λ c v lc cv. let o = node_of c lc v cv in subst (λ x. home_of a x ≡ x) o.is (own c lc o.place o.within);
-    vertices = λ c v lc cv. let o = node_of c lc v cv in
-        subst (λ x. IsRing a.vertices (home_of a) x (l.entries x)) o.is (subst (λ xs. IsRing a.vertices (home_of a) (node c lc o.place) xs) (sym (entries_are c lc o.place o.within)) (stop_ring c lc o.place o.within));
-    within = λ c v lc cv. let o = node_of c lc v cv in let w = rules.node_within n c lc (stops c lc) (can c lc) o.place o.within in let s = are.sizes.circles in let q = o.is in omega (arith, w, s, q);
-    entries_within = λ c v e lc cv ce.
-        let o = node_of c lc v cv in
-        let (x, cx, q) = Contains-from_map (entry_number n c) (slot c lc o.place) e (subst (λ xs. Contains xs e) (entries_at c lc v o) ce) in
-        let w = rules.number_within n c lc (stops c lc) (can c lc) o.place o.within x cx in
-        let s = are.sizes.vertices in omega (arith, w, s, q);
+    owns = each_vertex (λ c v. home_of a v ≡ v) own;
+    vertices = each_vertex (λ c v. IsRing a.vertices (home_of a) v (l.entries v)) (λ c lc k lk. subst (λ xs. IsRing a.vertices (home_of a) (node c lc k) xs) (sym (entries_are c lc k lk)) (stop_ring c lc k lk));
+    within = each_vertex (λ c v. v < length a.circles.next) (λ c lc k lk. let w = rules.node_within n c lc (stops c lc) (can c lc) k lk in let s = are.sizes.circles in omega (arith, w, s));
+    entries_within = each_entry (λ c v e. e < length a.vertices.next) (λ c lc k lk x cx. let w = rules.number_within n c lc (stops c lc) (can c lc) k lk x cx in let s = are.sizes.vertices in omega (arith, w, s));
   }
 
   -- ---- each entry stands somewhere
@@ -246,23 +238,16 @@ module _ (planes : List V3) (table : AreTablePlanes planes) (few : length planes
   pub good : StandForCircles n [] a
   good = record {
     stands = stands;
-    full = λ c v lc cv. let o = node_of c lc v cv in ap is_empty (entries_at c lc v o) ∙ some_list (entry_number n c) (slot c lc o.place) (rules.some n c lc (stops c lc) (can c lc) o.place o.within);
+    full = each_vertex (λ c v. is_empty (l.entries v) ≡ false) (λ c lc k lk. ap is_empty (entries_are c lc k lk) ∙ some_list (entry_number n c) (slot c lc k) (rules.some n c lc (stops c lc) (can c lc) k lk));
     short_circles = λ c lc. subst (λ xs. length xs < length a.circles.next) (sym (vertices_are c lc)) (short_circle c lc);
-    short_vertices = λ c v lc cv. let o = node_of c lc v cv in subst (λ xs. length xs < length a.vertices.next) (sym (entries_at c lc v o)) (short_stop c lc o.place o.within);
+    short_vertices = each_vertex (λ c v. length (l.entries v) < length a.vertices.next) (λ c lc k lk. subst (λ xs. length xs < length a.vertices.next) (sym (entries_are c lc k lk)) (short_stop c lc k lk));
     present = λ p lp no. all_present (entries_of n p n) (present_number p lp);
-    known = λ c v e lc cv ce.
-        let o = node_of c lc v cv in
-        let (x, cx, q) = Contains-from_map (entry_number n c) (slot c lc o.place) e (subst (λ xs. Contains xs e) (entries_at c lc v o) ce) in
-        let lx = rules.small n c lc (stops c lc) (can c lc) o.place o.within x cx in
-        let ne = entry_other planes (numbers_below n) table (ring_by c (stops c lc)) (has c lc).ring (record { node = 0; entries = slot c lc o.place }) (Contains-map (λ es. record { node = 0; entries = es }) (stops c lc) (slot c lc o.place) (rules.slot_in n c lc (stops c lc) (can c lc) o.place o.within)) x cx in
-        let w = in_entries n x.plane n c (entry_number n c x) lc (on_circle n c x (λ z. ne (sym z))) in
-        let p : plane_of n e ≡ x.plane = ap (plane_of n) (sym q) ∙ ap (λ (y : Entry). y.plane) (entry_back n c x lx) in
-        subst (λ i. Contains (entries_of n i n) e) (sym p) (subst (Contains (entries_of n x.plane n)) q w);
-    numbered = λ c v e lc cv ce.
-        let o = node_of c lc v cv in
-        let (x, cx, q) = Contains-from_map (entry_number n c) (slot c lc o.place) e (subst (λ xs. Contains xs e) (entries_at c lc v o) ce) in
-        let lx = rules.small n c lc (stops c lc) (can c lc) o.place o.within x cx in
-        ap (λ y. entry_number n c (entry_numbered n y)) (sym q) ∙ (ap (entry_number n c) (entry_back n c x lx) ∙ q);
+    known = each_entry (λ c v e. Contains (entries_of n (plane_of n e) n) e) (λ c lc k lk x cx.
+        let stop = Contains-map (λ es. record { node = 0; entries = es }) (stops c lc) (slot c lc k) (rules.slot_in n c lc (stops c lc) (can c lc) k lk) in
+        let ne = entry_other planes (numbers_below n) table (ring_by c (stops c lc)) (has c lc).ring (record { node = 0; entries = slot c lc k }) stop x cx in
+        subst (λ i. Contains (entries_of n i n) (entry_number n c x)) (sym (ap (λ (y : Entry). y.plane) (entry_back n c x (rules.small n c lc (stops c lc) (can c lc) k lk x cx))))
+        (in_entries n x.plane n c (entry_number n c x) lc (on_circle n c x (λ z. ne (sym z)))));
+    numbered = each_entry (λ c v e. entry_number n c (entry_numbered n e) ≡ e) (λ c lc k lk x cx. ap (entry_number n c) (entry_back n c x (rules.small n c lc (stops c lc) (can c lc) k lk x cx)));
   }
 
   -- ---- the circles that the arrays show
@@ -274,21 +259,16 @@ module _ (planes : List V3) (table : AreTablePlanes planes) (few : length planes
   entries_read c lc es (k, lk, e) =
       let q : slot c lc k ≡ es = get_or_default (stops c lc) k [] es lk ∙ e in
       subst (λ xs. map (entry_numbered n) (l.entries (node_number n c xs)) ≡ xs) q
-      (ap (map (entry_numbered n)) (entries_are c lc k lk) ∙ back (slot c lc k) (rules.small n c lc (stops c lc) (can c lc) k lk))
-    where
-      back : (xs : List Entry) → ((x : Entry) → Contains xs x → x.plane < n) → map (entry_numbered n) (map (entry_number n c) xs) ≡ xs
-      back [] h = refl
-      back (x ∷ xs) h = λ i. entry_back n c x (h x (zero, omega arith, refl)) i ∷ back xs (λ y cy. h y (suc cy.0, omega (arith, cy.1), cy.2)) i
+      (ap (map (entry_numbered n)) (entries_are c lc k lk) ∙ map_twice (entry_numbered n) (entry_number n c) (slot c lc k)
+      ∙ map_fixed (λ x. entry_numbered n (entry_number n c x)) (slot c lc k) (All-from_members (λ x. entry_numbered n (entry_number n c x) ≡ x) (slot c lc k) (λ x cx. entry_back n c x (rules.small n c lc (stops c lc) (can c lc) k lk x cx))))
 
   stops_read : (c : ℕ) (lc : c < n) → (ring_of n l c).stops ≡ map (named c) (stops c lc)
-  stops_read c lc = ap (map read) (vertices_are c lc) ∙ go (stops c lc) (entries_read c lc)
+  stops_read c lc =
+      ap (map read) (vertices_are c lc) ∙ map_twice read (node_number n c) (stops c lc)
+      ∙ map_same (λ es. read (node_number n c es)) (named c) (stops c lc) (λ es ce i. record { node = node_number n c es; entries = entries_read c lc es ce i })
     where
       read : ℕ → RingStop
       read v = record { node = v; entries = map (entry_numbered n) (l.entries v) }
-
-      go : (xs : List (List Entry)) → ((es : List Entry) → Contains xs es → map (entry_numbered n) (l.entries (node_number n c es)) ≡ es) → map read (map (node_number n c) xs) ≡ map (named c) xs
-      go [] h = refl
-      go (x ∷ xs) h = λ i. (record { node = node_number n c x; entries = h x (zero, omega arith, refl) i }) ∷ go xs (λ y cy. h y (suc cy.0, omega (arith, cy.1), cy.2)) i
 
   ring_read : (c : ℕ) (lc : c < n) → ring_of n l c ≡ record { plane = c; stops = map (named c) (stops c lc) }
   ring_read c lc = λ i. record { plane = c; stops = stops_read c lc i }

@@ -34,6 +34,7 @@ use Rattle.staat_ring.specs.Rings.{IsRingOf, RingStop, crossing, facet_by, stop_
 use Rattle.staat_ring.proofs.CircleFromHalf.{IsHalf, circle_from_half, whole_circle}
 use Rattle.staat_ring.proofs.Divided.{length-stops, stop_at}
 use Rattle.staat_ring.proofs.HalfTurn.{IsOnHalf, Precedes, ahead_trans, axis_apart, axis_differs, axis_first, det_own, first_axis, flat_facet, not_before, on_half, one_vertex, precedes, ray_negative, some_normal, some_off, transitive, unit, vertex}
+use Rattle.staat_ring.proofs.RingLemmas.{map_same}
 use Rattle.staat_ring.proofs.Steps.{negative_on, not_both, primitive_on}
 use Rattle.staat_ring.proofs.TurnOrder.{turn_same}
 use Rattle.staat_ring.proofs.Turns.{turn}
@@ -435,13 +436,11 @@ module _ (planes : List V3) (rules : AreTablePlanes planes) (c : ℕ) (g axis : 
       agree = All-map (λ s. All (λ e. crossing planes c e ≡ vertex_of planes c s.entries) s.entries) as_stop (all_around slots) (All-from_members (λ xs. All (λ e. crossing planes c e ≡ named_by xs) xs) (all_around slots) (λ xs cx. All-from_members (λ e. crossing planes c e ≡ named_by xs) xs (all_stops xs cx).names));
     }
       where
-        turned_all : (ys : List (List Entry)) → ((xs : List Entry) → Contains ys xs → named_by (map opposite xs) ≡ negative (named_by xs)) → map named_by (map (map opposite) ys) ≡ map negative (map named_by ys)
-        turned_all [] h = refl
-        turned_all (y ∷ ys) h = λ i. h y (Contains-front y ys) i ∷ turned_all ys (λ x c. h x (Contains-later y ys x c)) i
-
         vertices : map (λ s. s.vertex) (map (stop_of planes c) (map as_stop (all_around slots))) ≡ whole_circle half
         vertices = map_twice (λ s. s.vertex) (stop_of planes c) (map as_stop (all_around slots)) ∙ map_twice (λ s. vertex_of planes c s.entries) as_stop (all_around slots) ∙ map-append named_by slots (map (map opposite) slots)
-            ∙ ap (λ us. half ++ us) (turned_all slots (λ xs cx. vertex_is planes linked c (negative (named_by xs)) (map opposite xs) (turned planes linked c (named_by xs) xs (stop_in xs cx))))
+            ∙ ap (λ us. half ++ us) (map_twice named_by (map opposite) slots
+            ∙ map_same (λ xs. named_by (map opposite xs)) (λ xs. negative (named_by xs)) slots (λ xs cx. vertex_is planes linked c (negative (named_by xs)) (map opposite xs) (turned planes linked c (named_by xs) xs (stop_in xs cx)))
+            ∙ sym (map_twice negative named_by slots))
 
   pub are_stops : AreStopsFrom 0 (length es) ends
   are_stops = stops_by 0 ends ascending (omega arith) (λ p cp. (end_below p cp).1)
