@@ -29,8 +29,7 @@ use Rattle.staat_ring.specs.RingViews.{StandForCircles, CanBeUndone, arrangement
 use Rattle.staat_ring.specs.Stands.{AllPresent, EachEntry, EachVertex, IsPresent, IsRing, StandFor, Tagged, home_of, is_empty}
 use Rattle.staat_ring.specs.Within.{InRange}
 use Rattle.staat_ring.specs.Views.{lists_of}
-use Rattle.staat_ring.proofs.Covered.{entry_there}
-use Rattle.staat_ring.proofs.CircleStops.{entry_other}
+use Rattle.staat_ring.proofs.CircleStops.{entry_other, entry_there}
 use Rattle.staat_ring.proofs.CircleSteps.{can_be_linked}
 use Rattle.staat_ring.proofs.Mapped.{few_below}
 use Rattle.staat_ring.proofs.Numbering.{entry_back, head_circle, head_small}
@@ -244,7 +243,7 @@ module _ (planes : List V3) (table : AreTablePlanes planes) (few : length planes
     present = λ p lp no. all_present (entries_of n p n) (present_number p lp);
     known = each_entry (λ c v e. Contains (entries_of n (plane_of n e) n) e) (λ c lc k lk x cx.
         let stop = Contains-map (λ es. record { node = 0; entries = es }) (stops c lc) (slot c lc k) (rules.slot_in n c lc (stops c lc) (can c lc) k lk) in
-        let ne = entry_other planes (numbers_below n) table (ring_by c (stops c lc)) (has c lc).ring (record { node = 0; entries = slot c lc k }) stop x cx in
+        let ne = entry_other planes (numbers_below n) (ring_by c (stops c lc)) (none_parallel planes (numbers_below n) table) (has c lc).ring (record { node = 0; entries = slot c lc k }) stop x cx in
         subst (λ i. Contains (entries_of n i n) (entry_number n c x)) (sym (ap (λ (y : Entry). y.plane) (entry_back n c x (rules.small n c lc (stops c lc) (can c lc) k lk x cx))))
         (in_entries n x.plane n c (entry_number n c x) lc (on_circle n c x (λ z. ne (sym z)))));
     numbered = each_entry (λ c v e. entry_number n c (entry_numbered n e) ≡ e) (λ c lc k lk x cx. ap (entry_number n c) (entry_back n c x (rules.small n c lc (stops c lc) (can c lc) k lk x cx)));

@@ -17,6 +17,7 @@ use Rattle.staat_ring.specs.Links.{Distinct, Arrays}
 use Rattle.staat_ring.specs.Linking.{CanBeLinked, AreLinkedBelow, AreSized, HasCircle, HoldsCircle, IsAlone, IsKeptAt}
 use Rattle.staat_ring.specs.Numbered.{HasEntry, entry_number}
 use Rattle.staat_ring.specs.Rings.{IsRingOf, RingStop}
+use Rattle.staat_ring.proofs.Stops.{none_parallel}
 use Rattle.staat_ring.proofs.CircleStops.{entries_ascend, entry_small, some}
 use Rattle.staat_ring.proofs.Mapped.{apart_from}
 use Rattle.staat_ring.proofs.Numbering.{entry_once, one_entry}
@@ -47,7 +48,7 @@ module _ (planes : List V3) (table : AreTablePlanes planes) (linked : List ℕ) 
   stop es ce = Contains-map as_stop stops es ce
 
   small_plane : (es : List Entry) → Contains stops es → (e : Entry) → Contains es e → e.plane < length planes
-  small_plane es cs = entry_small planes linked table (ring_by c stops) is (as_stop es) (stop es cs)
+  small_plane es cs = entry_small planes linked (ring_by c stops) (none_parallel planes linked table) is (as_stop es) (stop es cs)
 
   slot_in : (k : ℕ) → k < length stops → Contains stops (slot_at stops k)
   slot_in k lt = Contains-get_or stops k [] lt
@@ -57,9 +58,9 @@ module _ (planes : List V3) (table : AreTablePlanes planes) (linked : List ℕ) 
 
   pub can_be_linked : CanBeLinked (length planes) c stops
   can_be_linked = record {
-    some = All-from_members HasEntry stops (λ es ce. some planes linked table (ring_by c stops) is (as_stop es) (stop es ce));
+    some = All-from_members HasEntry stops (λ es ce. some planes linked (ring_by c stops) (none_parallel planes linked table) is (as_stop es) (stop es ce));
     small = All-from_members (All (λ e. e.plane < length planes)) stops (λ es cs. All-from_members (λ e. e.plane < length planes) es (small_plane es cs));
-    distinct = λ k lt. distinct_numbers (length planes) c (slot_at stops k) (small_plane (slot_at stops k) (slot_in k lt)) (entries_ascend planes linked table (ring_by c stops) is (as_stop (slot_at stops k)) (stop (slot_at stops k) (slot_in k lt)));
+    distinct = λ k lt. distinct_numbers (length planes) c (slot_at stops k) (small_plane (slot_at stops k) (slot_in k lt)) (entries_ascend planes linked (ring_by c stops) (none_parallel planes linked table) is (as_stop (slot_at stops k)) (stop (slot_at stops k) (slot_in k lt)));
     apart = λ k m e lk lm ck cm. entry_once planes linked (ring_by c stops) is k m (as_stop (slot_at stops k)) (as_stop (slot_at stops m)) e (ring_at k lk) (ring_at m lm) ck cm;
   }
 

@@ -1,8 +1,9 @@
 -- Stops of the circle of a plane among linked planes of a table, and the signs of planes from one to the next.
-use Rattle.std.proofs.Common.{◌≡◌, ◌≢◌, ⊎_elim, ℕ, ◌<◌, ◌≤◌, arith, ap, sym, ◌∙◌, List, length, All, Contains, pos, ◌+◌, ◌%◌, Bool, true, false, subst, refl, ◌<ℤ◌}
+use Rattle.std.proofs.Common.{◌≡◌, ◌≢◌, ⊎_elim, ℕ, ◌<◌, ◌≤◌, arith, ap, sym, ◌∙◌, List, length, All, Contains, pos, ◌+◌, ◌%◌, Bool, true, false, subst, refl, ◌<ℤ◌, ◌⊎◌, inl, inr, ℤ, neg_ℤ}
 use Rattle.std.specs.Prelude.{map, Some, slice_get}
 use Rattle.std.specs.Ordering.{nat_cmp}
 use Rattle.std.specs.List.Sorted.{IsStrictlySortedBy}
+use Rattle.std.proofs.lemmas.Int.{ints}
 use Rattle.std.proofs.lemmas.List.{length-map}
 use Rattle.std.proofs.lemmas.List.Elements.{All-contains}
 use Rattle.std.proofs.lemmas.Map.Views.{length-le_from_below}
@@ -18,12 +19,11 @@ use Rattle.staat_model.specs.Circles.{IsOnCircle, PassesThrough, Stop, IsLinked,
 use Rattle.staat_model.specs.Planes.{vertices}
 use Rattle.staat_model.proofs.Members.{All-from_members}
 use Rattle.staat_model.proofs.VertexLemmas.{in_vertices}
-use Rattle.staat_pairs.specs.Tables.{AreTablePlanes}
 use Rattle.staat_ring.specs.declared.entry.Entry.{Entry}
 use Rattle.staat_ring.specs.Rings.{IsRingOf, NameVertex, Ring, RingStop, crossing, facet_by, stop_of, vertex_of}
-use Rattle.staat_ring.proofs.Stops.{AreLinkedApart, none_parallel, stop_there}
+use Rattle.staat_ring.proofs.Stops.{AreLinkedApart, stop_there}
 use Rattle.staat_ring.proofs.Steps.{primitive_on, negative_on, on_plane}
-use Rattle.staat_vec.proofs.ListLaws.{Contains-map, Contains-from_map, contains_or}
+use Rattle.staat_vec.proofs.ListLaws.{place_of, Contains-map, Contains-from_map, contains_or}
 use Rattle.staat_vec.proofs.VecRing.{dot_cross_right}
 use Rattle.staat_vec.specs.declared.vector.Sign.TheVariants.{Zero}
 use Rattle.staat_ring.specs.StopSigns.{stop_sign, with_stop_signs}
@@ -39,7 +39,26 @@ use Rattle.staat_ring.proofs.StepLaw.{step_signs}
 use Rattle.staat_vec.proofs.Signs.{negative_sign, positive_sign}
 use Rattle.staat_vec.proofs.Naturals.{same_or}
 
-module _ (planes : List V3) (linked : List ℕ) (table : AreTablePlanes planes) (r : Ring) (is : IsRingOf planes linked r) where
+self_negative : (a : ℤ) → a ≡ neg_ℤ a → a ≡ pos 0
+self_negative a h = omega (arith, ints)
+
+not_negative : (u : V3) → u ≢ origin → u ≢ negative u
+not_negative u some e = some (λ i. record { x = self_negative u.x (ap (λ v. v.x) e) i; y = self_negative u.y (ap (λ v. v.y) e) i; z = self_negative u.z (ap (λ v. v.z) e) i })
+
+one_way : (u : V3) (a b : Bool) → facet_by b u ≢ origin → facet_by a u ≡ facet_by b u → a ≡ b
+one_way u true true some e = refl
+one_way u true false some e = absurd (not_negative u some (sym e))
+one_way u false true some e = absurd (not_negative (negative u) some (sym e ∙ sym (negative-negative u)))
+one_way u false false some e = refl
+
+pub record IsEntryAt (planes : List V3) (c : ℕ) (stops : List RingStop) (e : Entry) : Type 0 where
+  pub place : ℕ
+  pub stop : RingStop
+  pub is : slice_get stops place ≡ Some stop
+  pub listed : Contains stop.entries e
+  pub vertex : vertex_of planes c stop.entries ≡ crossing planes c e
+
+module _ (planes : List V3) (linked : List ℕ) (r : Ring) (apart : AreLinkedApart planes linked) (is : IsRingOf planes linked r) where
   abbrev c : ℕ
   c = r.plane
 
@@ -49,11 +68,27 @@ module _ (planes : List V3) (linked : List ℕ) (table : AreTablePlanes planes) 
   abbrev stops : List Stop
   stops = map (stop_of planes c) r.stops
 
-  pub apart : AreLinkedApart planes linked
-  apart = none_parallel planes linked table
-
   pub circle_small : c < length planes
   circle_small = slice_get_within planes c g is.circle.g_is.is
+
+  -- the vertex of a stop is that of each of its entries
+  pub entry_vertex : (s : RingStop) (e : Entry) → Contains r.stops s → Contains s.entries e → crossing planes c e ≡ vertex_of planes c s.entries
+  entry_vertex s e cs ce = All-contains (λ e. crossing planes c e ≡ vertex_of planes c s.entries) s.entries e (All-contains (NameVertex planes c) r.stops s is.agree cs) ce
+
+  -- a crossing with another plane
+  module _ (u : V3) (x : IsOnCircle planes linked c g u) where
+    flat : cross g x.h ≢ origin
+    flat = apart.apart c x.other g x.h is.circle.g_is x.other_is (λ q. x.different (sym q))
+
+    on_other : dot x.h u ≡ pos 0
+    on_other =
+        let on = primitive_on x.h (cross g x.h) (dot_cross_right g x.h) flat in
+        ⊎_elim {C = dot x.h u ≡ pos 0} (λ e. ap (dot x.h) e ∙ on) (λ e. ap (dot x.h) e ∙ negative_on x.h (primitive (cross g x.h)) on) x.is
+
+    crossing_some : u ≢ origin
+    crossing_some z =
+        let p = IsPrimitive-some (primitive (cross g x.h)) (primitive-is (cross g x.h) flat).primitive in
+        ⊎_elim {C = ⊥} (λ e. p (sym e ∙ z)) (λ e. p (sym (negative-negative (primitive (cross g x.h))) ∙ ap negative (sym e ∙ z))) x.is
 
   module _ (s : RingStop) (listed : Contains r.stops s) where
     here : Contains stops (stop_of planes c s)
@@ -67,14 +102,6 @@ module _ (planes : List V3) (linked : List ℕ) (table : AreTablePlanes planes) 
 
     on_it : dot g v ≡ pos 0
     on_it = on_plane planes linked c g v apart is.circle.g_is on_circle
-
-    -- each of its entries names its vertex
-    entry_vertex : (e : Entry) → Contains s.entries e → crossing planes c e ≡ v
-    entry_vertex e ce = All-contains (λ e. crossing planes c e ≡ v) s.entries e (All-contains (NameVertex planes c) r.stops s is.agree listed) ce
-
-    -- the other plane is not parallel
-    flat : cross g on_circle.h ≢ origin
-    flat = apart.apart c on_circle.other g on_circle.h is.circle.g_is on_circle.other_is (λ q. on_circle.different (sym q))
 
     pass : Lists nat_cmp (PassesThrough planes linked c v) (map (λ e. e.plane) s.entries)
     pass = All-contains (λ s. Lists nat_cmp (PassesThrough planes linked c s.vertex) s.through) stops (stop_of planes c s) is.circle.through here
@@ -102,48 +129,64 @@ module _ (planes : List V3) (linked : List ℕ) (table : AreTablePlanes planes) 
     pub some : 0 < length s.entries
     some =
         let x = on_circle in
-        let on : dot x.h (primitive (cross g x.h)) ≡ pos 0 = primitive_on x.h (cross g x.h) (dot_cross_right g x.h) flat in
-        let zero : dot x.h v ≡ pos 0 = ⊎_elim {C = dot x.h v ≡ pos 0} (λ e. ap (dot x.h) e ∙ on) (λ e. ap (dot x.h) e ∙ negative_on x.h (primitive (cross g x.h)) on) x.is in
-        let c = pass.all x.other (record { h = x.h; linked_is = x.other_is; different = x.different; on = zero }) in
+        let c = pass.all x.other (record { h = x.h; linked_is = x.other_is; different = x.different; on = on_other v x }) in
         let f = Contains-from_map (λ e. e.plane) s.entries x.other c in
         let e = f.1 in omega (arith, e.1)
 
     -- a vertex is not the origin
     pub vertex_some : v ≢ origin
-    vertex_some z =
-        let u = primitive (cross g on_circle.h) in
-        let p = IsPrimitive-some u (primitive-is (cross g on_circle.h) flat).primitive in
-        ⊎_elim {C = ⊥} (λ e. p (sym e ∙ z)) (λ e. p (sym (negative-negative u) ∙ (ap negative (sym e ∙ z)))) on_circle.is
+    vertex_some = crossing_some v on_circle
 
     -- it is one of the vertices of the planes
     pub vertex_listed : Contains (vertices planes) v
-    vertex_listed = in_vertices planes g on_circle.h v (from_place planes c g is.circle.g_is.is) (from_place planes on_circle.other on_circle.h on_circle.other_is.is) flat on_circle.is
+    vertex_listed = in_vertices planes g on_circle.h v (from_place planes c g is.circle.g_is.is) (from_place planes on_circle.other on_circle.h on_circle.other_is.is) (flat v on_circle) on_circle.is
+
+  -- ---- the crossing with the plane of an entry
+
+  module _ (e : Entry) (h : V3) (hi : IsLinked planes linked e.plane h) (ne : e.plane ≢ c) where
+    crossing_is : (b : Bool) → e.turned ≡ b → crossing planes c e ≡ facet_by b (primitive (cross g h))
+    crossing_is b q = λ i. facet_by (q i) (primitive (cross (get_or_from_slice_get planes c g origin is.circle.g_is.is i) (get_or_from_slice_get planes e.plane h origin hi.is i)))
+
+    either_way : (b : Bool) → e.turned ≡ b → (crossing planes c e ≡ primitive (cross g h)) ⊎ (crossing planes c e ≡ negative (primitive (cross g h)))
+    either_way false q = inl (crossing_is false q)
+    either_way true q = inr (crossing_is true q)
+
+    abbrev crossing_on : IsOnCircle planes linked c g (crossing planes c e)
+    crossing_on = record { other = e.plane; h = h; other_is = hi; different = ne; is = either_way e.turned refl }
+
+    -- it is a stop, which has the entry
+    pub entry_there : IsEntryAt planes c r.stops e
+    entry_there =
+        let v : V3 = crossing planes c e in
+        let (S, cS, eS) = Contains-from_map (λ s. s.vertex) stops v (is.circle.vertices.all v crossing_on) in
+        let (s, cs, es) = Contains-from_map (stop_of planes c) r.stops S cS in
+        let vs : vertex_of planes c s.entries ≡ v = ap (λ x. x.vertex) es ∙ eS in
+        let (x, cx, ex) = Contains-from_map (λ e. e.plane) s.entries e.plane ((pass s cs).all e.plane (record { h = h; linked_is = hi; different = ne; on = ap (dot h) vs ∙ on_other v crossing_on })) in
+        let u : V3 = primitive (cross (plane_at planes c) (plane_at planes e.plane)) in
+        let t = one_way u x.turned e.turned (crossing_some v crossing_on) (sym (ap (λ k. facet_by x.turned (primitive (cross (plane_at planes c) (plane_at planes k)))) ex) ∙ (entry_vertex s x cs cx ∙ vs)) in
+        let (k, at) = place_of r.stops s cs in
+        let q : x ≡ e = λ i. record { plane = ex i; turned = t i } in
+        record { place = k; stop = s; is = at; listed = subst (Contains s.entries) q cx; vertex = vs }
+
+    -- where the entry leads from its stop
+    leads : (s t : RingStop) → Contains r.stops s → Contains r.stops t → IsNext g stops (vertex_of planes c s.entries) (vertex_of planes c t.entries) → Contains s.entries e
+        → stop_sign true e.turned ≡ sign (dot h (vertex_of planes c t.entries))
+    leads s t cs ct n ce = by e.turned refl
+      where
+        w : V3
+        w = vertex_of planes c t.entries
+
+        at : (b : Bool) → e.turned ≡ b → pos 0 <ℤ turn g (facet_by b (primitive (cross g h))) w
+        at b q = subst (λ v. pos 0 <ℤ turn g v w) (sym (entry_vertex s e cs ce) ∙ crossing_is b q) n.after
+
+        some : cross g h ≢ origin
+        some = flat (crossing planes c e) crossing_on
+
+        by : (b : Bool) → e.turned ≡ b → stop_sign true e.turned ≡ sign (dot h w)
+        by false q = ap (stop_sign true) q ∙ sym (negative_sign (dot h w) (leaves_negative g h w (some_normal g h some) (on_it t ct) some (at false q)))
+        by true q = ap (stop_sign true) q ∙ sym (positive_sign (dot h w) (leaves_positive g h w (some_normal g h some) (on_it t ct) some (at true q)))
 
   -- ---- from one stop to the next, the signs of the planes through the two are all that changes
-
-  -- where an entry leads from its stop
-  leads : (s t : RingStop) → Contains r.stops s → Contains r.stops t → IsNext g stops (vertex_of planes c s.entries) (vertex_of planes c t.entries)
-      → (h : V3) (e : Entry) → Contains s.entries e → IsLinked planes linked e.plane h → e.plane ≢ c → stop_sign true e.turned ≡ sign (dot h (vertex_of planes c t.entries))
-  leads s t cs ct n h e ce hi ne = by e.turned refl
-    where
-      w : V3
-      w = vertex_of planes c t.entries
-
-      some : cross g h ≢ origin
-      some = apart.apart c e.plane g h is.circle.g_is hi (λ q. ne (sym q))
-
-      normal_is : plane_at planes c ≡ g
-      normal_is = get_or_from_slice_get planes c g origin is.circle.g_is.is
-
-      other_is : plane_at planes e.plane ≡ h
-      other_is = get_or_from_slice_get planes e.plane h origin hi.is
-
-      at : (b : Bool) → e.turned ≡ b → pos 0 <ℤ turn g (facet_by b (primitive (cross g h))) w
-      at b q = subst (λ v. pos 0 <ℤ turn g v w) (sym (entry_vertex s cs e ce) ∙ (λ i. facet_by (q i) (primitive (cross (normal_is i) (other_is i))))) n.after
-
-      by : (b : Bool) → e.turned ≡ b → stop_sign true e.turned ≡ sign (dot h w)
-      by false q = ap (stop_sign true) q ∙ sym (negative_sign (dot h w) (leaves_negative g h w (some_normal g h some) (on_it t ct) some (at false q)))
-      by true q = ap (stop_sign true) q ∙ sym (positive_sign (dot h w) (leaves_positive g h w (some_normal g h some) (on_it t ct) some (at true q)))
 
   module _ (s t : RingStop) (k : ℕ) (ks : slice_get r.stops k ≡ Some s) (kt : slice_get r.stops ((k + 1) % length r.stops) ≡ Some t) where
     left_in : Contains r.stops s
@@ -198,7 +241,7 @@ module _ (planes : List V3) (linked : List ℕ) (table : AreTablePlanes planes) 
         left none cj =
             let m = Contains-from_map (λ e. e.plane) s.entries j cj in
             not_reached none ∙ stop_signs_there true s.entries now j (sign (dot h T.vertex)) lt
-            (λ e ce q. leads s t left_in reached_in next h e ce (subst (λ i. IsLinked planes linked i h) (sym q) hi) (entry_other s left_in e ce)) m.0 m.1 m.2
+            (λ e ce q. leads e h (subst (λ i. IsLinked planes linked i h) (sym q) hi) (entry_other s left_in e ce) s t left_in reached_in next ce) m.0 m.1 m.2
 
         neither : (Contains T.through j → ⊥) → (Contains S.through j → ⊥) → (state_at after.states j).sign ≡ sign (dot h T.vertex)
         neither nt ns =

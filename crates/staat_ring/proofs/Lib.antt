@@ -4,7 +4,6 @@ pub mod TurnOrder
 pub mod Sides
 pub mod Steps
 pub mod Stops
-pub mod Covered
 pub mod Ordering
 pub mod NextVertexWithout
 pub mod Cycles

@@ -16,6 +16,7 @@ use Rattle.staat_ring.specs.Rings.{AreRings, IsRingOf, Ring, RingStop, crossing,
 use Rattle.staat_ring.specs.CountedSigns.{Signed}
 use Rattle.staat_ring.specs.Belonging.{HoldSigns}
 use Rattle.staat_ring.proofs.CircleStops as circle
+use Rattle.staat_ring.proofs.Stops.{none_parallel}
 use Rattle.staat_vec.proofs.Comparisons.{head_less, tail_sorted}
 use Rattle.staat_vec.proofs.ListLaws.{Contains-map}
 
@@ -27,25 +28,25 @@ module _ (planes : List V3) (rings : List Ring) (out : List ℕ) (table : AreTab
   listed = from_place at.ring.stops m s at.is
 
   pub entry_small : (e : Entry) → Contains s.entries e → e.plane < length planes
-  entry_small = circle.entry_small planes (linked_of rings) table at.ring is s listed
+  entry_small = circle.entry_small planes (linked_of rings) at.ring (none_parallel planes (linked_of rings) table) is s listed
 
   pub entry_other : (e : Entry) → Contains s.entries e → e.plane ≢ c
-  entry_other e ce q = circle.entry_other planes (linked_of rings) table at.ring is s listed e ce (q ∙ sym at.plane)
+  entry_other e ce q = circle.entry_other planes (linked_of rings) at.ring (none_parallel planes (linked_of rings) table) is s listed e ce (q ∙ sym at.plane)
 
   pub entries_ascend : IsStrictlySortedBy nat_cmp (map (λ e. e.plane) s.entries)
-  entries_ascend = circle.entries_ascend planes (linked_of rings) table at.ring is s listed
+  entries_ascend = circle.entries_ascend planes (linked_of rings) at.ring (none_parallel planes (linked_of rings) table) is s listed
 
   pub few : (length s.entries ≤ length planes) × All (λ e. e.plane < length planes) s.entries
-  few = circle.few planes (linked_of rings) table at.ring is s listed
+  few = circle.few planes (linked_of rings) at.ring (none_parallel planes (linked_of rings) table) is s listed
 
   pub circle_small : c < length planes
-  circle_small = subst (λ k. k < length planes) at.plane (circle.circle_small planes (linked_of rings) table at.ring is)
+  circle_small = subst (λ k. k < length planes) at.plane (circle.circle_small planes (linked_of rings) at.ring (none_parallel planes (linked_of rings) table) is)
 
   pub some : 0 < length s.entries
-  some = circle.some planes (linked_of rings) table at.ring is s listed
+  some = circle.some planes (linked_of rings) at.ring (none_parallel planes (linked_of rings) table) is s listed
 
   pub vertex_some : vertex_of planes c s.entries ≢ origin
-  vertex_some = subst (λ k. vertex_of planes k s.entries ≢ origin) at.plane (circle.vertex_some planes (linked_of rings) table at.ring is s listed)
+  vertex_some = subst (λ k. vertex_of planes k s.entries ≢ origin) at.plane (circle.vertex_some planes (linked_of rings) at.ring (none_parallel planes (linked_of rings) table) is s listed)
 
   -- the next stop, and the signs there
   module _ (t : RingStop) (there : slice_get at.ring.stops ((m + 1) % length at.ring.stops) ≡ Some t) where
@@ -55,7 +56,7 @@ module _ (planes : List V3) (rings : List Ring) (out : List ℕ) (table : AreTab
     pub next_signs : (now : Signed) → length now.states ≡ length planes → HoldSigns planes (linked_of rings) now (vertex_of planes c s.entries) → HoldSigns planes (linked_of rings) (with_stop_signs false t.entries (with_stop_signs true s.entries now)) (vertex_of planes c t.entries)
     next_signs now size holds =
         subst (λ k. HoldSigns planes (linked_of rings) (with_stop_signs false t.entries (with_stop_signs true s.entries now)) (vertex_of planes k t.entries)) at.plane
-        (circle.cross_signs planes (linked_of rings) table at.ring is s t m at.is there now size
+        (circle.cross_signs planes (linked_of rings) at.ring (none_parallel planes (linked_of rings) table) is s t m at.is there now size
         (subst (λ k. HoldSigns planes (linked_of rings) now (vertex_of planes k s.entries)) (sym at.plane) holds))
 
 -- the vertex of a stop is that of its first entry
