@@ -18,6 +18,7 @@ use Rattle.staat_vec.proofs.Comparisons.{head_less, nat_cmp-less, sorted_push, t
 use Rattle.staat_vec.proofs.Integers.{zero_from_opposite, zero_not_positive, zero_or}
 use Rattle.staat_vec.proofs.ListLaws.{Contains-from_map, Contains-map, all_of, map_twice}
 use Rattle.staat_vec.proofs.Naturals.{lt_or_le, same_or, trichotomy}
+use Rattle.staat_vec.proofs.Primitives.{IsPrimitive-some}
 use Rattle.staat_vec.proofs.Unique.{Contains-front, Contains-later}
 use Rattle.staat_vec.proofs.VecRing.{dot_cross_right, dot_negative}
 use Rattle.staat_vec.proofs.VectorLaws.{det_same}
@@ -33,7 +34,7 @@ use Rattle.staat_ring.specs.Order.{AreStopEnds, IsBreak, IsOrderOf, entry_at, no
 use Rattle.staat_ring.specs.Rings.{IsRingOf, RingStop, crossing, facet_by, stop_of, vertex_of}
 use Rattle.staat_ring.proofs.CircleFromHalf.{IsHalf, circle_from_half, whole_circle}
 use Rattle.staat_ring.proofs.Divided.{length-stops, stop_at}
-use Rattle.staat_ring.proofs.HalfTurn.{IsOnHalf, Precedes, ahead_trans, axis_apart, axis_differs, axis_first, det_own, first_axis, flat_facet, not_before, on_half, one_vertex, precedes, ray_negative, some_normal, some_off, transitive, unit, vertex}
+use Rattle.staat_ring.proofs.HalfTurn.{IsOnHalf, Precedes, ahead_trans, axis_apart, axis_differs, axis_first, flat_facet, not_before, on_half, one_vertex, precedes, ray_negative, some_normal, on_all_axes, transitive, unit, vertex}
 use Rattle.staat_ring.proofs.RingLemmas.{map_same}
 use Rattle.staat_ring.proofs.Steps.{negative_on, not_both, primitive_on}
 use Rattle.staat_ring.proofs.TurnOrder.{turn_same}
@@ -316,7 +317,7 @@ module _ (planes : List V3) (rules : AreTablePlanes planes) (c : ℕ) (g axis : 
   begins =
       let spot = axis_put.spot in
       let inside = axis_put.inside in
-      let flat = (flat_facet g axis (plane_at planes (at spot).plane) (at spot).turned).1 (ap (λ j. det g axis (plane_at planes j)) axis_put.plane ∙ ap (det g axis) (get_or_from_slice_get planes (axis_beside c) axis origin ai) ∙ det_same g axis) in
+      let flat = flat_facet g axis (plane_at planes (at spot).plane) (at spot).turned (ap (λ j. det g axis (plane_at planes j)) axis_put.plane ∙ ap (det g axis) (get_or_from_slice_get planes (axis_beside c) axis origin ai) ∙ det_same g axis) in
       let axis_is : v spot ≡ ray g axis = axis_first planes rules c g axis gi ai (at spot) (upper_at spot inside) flat in
       ⊎_elim {C = v 0 ≡ ray g axis} (λ e. ap v (sym e) ∙ axis_is)
       (λ ne. ⊎_elim {C = v 0 ≡ ray g axis} (λ h. absurd (not_before g (ray g axis) gg (v 0) (on 0 some) (subst (λ x. pos 0 <ℤ turn g (v 0) x) axis_is h))) (λ h. h.0 ∙ axis_is) (rises 0 spot (omega (arith, ne)) inside))
@@ -327,15 +328,14 @@ module _ (planes : List V3) (rules : AreTablePlanes planes) (c : ℕ) (g axis : 
 
   -- some plane does not pass through the first stop
   more_than_one : 1 < length ends
-  more_than_one = ⊎_elim {C = 1 < length ends} (λ h. h) (λ le. absurd (some_off g axis (axis_apart planes rules c g axis gi ai) (λ k lt.
+  more_than_one = ⊎_elim {C = 1 < length ends} (λ h. h) (λ le. absurd (IsPrimitive-some (v 0) (on 0 some).point.primitive (on_all_axes (v 0) (λ k lt.
       let (small, is) = unit_is k lt in
-      ap (det g axis) (sym is) ∙ ⊎_elim {C = det g axis (plane_at planes k) ≡ pos 0} (λ e. ap (λ j. det g axis (plane_at planes j)) e ∙ ap (det g axis) normal_is ∙ det_own g axis)
+      ap (λ h. dot h (v 0)) (sym is) ∙ ⊎_elim {C = dot (plane_at planes k) (v 0) ≡ pos 0} (λ e. ap (λ j. dot (plane_at planes j) (v 0)) e ∙ ap (λ h. dot h (v 0)) normal_is ∙ (on 0 some).point.on)
       (λ ne.
       let f = find k small ne in
       let z : f.stop ≡ 0 = (let w = f.inside in omega (arith, w, le)) in
-      let flat = first_axis planes rules c g axis gi ai f.entry f.is.is_upper (f.is.crossed ∙ ap (λ i. v (first i)) z ∙ begins) in
-      ap (λ j. det g axis (plane_at planes j)) (sym f.plane) ∙ (flat_facet g axis (plane_at planes f.entry.plane) f.entry.turned).0 flat)
-      (same_or k c)))) (lt_or_le 1 (length ends))
+      ap (λ j. dot (plane_at planes j) (v 0)) (sym f.plane) ∙ (ap (dot (plane_at planes f.entry.plane)) (sym (f.is.crossed ∙ ap (λ i. v (first i)) z)) ∙ on_plane f.entry f.is.is_upper))
+      (same_or k c))))) (lt_or_le 1 (length ends))
 
   -- ---- the circle
 

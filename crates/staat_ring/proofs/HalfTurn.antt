@@ -43,13 +43,10 @@ zero_by a b e h = zero_sign a (e ∙ ap sign h)
 det_negative : (g a b : V3) → det g a (negative b) ≡ neg_ℤ (det g a b)
 det_negative g a b = ring (values (g ∷ a ∷ b ∷ []) []) (detE v0 v1 (negativeE v2)) (opp (detE v0 v1 v2)) tt
 
-pub det_own : (g a : V3) → det g a g ≡ pos 0
-det_own g a = ring (values (g ∷ a ∷ []) []) (detE v0 v1 v0) (num (pos 0)) tt
-
--- on the line of b or not, whichever way b is turned
-pub flat_facet : (g a b : V3) (t : Bool) → (det g a (facet_by t b) ≡ pos 0) ↔ (det g a b ≡ pos 0)
-flat_facet g a b false = (λ z. z, λ z. z)
-flat_facet g a b true = (λ z. zero_from_opposite (det g a b) (sym (det_negative g a b) ∙ z), λ z. det_negative g a b ∙ ap neg_ℤ z)
+-- on the line of b, whichever way b is turned
+pub flat_facet : (g a b : V3) (t : Bool) → det g a b ≡ pos 0 → det g a (facet_by t b) ≡ pos 0
+flat_facet g a b false z = z
+flat_facet g a b true z = det_negative g a b ∙ ap neg_ℤ z
 
 pub negative_ahead : (g a b : V3) → det g a b <ℤ pos 0 → pos 0 <ℤ det g a (negative b)
 negative_ahead g a b h = let e = det_negative g a b in omega (arith, ints)
@@ -155,9 +152,6 @@ module _ (planes : List V3) (rules : AreTablePlanes planes) (c : ℕ) (g axis : 
   axis_first e u z = sym (same_vertex g (ray g axis) gg (ray g axis) (vertex planes g e) (record { point = is_point g axis axis_apart; from = inr refl }) (on_half e u)
       (zero_by (turn g (ray g axis) (vertex planes g e)) (det g axis (facet_of planes e)) (order_is g axis (facet_of planes e) gg axis_apart (apart e u)) z))
 
-  pub first_axis : (e : Entry) → U e → vertex planes g e ≡ ray g axis → det g axis (facet_of planes e) ≡ pos 0
-  first_axis e u q = zero_by (det g axis (facet_of planes e)) (turn g (ray g axis) (vertex planes g e)) (sym (order_is g axis (facet_of planes e) gg axis_apart (apart e u))) (ap (turn g (ray g axis)) q ∙ turn_same g (ray g axis))
-
   module _ (e f : Entry) (ue : U e) (uf : U f) where
     sign_is : sign (turn g (vertex planes g e) (vertex planes g f)) ≡ sign (order_det planes g e f)
     sign_is = order_is g (facet_of planes e) (facet_of planes f) gg (apart e ue) (apart f uf)
@@ -185,22 +179,14 @@ module _ (planes : List V3) (rules : AreTablePlanes planes) (c : ℕ) (g axis : 
       join ua ub ud (inr p) (inl q) = inl (subst (λ x. pos 0 <ℤ turn g x (vertex planes g d)) (sym p.0) q)
       join ua ub ud (inr p) (inr q) = inr (p.0 ∙ q.0, omega (arith, p.1, q.1))
 
--- ---- some axis does not cross on the line of another
+-- ---- the axes
 
 abbrev pub unit : ℕ → V3
 unit k = get_or axes k origin
 
-pub some_off : (g axis : V3) → cross g axis ≢ origin → ((k : ℕ) → k < 3 → det g axis (unit k) ≡ pos 0) → ⊥
-some_off g axis some none = some (same_vector (cross g axis) origin (x g axis ∙ none 0 (omega arith)) (y g axis ∙ none 1 (omega arith)) (z g axis ∙ none 2 (omega arith)))
-  where
-    x : (g a : V3) → (cross g a).x ≡ det g a (unit 0)
-    x g a = ring (values (g ∷ a ∷ []) []) (crossE v0 v1).x (detE v0 v1 (record { x = num (pos 1); y = num (pos 0); z = num (pos 0) })) tt
-
-    y : (g a : V3) → (cross g a).y ≡ det g a (unit 1)
-    y g a = ring (values (g ∷ a ∷ []) []) (crossE v0 v1).y (detE v0 v1 (record { x = num (pos 0); y = num (pos 1); z = num (pos 0) })) tt
-
-    z : (g a : V3) → (cross g a).z ≡ det g a (unit 2)
-    z g a = ring (values (g ∷ a ∷ []) []) (crossE v0 v1).z (detE v0 v1 (record { x = num (pos 0); y = num (pos 0); z = num (pos 1) })) tt
+-- only the origin is on the planes of all axes
+pub on_all_axes : (u : V3) → ((k : ℕ) → k < 3 → dot (unit k) u ≡ pos 0) → u ≡ origin
+on_all_axes u z = same_vector u origin (let a = z 0 (omega arith) in omega (arith, ints, a)) (let a = z 1 (omega arith) in omega (arith, ints, a)) (let a = z 2 (omega arith) in omega (arith, ints, a))
 
 -- ---- one plane after another
 
@@ -238,6 +224,3 @@ uppers_moved planes c g axis n old new p u = record {
 
 pub keys_within : (planes : List V3) (c : ℕ) (g axis : V3) (n : ℕ) (keys : List (ℤ × ℕ × Bool)) → AreUpper planes c g axis n (map key_entry keys) → All (λ (k : ℤ × ℕ × Bool). k.1 < length planes) keys
 keys_within planes c g axis n keys u = All-from_members (λ (k : ℤ × ℕ × Bool). k.1 < length planes) keys (λ k hk. (u.each (key_entry k) (Contains-map key_entry keys k hk)).within)
-
-pub entries_within : (planes : List V3) (c : ℕ) (g axis : V3) (n : ℕ) (keys es : List Entry) → AreUpper planes c g axis n keys → IsOrderOf planes g keys es → All (λ e. e.plane < length planes) es
-entries_within planes c g axis n keys es u o = All-from_members (λ e. e.plane < length planes) es (λ e he. (u.each e (o.only e he)).within)

@@ -1,5 +1,5 @@
 -- An entry that is put at its place leaves the others in order.
-use Rattle.std.proofs.Common.{◌≡◌, ◌≢◌, ◌⊎◌, ⊎_elim, inl, inr, ℕ, ◌+◌, ◌-◌, ◌<◌, ◌≤◌, arith, ap, sym, subst, ◌∙◌, List, [], ◌∷◌, ◌++◌, length, Contains, ℤ, pos, ◌<ℤ◌}
+use Rattle.std.proofs.Common.{◌≡◌, ◌≢◌, ◌⊎◌, ⊎_elim, inl, inr, ℕ, ◌+◌, ◌-◌, ◌<◌, ◌≤◌, arith, ap, sym, subst, ◌∙◌, List, [], ◌∷◌, ◌++◌, length, All, Contains, ℤ, pos, ◌<ℤ◌}
 use Rattle.std.specs.Prelude.{IsPermutation}
 use Rattle.std.specs.List.{insert}
 use Rattle.std.specs.List.Sorted.{IsStrictlySortedBy}
@@ -16,6 +16,7 @@ use Rattle.staat_vec.proofs.Integers.{zero_not_negative}
 use Rattle.staat_vec.proofs.Naturals.{le_from_not_lt, lt_from_le, lt_one_more_cases, same_or, trichotomy}
 use Rattle.staat_vec.proofs.Unique.{Contains-cases, Contains-front, Contains-later, Contains-nothing}
 use Rattle.staat_vec.proofs.VectorLaws.{det_back}
+use Rattle.staat_model.proofs.Members.{All-from_members}
 use Rattle.staat_planes.proofs.Passing.{not_both}
 use Rattle.staat_ring.specs.declared.entry.Entry.{Entry}
 use Rattle.staat_ring.specs.Order.{AreInOrder, HasEntryOfPlane, IsBreak, IsInserted, IsOrderOf, IsTransitive, CrossesBefore, entry_at, facet_of, no_entry, order_det}
@@ -92,6 +93,9 @@ module _ (es : List Entry) (e : Entry) (i : ℕ) (le : i ≤ length es) where
 
 pub order_none : (planes : List V3) (g : V3) → IsOrderOf planes g [] []
 order_none planes g = record { only = λ e c. c; each = λ e c. absurd (Contains-nothing e c); rises = λ t i k lt small. absurd (omega (arith, small)) }
+
+pub order_within : (planes : List V3) (g : V3) (m : ℕ) (es new : List Entry) → IsOrderOf planes g es new → ((e : Entry) → Contains es e → e.plane < m) → All (λ e. e.plane < m) new
+order_within planes g m es new o small = All-from_members (λ e. e.plane < m) new (λ e c. small e (o.only e c))
 
 pub order_more : (planes : List V3) (g : V3) (e : Entry) (es done old new : List Entry) → done ≡ es ++ e ∷ [] → IsInserted planes g e old new → IsOrderOf planes g es old → IsOrderOf planes g done new
 order_more planes g e es done old new is (inr (has, same)) o = subst (λ (ds : List Entry). IsOrderOf planes g ds new) (sym is) (subst (λ (v : List Entry). IsOrderOf planes g (es ++ e ∷ []) v) (sym same) (record {

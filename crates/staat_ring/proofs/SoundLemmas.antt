@@ -20,9 +20,10 @@ use Rattle.staat_ring.proofs.RelinkUndoesUnlink.{give_all-take_all}
 use Rattle.staat_ring.proofs.TwoLevels.{length_if, stands-take_all, present-after}
 use Rattle.staat_ring.proofs.ViewLemmas.{AreShort, lists_of_is, stands_same}
 use Rattle.staat_ring.proofs.Filters.{without-plane}
-use Rattle.staat_ring.proofs.RingLemmas.{rings-without, rings-same}
+use Rattle.staat_ring.proofs.RingLemmas.{listed-push, rings-without, rings-same}
 use Rattle.staat_ring.proofs.Mapped.{apart_from}
-use Rattle.staat_vec.proofs.Truth.{false_true_clash, from_not_true}
+use Rattle.staat_vec.proofs.Truth.{and_split, false_true_clash, from_not_true}
+use Rattle.staat_vec.proofs.Naturals.{apart_from_test}
 
 -- ---- the numbers of the entries
 pub plane_of_entry : (n p c s : ℕ) → p < n → s < 2 → plane_of n (2 * (c * n + p) + s) ≡ p
@@ -119,16 +120,9 @@ filter_length : (test : ℕ → Bool) (xs : List ℕ) → length (filter test xs
 filter_length test xs = rw length-filter (count_by-le-length test xs)
 
 listed_apart : (out : List ℕ) (p q : ℕ) → is_out (out ++ p ∷ []) q ≡ false → (is_out out q ≡ false) × (q ≢ p)
-listed_apart [] p q h = (refl, λ e. last (p == q) (eq-eqb p q (sym e)) h)
-  where
-    last : (b : Bool) → b ≡ true → (b || false) ≡ false → ⊥
-    last true e f = cc
-    last false e f = cc
-listed_apart (x ∷ out) p q h = go (x == q) h (listed_apart out p q)
-  where
-    go : (b : Bool) → (b || is_out (out ++ p ∷ []) q) ≡ false → (is_out (out ++ p ∷ []) q ≡ false → (is_out out q ≡ false) × (q ≢ p)) → ((b || is_out out q) ≡ false) × (q ≢ p)
-    go true e ih = cc
-    go false e ih = ih e
+listed_apart out p q h =
+    let (a, b) = and_split (not (is_out out q)) (not (p == q)) (sym (listed-push out p q) ∙ ap not h) in
+    (from_not_true (is_out out q) a, λ e. apart_from_test p q b (sym e))
 
 -- ---- one plane is unlinked
 module _ (n p : ℕ) (out : List ℕ) (a : Arrays) (in' : p < n) (linked : is_out out p ≡ false) (good : StandForCircles n out a) where

@@ -4,7 +4,8 @@ use Rattle.std.proofs.lemmas.Result.{IfOk-weaker}
 use Rattle.staat_ring.specs.Builds.{key_entry, ring_by}
 use Rattle.staat_ring.specs.Rings.{IsRingOf}
 use Rattle.staat_ring.proofs.CircleFromEntries.{are_stops, circle_is}
-use Rattle.staat_ring.proofs.HalfTurn.{entries_within, keys_within}
+use Rattle.staat_ring.proofs.HalfTurn.{keys_within}
+use Rattle.staat_ring.proofs.Ordering.{order_within}
 use Rattle.staat_ring.proofs.circle.circle_of.Goals as goal
 
 pub in_order-requires : goal.in_order-requires
@@ -19,7 +20,7 @@ ends_of-requires c =
     let ai = subst (λ k. slice_get planes k ≡ Some c.plane-axis.result) c.axis_beside.ensures c.plane-axis.ensures.is in
     let keys = c.in_ok-keys.ensures c.plane-g.result c.plane-axis.result c.plane-g.ensures.is ai in
     let order = rw (c.around-turn.ensures.table, c.around-turn.ensures.g, c.as_slice.ensures.value) at c.in_ok-entries.ensures in
-    record { es = rw (c.around-turn.ensures.table, c.as_slice-2.ensures.value) (entries_within planes c.args.c c.plane-g.result c.plane-axis.result (length planes) (map key_entry c.in_ok-keys.keys.items) c.in_ok-entries.entries.items keys order) }
+    record { es = rw (c.around-turn.ensures.table, c.as_slice-2.ensures.value) (order_within planes c.plane-g.result (length planes) (map key_entry c.in_ok-keys.keys.items) c.in_ok-entries.entries.items order (λ e h. (keys.each e h).within)) }
 
 pub around-requires-clause-stops : goal.around-requires-clause-stops
 around-requires-clause-stops c =

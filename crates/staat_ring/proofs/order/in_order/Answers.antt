@@ -1,11 +1,11 @@
 use Rattle.std.proofs.Common.{[], ℕ, ℤ, ◌<◌, Bool, false, get_or, length, map, pos, subst, sym, take, ◌+◌}
-use Rattle.std.proofs.lemmas.List.{get_or_default, map_more, take_all}
+use Rattle.std.proofs.lemmas.List.{map_more, take_all}
 use Rattle.std.proofs.lemmas.List.Elements.{All-contains, All-take}
 use Rattle.staat_vec.proofs.ListLaws.{Contains-from_map}
 use Rattle.staat_ring.specs.declared.entry.Entry.{Entry}
 use Rattle.staat_ring.specs.Builds.{key_entry}
 use Rattle.staat_ring.specs.Order.{IsOrderOf}
-use Rattle.staat_ring.proofs.Ordering.{order_more, order_none}
+use Rattle.staat_ring.proofs.Ordering.{order_more, order_none, order_within}
 use Rattle.staat_ring.proofs.order.in_order.Goals as goal
 
 abbrev no_key : ℤ × ℕ × Bool
@@ -22,11 +22,12 @@ loop-key-preserved c =
     (map_more key_entry keys i no_key c.loop-key-test.true) c.in_ok-insert.ensures c.loop-key.invariant
 
 pub insert-requires-clause-es : goal.insert-requires-clause-es
-insert-requires-clause-es c = λ k d lt.
+insert-requires-clause-es c =
+    let m = length c.args.turn.now.table.now.planes in
     let keys = take c.loop-key.key-index c.args.keys.now in
-    let (x, cx, ex) = Contains-from_map key_entry keys (get_or c.loop-key.entries.items k d) (c.loop-key.invariant.only (get_or c.loop-key.entries.items k d) (k, lt, get_or_default c.loop-key.entries.items k (get_or c.loop-key.entries.items k d) d lt)) in
-    subst (λ (e : Entry). e.plane < length c.args.turn.now.table.now.planes) ex
-    (All-contains (λ (k : ℤ × ℕ × Bool). k.1 < length c.args.turn.now.table.now.planes) keys x (All-take (λ (k : ℤ × ℕ × Bool). k.1 < length c.args.turn.now.table.now.planes) c.loop-key.key-index c.args.keys.now c.requires.keys) cx)
+    order_within c.args.turn.now.table.now.planes c.args.turn.now.g m (map key_entry keys) c.loop-key.entries.items c.loop-key.invariant (λ e ce.
+    let (x, cx, q) = Contains-from_map key_entry keys e ce in
+    subst (λ (e : Entry). e.plane < m) q (All-contains (λ (k : ℤ × ℕ × Bool). k.1 < m) keys x (All-take (λ (k : ℤ × ℕ × Bool). k.1 < m) c.loop-key.key-index c.args.keys.now c.requires.keys) cx))
 
 pub insert-requires-clause-e : goal.insert-requires-clause-e
 insert-requires-clause-e c = c.requires.keys c.loop-key.key-index no_key c.loop-key-test.true
