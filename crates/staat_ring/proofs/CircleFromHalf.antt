@@ -2,7 +2,6 @@
 use Rattle.std.proofs.Common.{◌≡◌, ◌↔◌, ⊎_elim, ℕ, ◌<◌, ◌+◌, ◌-◌, ◌%◌, refl, sym, ap, subst, ◌∙◌, arith, pos, ◌<ℤ◌, List, [], ◌++◌, All, map, length, get_or, ◌⊎◌, inl, inr, Contains, Some}
 use Rattle.std.specs.Prelude.{slice_get}
 use Rattle.std.specs.Ordering.{nat_cmp}
-use Rattle.std.proofs.Math.Nat.{mod-eq_of_lt, mod_self}
 use Rattle.std.proofs.lemmas.Int.{ints}
 use Rattle.std.proofs.lemmas.List.{get_or-append-add, get_or_append_left, get_or_default, get_or-map, length-append, length-map}
 use Rattle.std.proofs.lemmas.List.Elements.{Contains-append_cases, Contains-append_left, Contains-append_right}
@@ -13,10 +12,11 @@ use Rattle.staat_vec.specs.Primitives.{primitive}
 use Rattle.staat_vec.specs.Lists.{Lists, ListsOnce}
 use Rattle.staat_model.proofs.Members.{All-from_members}
 use Rattle.staat_model.specs.Circles.{Stop, IsLinked, IsOnCircle, IsNext, IsCircle, IsAfter, PassesThrough, axis_beside}
+use Rattle.staat_ring.proofs.Cycles.{following}
 use Rattle.staat_ring.proofs.Turns.{NextIn, turn}
 use Rattle.staat_ring.proofs.TurnOrder.{turn_back, turn_same, turn_negative_left, turn_negative_right}
 use Rattle.staat_vec.proofs.Integers.{zero_not_positive}
-use Rattle.staat_vec.proofs.Naturals.{lt_or_le, same_or, trichotomy}
+use Rattle.staat_vec.proofs.Naturals.{lt_or_le, trichotomy}
 use Rattle.staat_vec.proofs.ListLaws.{Contains-from_map, Contains-map}
 use Rattle.staat_vec.proofs.Canons.{negative-negative}
 
@@ -162,9 +162,6 @@ module _ (table : List V3) (linked : List ℕ) (c : ℕ) (g axis : V3) (hs : Lis
 
     first_is : slice_get stops 0 ≡ Some (get_or stops 0 no_stop)
     first_is = slice_get-get_or stops 0 no_stop (let two = half.two in omega (arith, count, two))
-
-    following : (k m : ℕ) → k < m → ((k + 1) % m ≡ k + 1) ⊎ ((k + 1 ≡ m) × ((k + 1) % m ≡ 0))
-    following k m lt = ⊎_elim {C = ((k + 1) % m ≡ k + 1) ⊎ ((k + 1 ≡ m) × ((k + 1) % m ≡ 0))} (λ e. inr (e, ap (λ j. j % m) e ∙ mod_self m)) (λ ne. inl (mod-eq_of_lt (omega (arith, lt, ne)))) (same_or (k + 1) m)
 
     turning : (k : ℕ) (s t : Stop) → slice_get stops k ≡ Some s → slice_get stops ((k + 1) % length stops) ≡ Some t → IsNext g stops s.vertex t.vertex
     turning k s t ks kt =

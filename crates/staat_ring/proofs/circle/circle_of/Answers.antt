@@ -30,9 +30,6 @@ around-requires-clause-stops c =
     let ends = rw (c.around-turn.ensures.table, c.around-turn.ensures.g, c.as_slice-2.ensures.value) at c.in_ok-ends.ensures in
     are_stops c.args.table.now.planes c.set-set.ensures.rules.planes c.args.c c.plane-g.result c.plane-axis.result c.plane-g.ensures.is ai (map key_entry c.in_ok-keys.keys.items) c.in_ok-entries.entries.items keys order c.in_ok-ends.ends.items ends
 
-pub around-requires-clause-last : goal.around-requires-clause-last
-around-requires-clause-last c = let ends = rw c.as_slice-2.ensures.value at c.in_ok-ends.ensures in (ends.breaks, ends.is)
-
 pub returns : goal.returns
 returns c =
     let planes = c.args.table.now.planes in

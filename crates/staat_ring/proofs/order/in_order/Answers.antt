@@ -11,9 +11,6 @@ use Rattle.staat_ring.proofs.order.in_order.Goals as goal
 abbrev no_key : ℤ × ℕ × Bool
 no_key = (pos 0, 0, false)
 
-pub loop-key-init : goal.loop-key-init
-loop-key-init c = subst (IsOrderOf c.args.turn.now.table.now.planes c.args.turn.now.g []) (sym c.in_ok-entries.ensures.items) (order_none c.args.turn.now.table.now.planes c.args.turn.now.g)
-
 pub loop-key-preserved : goal.loop-key-preserved
 loop-key-preserved c =
     let keys = c.args.keys.now in
@@ -28,11 +25,3 @@ insert-requires-clause-es c =
     order_within c.args.turn.now.table.now.planes c.args.turn.now.g m (map key_entry keys) c.loop-key.entries.items c.loop-key.invariant (λ e ce.
     let (x, cx, q) = Contains-from_map key_entry keys e ce in
     subst (λ (e : Entry). e.plane < m) q (All-contains (λ (k : ℤ × ℕ × Bool). k.1 < m) keys x (All-take (λ (k : ℤ × ℕ × Bool). k.1 < m) c.loop-key.key-index c.args.keys.now c.requires.keys) cx))
-
-pub insert-requires-clause-e : goal.insert-requires-clause-e
-insert-requires-clause-e c = c.requires.keys c.loop-key.key-index no_key c.loop-key-test.true
-
-pub returns : goal.returns
-returns c =
-    subst (λ l. IsOrderOf c.args.turn.now.table.now.planes c.args.turn.now.g (map key_entry l) c.loop-key.entries.items)
-    (take_all c.loop-key.key-index c.args.keys.now c.loop-key-test.false) c.loop-key.invariant

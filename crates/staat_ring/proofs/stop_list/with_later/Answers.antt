@@ -4,16 +4,6 @@ use Rattle.staat_ring.proofs.Divided.{end_within}
 use Rattle.staat_ring.proofs.Divided.{image_all, image_at, image_more, image_room}
 use Rattle.staat_ring.proofs.stop_list.with_later.Goals as goal
 
-pub loop-k-init : goal.loop-k-init
-loop-k-init c = record { all = c.len-k-end.ensures ∙ c.args.half.ok.0; so_far = sym (append-nil c.args.half.items) }
-
-pub index-requires : goal.index-requires
-index-requires c =
-    let half = c.args.half.items in
-    let lt : c.loop-k.k < length half = omega (arith, c.loop-k-test.true, c.loop-k.invariant.all) in
-    let room = image_room (λ (end : ℕ). c.args.count + end) half c.loop-k.ends.items c.loop-k.k c.loop-k.invariant.so_far lt in
-    omega (arith, room, c.loop-k.ends.ok.0)
-
 pub overflow_add-end : goal.overflow_add-end
 overflow_add-end c =
     let half = c.args.half.items in

@@ -6,9 +6,6 @@ use Rattle.staat_ring.proofs.StopLemmas.{vertex_first}
 use Rattle.staat_ring.proofs.WholeCircles.{entry_other, entry_small}
 use Rattle.staat_ring.proofs.circle.Circle.vertex.Goals as goal
 
-pub of-requires-clause-c : goal.of-requires-clause-c
-of-requires-clause-c c = subst (λ (r : Ring). r.plane < length c.args.table.now.planes) (sym c.self.view_is) c.requires.circle.small
-
 pub of-requires-clause-plane : goal.of-requires-clause-plane
 of-requires-clause-plane c =
     entry_small c.args.table.now.planes c.set-set.ensures.rules.planes c.args.self.now c.requires.circle c.args.k c.requires.place c.first_entry.result

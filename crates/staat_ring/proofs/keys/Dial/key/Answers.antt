@@ -16,6 +16,3 @@ is_opposite-turned-requires c = record {
   across = to_z-of_z w128 c.dot-across.result (record { sfits = c.dot-across.type_inv }) ∙ c.dot-across.ensures ∙ ap (dot c.args.h) c.requires.across
       ∙ dot_comm c.args.h (cross c.args.self.now.g c.args.self.now.axis) ∙ sym (det_dot c.args.self.now.g c.args.self.now.axis c.args.h);
 }
-
-pub returns : goal.returns
-returns c = record { plane = refl; upper = c.is_opposite-turned.ensures }
