@@ -137,24 +137,19 @@ module _ (planes : List V3) (rules : AreTablePlanes planes) (c : ℕ) (g axis : 
       (zero_or (order_det planes g (at (p + d)) (at (p + suc d)))) in
       sym step ∙ until_break p d (omega (arith, lt)) (λ q low high. none q low (omega (arith, high)))
 
-  -- the entry of a plane, by its place
-  record IsPut (k : ℕ) : Type 0 where
-    spot : ℕ
-    inside : spot < length es
-    plane : (at spot).plane ≡ k
-
-  put : (k : ℕ) → k < length planes → k ≢ c → IsPut k
+  -- the place of the entry of a plane
+  put : (k : ℕ) → k < length planes → k ≢ c → (p : ℕ) × (p < length es) × ((at p).plane ≡ k)
   put k lt ne =
       let h = upper.all k lt ne in
       let r = order.each (record { plane = k; turned = h.turned }) h.listed in
       let (p, lp, e) = r.listed in
-      record { spot = p; inside = lp; plane = ap (λ x. x.plane) (sym (get_or_default es p (record { plane = k; turned = r.turned }) no_entry lp) ∙ e) }
+      (p, lp, ap (λ x. x.plane) (sym (get_or_default es p (record { plane = k; turned = r.turned }) no_entry lp) ∙ e))
 
-  axis_put : IsPut (axis_beside c)
-  axis_put = put (axis_beside c) (slice_get_within planes (axis_beside c) axis ai) (axis_differs c)
+  axis_within : axis_beside c < length planes
+  axis_within = slice_get_within planes (axis_beside c) axis ai
 
   some : 0 < length es
-  some = let l = axis_put.inside in omega (arith, l)
+  some = let (p, lp, e) = put (axis_beside c) axis_within (axis_differs c) in omega (arith, lp)
 
   -- ---- where they end
 
@@ -254,15 +249,15 @@ module _ (planes : List V3) (rules : AreTablePlanes planes) (c : ℕ) (g axis : 
 
   find : (j : ℕ) → j < length planes → j ≢ c → IsFound j
   find j lt ne =
-      let p = put j lt ne in
-      let r = found p.spot p.inside in
+      let (p, lp, plane) = put j lt ne in
+      let r = found p lp in
       let low = r.from in
       let to = r.to in
-      let d : ℕ = p.spot - first r.part in
+      let d : ℕ = p - first r.part in
       let ld : d < length (slot r.part) = omega (arith, slot_long r.part r.within, low, to) in
-      let same : first r.part + d ≡ p.spot = omega (arith, low) in
-      let there : Contains (slot r.part) (at p.spot) = subst (Contains (slot r.part)) ((slot_entry r.part d r.within ld).1 ∙ ap at same) (Contains-get_or (slot r.part) d no_entry ld) in
-      record { stop = r.part; inside = r.within; entry = at p.spot; plane = p.plane; there = there; is = of_stop r.part (at p.spot) r.within there }
+      let same : first r.part + d ≡ p = omega (arith, low) in
+      let there : Contains (slot r.part) (at p) = subst (Contains (slot r.part)) ((slot_entry r.part d r.within ld).1 ∙ ap at same) (Contains-get_or (slot r.part) d no_entry ld) in
+      record { stop = r.part; inside = r.within; entry = at p; plane = plane; there = there; is = of_stop r.part (at p) r.within there }
 
   -- the planes of a stop ascend
   planes_rise : (k : ℕ) → k < length ends → IsStrictlySortedBy nat_cmp (map (λ e. e.plane) (slot k))
@@ -315,13 +310,12 @@ module _ (planes : List V3) (rules : AreTablePlanes planes) (c : ℕ) (g axis : 
 
   begins : v 0 ≡ ray g axis
   begins =
-      let spot = axis_put.spot in
-      let inside = axis_put.inside in
-      let flat = flat_facet g axis (plane_at planes (at spot).plane) (at spot).turned (ap (λ j. det g axis (plane_at planes j)) axis_put.plane ∙ ap (det g axis) (get_or_from_slice_get planes (axis_beside c) axis origin ai) ∙ det_same g axis) in
-      let axis_is : v spot ≡ ray g axis = axis_first planes rules c g axis gi ai (at spot) (upper_at spot inside) flat in
-      ⊎_elim {C = v 0 ≡ ray g axis} (λ e. ap v (sym e) ∙ axis_is)
-      (λ ne. ⊎_elim {C = v 0 ≡ ray g axis} (λ h. absurd (not_before g (ray g axis) gg (v 0) (on 0 some) (subst (λ x. pos 0 <ℤ turn g (v 0) x) axis_is h))) (λ h. h.0 ∙ axis_is) (rises 0 spot (omega (arith, ne)) inside))
-      (same_or spot 0)
+      let f = find (axis_beside c) axis_within (axis_differs c) in
+      let flat = flat_facet g axis (plane_at planes f.entry.plane) f.entry.turned (ap (λ j. det g axis (plane_at planes j)) f.plane ∙ ap (det g axis) (get_or_from_slice_get planes (axis_beside c) axis origin ai) ∙ det_same g axis) in
+      let is : v (first f.stop) ≡ ray g axis = sym f.is.crossed ∙ axis_first planes rules c g axis gi ai f.entry f.is.is_upper flat in
+      ⊎_elim {C = v 0 ≡ ray g axis} (λ e. ap (λ k. v (first k)) (sym e) ∙ is)
+      (λ ne. absurd (not_before g (ray g axis) gg (v 0) (on 0 some) (subst (λ x. pos 0 <ℤ turn g (v 0) x) is (stop_rises 0 f.stop (omega (arith, ne)) f.inside))))
+      (same_or f.stop 0)
 
   unit_is : (k : ℕ) → k < 3 → (k < length planes) × (plane_at planes k ≡ unit k)
   unit_is k lt = (subst (λ ps. k < length ps) (sym rules.is) (omega (arith, lt)), ap (λ ps. plane_at ps k) rules.is ∙ get_or_append_left axes _ origin k lt)

@@ -25,8 +25,3 @@ loop-k-preserved c =
       all = c.loop-k.invariant.all;
       so_far = image_more later half c.loop-k.ends.items k so_far c.index.result.now c.push.new.self.items lt at c.in_ok-push.ensures.items;
     }
-
-pub returns : goal.returns
-returns c =
-    image_all (λ (end : ℕ). c.args.count + end) c.args.half.items c.loop-k.ends.items c.loop-k.k c.loop-k.invariant.so_far
-    (omega (arith, c.loop-k-test.false, c.loop-k.invariant.all))
