@@ -33,7 +33,8 @@ use Rattle.staat_ring.proofs.HalfTurn.{some_normal}
 use Rattle.staat_ring.proofs.Turns.{turn}
 use Rattle.staat_ring.specs.Belonging.{HoldSigns}
 use Rattle.staat_planes.specs.PairOrder.{plane_at}
-use Rattle.staat_ring.proofs.Leaving.{leaves_negative, leaves_positive}
+use Rattle.staat_ring.proofs.Sides.{side_is}
+use Rattle.staat_ring.proofs.TurnOrder.{turn_back, turn_negative_left}
 use Rattle.staat_ring.proofs.StopSigns.{stop_signs_other, stop_signs_same, stop_signs_there}
 use Rattle.staat_ring.proofs.StepLaw.{step_signs}
 use Rattle.staat_vec.proofs.Signs.{negative_sign, positive_sign}
@@ -179,12 +180,15 @@ module _ (planes : List V3) (linked : List ℕ) (r : Ring) (apart : AreLinkedApa
         at : (b : Bool) → e.turned ≡ b → pos 0 <ℤ turn g (facet_by b (primitive (cross g h))) w
         at b q = subst (λ v. pos 0 <ℤ turn g v w) (sym (entry_vertex s e cs ce) ∙ crossing_is b q) n.after
 
-        some : cross g h ≢ origin
-        some = flat (crossing planes c e) crossing_on
+        v : V3
+        v = primitive (cross g h)
+
+        side : sign (turn g w v) ≡ sign (dot h w)
+        side = let some = flat (crossing planes c e) crossing_on in side_is g h w (some_normal g h some) (on_it t ct) some
 
         by : (b : Bool) → e.turned ≡ b → stop_sign true e.turned ≡ sign (dot h w)
-        by false q = ap (stop_sign true) q ∙ sym (negative_sign (dot h w) (leaves_negative g h w (some_normal g h some) (on_it t ct) some (at false q)))
-        by true q = ap (stop_sign true) q ∙ sym (positive_sign (dot h w) (leaves_positive g h w (some_normal g h some) (on_it t ct) some (at true q)))
+        by false q = ap (stop_sign true) q ∙ sym (negative_sign (turn g w v) (let h = at false q in let b = turn_back g w v in omega (arith, ints, h, b))) ∙ side
+        by true q = ap (stop_sign true) q ∙ sym (positive_sign (turn g w v) (let h = at true q in let b = turn_back g w v in let n = turn_negative_left g v w in omega (arith, ints, h, b, n))) ∙ side
 
   -- ---- from one stop to the next, the signs of the planes through the two are all that changes
 

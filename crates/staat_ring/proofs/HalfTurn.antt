@@ -15,7 +15,6 @@ use Rattle.staat_vec.proofs.Naturals.{lt_one_more_cases}
 use Rattle.staat_vec.proofs.Primitives.{primitive-is, primitive-negative}
 use Rattle.staat_vec.proofs.Ring.{num, opp, ring}
 use Rattle.staat_vec.proofs.Signs.{positive_sign, sign_positive, zero_sign}
-use Rattle.staat_vec.proofs.Unique.{Contains-nothing}
 use Rattle.staat_vec.proofs.VecRing.{crossE, detE, dot_cross_left, negativeE, ring3, same_vector, v0, v1, v2, values}
 use Rattle.staat_vec.proofs.VectorLaws.{cross_origin, some_square}
 use Rattle.staat_model.proofs.Members.{All-from_members}
@@ -189,9 +188,6 @@ pub on_all_axes : (u : V3) → ((k : ℕ) → k < 3 → dot (unit k) u ≡ pos 0
 on_all_axes u z = same_vector u origin (let a = z 0 (omega arith) in omega (arith, ints, a)) (let a = z 1 (omega arith) in omega (arith, ints, a)) (let a = z 2 (omega arith) in omega (arith, ints, a))
 
 -- ---- one plane after another
-
-pub uppers_none : (planes : List V3) (c : ℕ) (g axis : V3) → AreUpper planes c g axis 0 []
-uppers_none planes c g axis = record { each = λ e h. absurd (Contains-nothing e h); all = λ k lt. absurd (omega (arith, lt)) }
 
 pub uppers_own : (planes : List V3) (c : ℕ) (g axis : V3) (j : ℕ) (es : List Entry) → j ≡ c → AreUpper planes c g axis j es → AreUpper planes c g axis (j + 1) es
 uppers_own planes c g axis j es e u = record { each = u.each; all = λ k lt ne. u.all k (⊎_elim {C = k < j} (λ l. l) (λ q. absurd (ne (q ∙ e))) (lt_one_more_cases k j lt)) ne }

@@ -50,7 +50,6 @@ pub mod IndexLemmas
 pub mod PairNumbers
 pub mod Starting
 pub mod Walking
-pub mod Leaving
 pub mod StepLaw
 pub mod StopSigns
 pub mod SignAll

@@ -91,9 +91,6 @@ module _ (es : List Entry) (e : Entry) (i : ℕ) (le : i ≤ length es) where
 
 -- ---- one entry more
 
-pub order_none : (planes : List V3) (g : V3) → IsOrderOf planes g [] []
-order_none planes g = record { only = λ e c. c; each = λ e c. absurd (Contains-nothing e c); rises = λ t i k lt small. absurd (omega (arith, small)) }
-
 pub order_within : (planes : List V3) (g : V3) (m : ℕ) (es new : List Entry) → IsOrderOf planes g es new → ((e : Entry) → Contains es e → e.plane < m) → All (λ e. e.plane < m) new
 order_within planes g m es new o small = All-from_members (λ e. e.plane < m) new (λ e c. small e (o.only e c))
 
