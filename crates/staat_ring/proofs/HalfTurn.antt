@@ -6,7 +6,7 @@ use Rattle.std.proofs.lemmas.List.Elements.{Contains-append_left, Contains-push,
 use Rattle.std.proofs.lemmas.List.Sorted.{Contains-permutation, IsPermutation-sym}
 use Rattle.std.proofs.lemmas.Option.{get_or_from_slice_get, slice_get-get_or, slice_get_within}
 use Rattle.staat_vec.specs.declared.vector.V3.{V3}
-use Rattle.staat_vec.specs.Primitives.{primitive}
+use Rattle.staat_vec.specs.Primitives.{content, primitive}
 use Rattle.staat_vec.specs.Vectors.{cross, det, dot, negative, origin, sign}
 use Rattle.staat_vec.proofs.Canons.{negative-negative}
 use Rattle.staat_vec.proofs.Integers.{zero_from_opposite, zero_not_positive}
@@ -14,9 +14,9 @@ use Rattle.staat_vec.proofs.ListLaws.{Contains-map}
 use Rattle.staat_vec.proofs.Naturals.{lt_one_more_cases}
 use Rattle.staat_vec.proofs.Primitives.{primitive-is, primitive-negative}
 use Rattle.staat_vec.proofs.Ring.{num, opp, ring}
-use Rattle.staat_vec.proofs.Signs.{positive_sign, sign_positive, zero_sign}
-use Rattle.staat_vec.proofs.VecRing.{crossE, detE, dot_cross_left, negativeE, ring3, same_vector, v0, v1, v2, values}
-use Rattle.staat_vec.proofs.VectorLaws.{cross_origin, some_square}
+use Rattle.staat_vec.proofs.Signs.{positive_sign, sign_positive, times_sign, zero_sign}
+use Rattle.staat_vec.proofs.VecRing.{crossE, detE, dot_cross_left, negativeE, ring3, same_vector, v0, v1, v2, values, dot_scale, dot_comm}
+use Rattle.staat_vec.proofs.VectorLaws.{cross_origin, det_dot, some_square}
 use Rattle.staat_model.proofs.Members.{All-from_members}
 use Rattle.staat_model.specs.Circles.{axis_beside}
 use Rattle.staat_model.specs.Planes.{axes}
@@ -27,8 +27,10 @@ use Rattle.staat_ring.specs.Order.{HasEntryOfPlane, IsOrderOf, IsTransitive, Cro
 use Rattle.staat_ring.specs.Rings.{facet_by}
 use Rattle.staat_planes.specs.PairOrder.{plane_at}
 use Rattle.staat_ring.proofs.NextVertexWithout.{IsPoint, same_ray}
+use Rattle.staat_ring.proofs.Content.{content_divides}
+use Rattle.staat_ring.proofs.Sides.{side_is}
 use Rattle.staat_ring.proofs.Steps.{primitive_on}
-use Rattle.staat_ring.proofs.TurnOrder.{order_is, turn_back, turn_negative_right, turn_same, turn_trans}
+use Rattle.staat_ring.proofs.TurnOrder.{turn_back, turn_negative_right, turn_same, turn_trans}
 use Rattle.staat_ring.proofs.Turns.{turn}
 
 positive_by : (a b : ℤ) → sign a ≡ sign b → pos 0 <ℤ b → pos 0 <ℤ a
@@ -64,6 +66,13 @@ some_normal g h some = some_square g (λ e. some (ap (λ y. cross y h) e ∙ cro
 is_point : (g h : V3) → cross g h ≢ origin → IsPoint g (ray g h)
 is_point g h some = record { on = primitive_on g (cross g h) (dot_cross_left g h) some; primitive = (primitive-is (cross g h) some).primitive }
 
+-- the order of two vertices on the circle of g is the sign of the determinant of the three normals
+order_is : (g a b : V3) → cross g a ≢ origin → cross g b ≢ origin → sign (turn g (ray g a) (ray g b)) ≡ sign (det g a b)
+order_is g a b sa sb =
+    let (some, is) = content_divides (cross g a) sa in
+    side_is g b (ray g a) (some_normal g a sa) (is_point g a sa).on sb ∙ sym (times_sign (content (cross g a)) (dot b (ray g a)) some)
+    ∙ ap sign (sym (ap (dot b) is ∙ dot_scale (pos (content (cross g a))) b (ray g a)) ∙ dot_comm b (cross g a) ∙ sym (det_dot g a b))
+
 pub upper_flat : (g axis h : V3) (b : Bool) → cross g axis ≢ origin → cross g h ≢ origin → det g axis h ≡ pos 0 → ((b ≡ true) ↔ (ray g h ≡ ray g axis)) → IsUpper g axis (facet_by (not b) h)
 upper_flat g axis h true sa sh z same = inr (same.0 refl)
 upper_flat g axis h false sa sh z same =
@@ -71,7 +80,7 @@ upper_flat g axis h false sa sh z same =
     let a = is_point g axis sa in
     let b = is_point g h sh in
     inr (⊎_elim {C = ray g (negative h) ≡ ray g axis} (λ e. absurd (off (same.1 (sym e)))) (λ e. ray_negative g h ∙ sym e)
-    (same_ray g (ray g axis) (ray g h) gg a.on b.on a.primitive b.primitive (zero_by (turn g (ray g axis) (ray g h)) (det g axis h) (order_is g axis h gg sa sh) z)))
+    (same_ray g (ray g axis) (ray g h) gg a.on b.on a.primitive b.primitive (zero_by (turn g (ray g axis) (ray g h)) (det g axis h) (order_is g axis h sa sh) z)))
   where
     off : false ≡ true → ⊥
     off e = cc
@@ -143,17 +152,17 @@ module _ (planes : List V3) (rules : AreTablePlanes planes) (c : ℕ) (g axis : 
   on_half e u = record {
     point = is_point g (facet_of planes e) (apart e u);
     from = ⊎_elim {C = (pos 0 <ℤ turn g (ray g axis) (vertex planes g e)) ⊎ (vertex planes g e ≡ ray g axis)}
-        (λ h. inl (positive_by (turn g (ray g axis) (vertex planes g e)) (det g axis (facet_of planes e)) (order_is g axis (facet_of planes e) gg axis_apart (apart e u)) h)) (λ q. inr q) u.upper;
+        (λ h. inl (positive_by (turn g (ray g axis) (vertex planes g e)) (det g axis (facet_of planes e)) (order_is g axis (facet_of planes e) axis_apart (apart e u)) h)) (λ q. inr q) u.upper;
   }
 
   -- the vertex of the axis is the first
   pub axis_first : (e : Entry) → U e → det g axis (facet_of planes e) ≡ pos 0 → vertex planes g e ≡ ray g axis
   axis_first e u z = sym (same_vertex g (ray g axis) gg (ray g axis) (vertex planes g e) (record { point = is_point g axis axis_apart; from = inr refl }) (on_half e u)
-      (zero_by (turn g (ray g axis) (vertex planes g e)) (det g axis (facet_of planes e)) (order_is g axis (facet_of planes e) gg axis_apart (apart e u)) z))
+      (zero_by (turn g (ray g axis) (vertex planes g e)) (det g axis (facet_of planes e)) (order_is g axis (facet_of planes e) axis_apart (apart e u)) z))
 
   module _ (e f : Entry) (ue : U e) (uf : U f) where
     sign_is : sign (turn g (vertex planes g e) (vertex planes g f)) ≡ sign (order_det planes g e f)
-    sign_is = order_is g (facet_of planes e) (facet_of planes f) gg (apart e ue) (apart f uf)
+    sign_is = order_is g (facet_of planes e) (facet_of planes f) (apart e ue) (apart f uf)
 
     -- entries that cross on one line do so in one vertex
     pub one_vertex : (order_det planes g e f ≡ pos 0) ↔ (vertex planes g e ≡ vertex planes g f)
