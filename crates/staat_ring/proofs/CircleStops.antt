@@ -1,5 +1,5 @@
 -- Stops of the circle of a plane among linked planes of a table, and the signs of planes from one to the next.
-use Rattle.std.proofs.Common.{◌≡◌, ◌≢◌, ⊎_elim, ℕ, ◌<◌, ◌≤◌, arith, ap, sym, ◌∙◌, List, length, All, Contains, pos, ◌+◌, ◌%◌, Bool, true, false, subst, refl, ◌<ℤ◌, ◌⊎◌, inl, inr, ℤ, neg_ℤ}
+use Rattle.std.proofs.Common.{◌≡◌, ◌≢◌, ⊎_elim, ℕ, ◌<◌, ◌≤◌, arith, ap, sym, ◌∙◌, List, length, All, Contains, pos, ◌+◌, ◌%◌, Bool, true, false, subst, refl, ◌<ℤ◌, ◌⊎◌, inl, inr, ℤ, neg_ℤ, zero, suc, negsuc}
 use Rattle.std.specs.Prelude.{map, Some, slice_get}
 use Rattle.std.specs.Ordering.{nat_cmp}
 use Rattle.std.specs.List.Sorted.{IsStrictlySortedBy}
@@ -15,7 +15,7 @@ use Rattle.staat_vec.specs.Vectors.{cross, dot, negative, origin, sign}
 use Rattle.staat_vec.proofs.Canons.{negative-negative}
 use Rattle.staat_vec.proofs.Primitives.{IsPrimitive-some, primitive-is}
 use Rattle.staat_vec.proofs.Unique.{from_place}
-use Rattle.staat_model.specs.Circles.{IsOnCircle, PassesThrough, Stop, IsLinked, IsNext}
+use Rattle.staat_model.specs.Circles.{IsOnCircle, PassesThrough, Stop, IsLinked, IsNext, IsAfter}
 use Rattle.staat_model.specs.Planes.{vertices}
 use Rattle.staat_model.proofs.Members.{All-from_members}
 use Rattle.staat_model.proofs.VertexLemmas.{in_vertices}
@@ -28,16 +28,14 @@ use Rattle.staat_vec.proofs.VecRing.{dot_cross_right}
 use Rattle.staat_vec.specs.declared.vector.Sign.TheVariants.{Zero}
 use Rattle.staat_ring.specs.StopSigns.{stop_sign, with_stop_signs}
 use Rattle.staat_ring.specs.CountedSigns.{Signed, state_at}
-use Rattle.staat_ring.proofs.StepSigns.{StepSigns}
 use Rattle.staat_ring.proofs.HalfTurn.{some_normal}
 use Rattle.staat_ring.proofs.Turns.{turn}
 use Rattle.staat_ring.specs.Belonging.{HoldSigns}
 use Rattle.staat_planes.specs.PairOrder.{plane_at}
 use Rattle.staat_ring.proofs.Sides.{side_is}
-use Rattle.staat_ring.proofs.TurnOrder.{turn_back, turn_negative_left}
+use Rattle.staat_ring.proofs.TurnOrder.{turn_back, turn_negative_left, turn_negative_right}
 use Rattle.staat_ring.proofs.StopSigns.{stop_signs_other, stop_signs_same, stop_signs_there}
-use Rattle.staat_ring.proofs.StepLaw.{step_signs}
-use Rattle.staat_vec.proofs.Signs.{negative_sign, positive_sign}
+use Rattle.staat_vec.proofs.Signs.{negative_sign, positive_sign, zero_sign}
 use Rattle.staat_vec.proofs.Naturals.{same_or}
 
 self_negative : (a : ℤ) → a ≡ neg_ℤ a → a ≡ pos 0
@@ -211,11 +209,53 @@ module _ (planes : List V3) (linked : List ℕ) (r : Ring) (apart : AreLinkedApa
     next : IsNext g stops S.vertex T.vertex
     next = is.circle.turns k S T (stop_there planes r k s ks) next_at
 
-    step : StepSigns planes linked c S T
-    step =
-        let cs = here s left_in in
-        let ct = here t reached_in in
-        step_signs planes linked c stops S T g apart is.circle is.circle.g_is refl cs ct (Contains-map (λ s. s.vertex) stops S cs) (Contains-map (λ s. s.vertex) stops T ct) next
+    -- a plane through the stop reached
+    reached_sign : (j : ℕ) (h : V3) → IsLinked planes linked j h → Contains T.through j → sign (dot h T.vertex) ≡ Zero
+    reached_sign j h hi cj =
+        let q = (pass t reached_in).each j cj in
+        ap sign (ap (λ x. dot x T.vertex) (same_Some h q.h (sym hi.is ∙ q.linked_is.is)) ∙ q.on)
+
+    -- a plane through neither keeps its sign, since its crossings do not lie between
+    sign_stays : (j : ℕ) (h : V3) → IsLinked planes linked j h → j ≢ c → (Contains S.through j → ⊥) → (Contains T.through j → ⊥) → sign (dot h S.vertex) ≡ sign (dot h T.vertex)
+    sign_stays j h hi ne ns nt = sym before ∙ agree (turn g S.vertex p) (turn g T.vertex p) left_off reached_off ahead behind ∙ after
+      where
+        apart_is : cross g h ≢ origin
+        apart_is = apart.apart c j g h is.circle.g_is hi (λ q. ne (sym q))
+
+        p : V3
+        p = primitive (cross g h)
+
+        before : sign (turn g S.vertex p) ≡ sign (dot h S.vertex)
+        before = side_is g h S.vertex (some_normal g h apart_is) (on_it s left_in) apart_is
+
+        after : sign (turn g T.vertex p) ≡ sign (dot h T.vertex)
+        after = side_is g h T.vertex (some_normal g h apart_is) (on_it t reached_in) apart_is
+
+        left_off : turn g S.vertex p ≢ pos 0
+        left_off z = ns ((pass s left_in).all j (record { h = h; linked_is = hi; different = ne; on = zero_sign (dot h S.vertex) (sym before ∙ ap sign z) }))
+
+        reached_off : turn g T.vertex p ≢ pos 0
+        reached_off z = nt ((pass t reached_in).all j (record { h = h; linked_is = hi; different = ne; on = zero_sign (dot h T.vertex) (sym after ∙ ap sign z) }))
+
+        between : (u : V3) → (u ≡ p) ⊎ (u ≡ negative p) → pos 0 <ℤ turn g S.vertex u → pos 0 <ℤ turn g u T.vertex → ⊥
+        between u is_p a b =
+            let (q, cq, e) = Contains-from_map (λ (q : Stop). q.vertex) stops u (is.circle.vertices.all u (record { other = j; h = h; other_is = hi; different = ne; is = is_p })) in
+            All-contains (λ q. IsAfter g S.vertex q.vertex → IsAfter g q.vertex T.vertex → ⊥) stops q next.nothing_between cq (subst (λ x. pos 0 <ℤ turn g S.vertex x) (sym e) a) (subst (λ x. pos 0 <ℤ turn g x T.vertex) (sym e) b)
+
+        ahead : pos 0 <ℤ turn g S.vertex p → turn g T.vertex p <ℤ pos 0 → ⊥
+        ahead a b = between p (inl refl) a (let e = turn_back g p T.vertex in omega (arith, ints, b, e))
+
+        behind : turn g S.vertex p <ℤ pos 0 → pos 0 <ℤ turn g T.vertex p → ⊥
+        behind a b = between (negative p) (inr refl) (let e = turn_negative_right g S.vertex p in omega (arith, ints, a, e)) (let e = turn_negative_left g p T.vertex in let f = turn_back g p T.vertex in omega (arith, ints, b, e, f))
+
+        agree : (a b : ℤ) → a ≢ pos 0 → b ≢ pos 0 → (pos 0 <ℤ a → b <ℤ pos 0 → ⊥) → (a <ℤ pos 0 → pos 0 <ℤ b → ⊥) → sign a ≡ sign b
+        agree (pos zero) b na nb up down = absurd (na refl)
+        agree (pos (suc a)) (pos zero) na nb up down = absurd (nb refl)
+        agree (pos (suc a)) (pos (suc b)) na nb up down = refl
+        agree (pos (suc a)) (negsuc b) na nb up down = absurd (up (omega (arith, ints)) (omega (arith, ints)))
+        agree (negsuc a) (pos zero) na nb up down = absurd (nb refl)
+        agree (negsuc a) (pos (suc b)) na nb up down = absurd (down (omega (arith, ints)) (omega (arith, ints)))
+        agree (negsuc a) (negsuc b) na nb up down = refl
 
     -- the planes through the stop left and then those through the stop reached get the signs there
     pub cross_signs : (now : Signed) → length now.states ≡ length planes → HoldSigns planes linked now S.vertex → HoldSigns planes linked (with_stop_signs false t.entries (with_stop_signs true s.entries now)) T.vertex
@@ -236,7 +276,7 @@ module _ (planes : List V3) (linked : List ℕ) (r : Ring) (apart : AreLinkedApa
         reached : Contains T.through j → (state_at after.states j).sign ≡ sign (dot h T.vertex)
         reached cj =
             let m = Contains-from_map (λ e. e.plane) t.entries j cj in
-            stop_signs_there false t.entries between j Zero lt_between (λ e ce q. refl) m.0 m.1 m.2 ∙ sym (step.reached j h hi cj)
+            stop_signs_there false t.entries between j Zero lt_between (λ e ce q. refl) m.0 m.1 m.2 ∙ sym (reached_sign j h hi cj)
 
         not_reached : (Contains T.through j → ⊥) → (state_at after.states j).sign ≡ (state_at between.states j).sign
         not_reached none = stop_signs_other false t.entries between j (λ e ce q. none (subst (Contains T.through) q (Contains-map (λ e. e.plane) t.entries e ce)))
@@ -254,7 +294,7 @@ module _ (planes : List V3) (linked : List ℕ) (r : Ring) (apart : AreLinkedApa
             (λ e.
             let same : h ≡ g = same_Some h g (sym hi.is ∙ (ap (slice_get planes) e ∙ is.circle.g_is.is)) in
             ap (λ x. sign (dot x S.vertex)) same ∙ (ap sign (on_it s left_in ∙ sym (on_it t reached_in)) ∙ ap (λ x. sign (dot x T.vertex)) (sym same)))
-            (λ ne. sym (step.same j h hi ne ns nt))
+            (λ ne. sign_stays j h hi ne ns nt)
             (same_or j c)))
 
         left_or : (Contains T.through j → ⊥) → (state_at after.states j).sign ≡ sign (dot h T.vertex)

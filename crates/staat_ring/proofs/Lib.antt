@@ -50,7 +50,6 @@ pub mod IndexLemmas
 pub mod PairNumbers
 pub mod Starting
 pub mod Walking
-pub mod StepLaw
 pub mod StopSigns
 pub mod SignAll
 pub mod CircleStops
@@ -62,7 +61,6 @@ pub mod CrossSteps
 pub mod Strength
 pub mod BlockSteps
 pub mod Turns
-pub mod StepSigns
 pub mod Taking
 pub mod Ends
 pub mod ListsWithout
