@@ -21,7 +21,7 @@ use Rattle.staat_ring.proofs.Stops.{none_parallel}
 use Rattle.staat_ring.proofs.CircleStops.{entries_ascend, entry_small, some}
 use Rattle.staat_ring.proofs.Mapped.{apart_from}
 use Rattle.staat_ring.proofs.Numbering.{entry_once, one_entry}
-use Rattle.staat_vec.proofs.Comparisons.{less_number}
+use Rattle.staat_vec.proofs.Comparisons.{head_less, tail_sorted}
 use Rattle.staat_vec.proofs.ListLaws.{Contains-from_map, Contains-map}
 use Rattle.staat_ring.specs.RingViews.{numbers_below, shape}
 use Rattle.staat_ring.proofs.StopSteps.{holds_still}
@@ -29,15 +29,14 @@ use Rattle.staat_vec.proofs.Naturals.{same_or}
 
 -- entries of ascending planes have different numbers
 distinct_numbers : (n c : ℕ) (es : List Entry) → ((e : Entry) → Contains es e → e.plane < n) → IsStrictlySortedBy nat_cmp (map (λ e. e.plane) es) → Distinct (map (entry_number n c) es)
-unfolding IsStrictlySortedBy
 distinct_numbers n c [] small s = tt
 distinct_numbers n c (e ∷ es) small s = (
   apart_from (entry_number n c e) (map (entry_number n c) es) (λ y cy q.
       let (f, cf, ef) = Contains-from_map (entry_number n c) es y cy in
-      let lt = less_number e.plane f.plane (All-contains (λ z. nat_cmp e.plane z ≡ Less) (map (λ e. e.plane) es) f.plane (All-from_recursion (λ z. nat_cmp e.plane z ≡ Less) (map (λ e. e.plane) es) s.0) (Contains-map (λ e. e.plane) es f cf)) in
+      let lt = head_less e.plane (map (λ e. e.plane) es) f.plane s (Contains-map (λ e. e.plane) es f cf) in
       let same = ap (λ x. x.plane) (one_entry n c e f (small e (Contains-front e es)) (small f (Contains-later e es f cf)) (sym q ∙ sym ef)) in
       absurd (omega (arith, lt, same))),
-  distinct_numbers n c es (λ f cf. small f (Contains-later e es f cf)) s.1,
+  distinct_numbers n c es (λ f cf. small f (Contains-later e es f cf)) (tail_sorted e.plane (map (λ e. e.plane) es) s),
 )
 
 module _ (planes : List V3) (table : AreTablePlanes planes) (linked : List ℕ) (c : ℕ) (stops : List (List Entry)) (is : IsRingOf planes linked (ring_by c stops)) where

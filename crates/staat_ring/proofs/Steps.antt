@@ -16,11 +16,6 @@ use Rattle.staat_ring.proofs.Sides.{turn_is_side}
 use Rattle.staat_vec.proofs.Integers.{positive_not_zero}
 use Rattle.staat_vec.proofs.VectorLaws.{some_square}
 
--- ---- sizes
-
-pub no_turn_origin : (v w : V3) → turn origin v w ≡ pos 0
-no_turn_origin v w = ring (values (v ∷ w ∷ []) []) (turnE (record { x = num (pos 0); y = num (pos 0); z = num (pos 0) }) v0 v1) (num (pos 0)) tt
-
 -- ---- a crossing lies on the plane
 
 pub primitive_on : (g u : V3) → dot g u ≡ pos 0 → u ≢ origin → dot g (primitive u) ≡ pos 0
