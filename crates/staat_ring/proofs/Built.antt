@@ -1,5 +1,5 @@
 -- Arrays in which all circles stand are good, and show the circles of the planes.
-use Rattle.std.proofs.Common.{◌≡◌, ◌≢◌, inl, ⊎_elim, ℕ, zero, suc, ◌+◌, ◌*◌, ◌<◌, ◌≤◌, Bool, true, false, not, arith, ap, refl, sym, subst, ◌∙◌, List, [], ◌∷◌, ◌++◌, length, get_or, All, Contains, take, add-one}
+use Rattle.std.proofs.Common.{◌≡◌, ◌≢◌, inl, ⊎_elim, ℕ, zero, suc, ◌+◌, ◌*◌, ◌<◌, ◌≤◌, Bool, true, false, not, arith, ap, refl, sym, subst, ◌∙◌, List, [], ◌∷◌, ◌++◌, length, get_or, Contains, take, add-one}
 use Rattle.std.specs.Prelude.{Some, map, slice_get, ◌==◌}
 use Rattle.std.specs.List.{filter}
 use Rattle.std.specs.Ordering.{nat_cmp}
@@ -22,7 +22,7 @@ use Rattle.staat_ring.specs.Links.{Arrays}
 use Rattle.staat_ring.specs.Linking.{AreLinkedBelow, CanBeLinked, HasCircle}
 use Rattle.staat_ring.specs.Numbered.{head_number, node_number, entry_number, plane_of, entry_numbered}
 use Rattle.staat_ring.specs.Planes.{entries_of, entries_on}
-use Rattle.staat_ring.specs.Rings.{AreRings, IsRingOf, NameVertex, Ring, RingStop, WereMadeFrom, linked_of, stop_of, vertex_of}
+use Rattle.staat_ring.specs.Rings.{AreRings, IsRingOf, NameVertex, RingStop, WereMadeFrom, linked_of, stop_of}
 use Rattle.staat_planes.specs.PairOrder.{plane_at}
 use Rattle.staat_ring.specs.RingInvariant.{HaveTakenOut}
 use Rattle.staat_ring.specs.RingViews.{StandForCircles, CanBeUndone, arrangement_of, numbers_below, is_out, ring_of, rings_of, shape, still_linked}

@@ -1,5 +1,5 @@
 -- A list that is read around, where members are left out of which no two follow each other.
-use Rattle.std.proofs.Common.{◌≡◌, ◌≢◌, ◌⊎◌, inl, inr, ⊎_elim, ℕ, zero, suc, ◌+◌, ◌%◌, ◌<◌, Bool, true, false, arith, ap, sym, subst, ◌∙◌, refl, List, [], ◌∷◌, length, cond, add-one}
+use Rattle.std.proofs.Common.{◌≡◌, ◌⊎◌, inl, inr, ⊎_elim, ℕ, zero, suc, ◌+◌, ◌%◌, ◌<◌, Bool, true, false, arith, ap, sym, subst, ◌∙◌, refl, List, [], ◌∷◌, length, cond, add-one}
 use Rattle.std.specs.Prelude.{Some, slice_get}
 use Rattle.std.specs.List.{filter}
 use Rattle.std.proofs.Math.Nat.{mod_self, mod-eq_of_lt}

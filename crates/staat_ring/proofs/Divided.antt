@@ -1,7 +1,7 @@
 -- Entries that are divided by the ends of stops, and their opposites after them.
 use Rattle.std.proofs.Common.{◌≡◌, ℕ, zero, suc, ◌+◌, ◌-◌, ◌<◌, ◌≤◌, arith, ap, sym, subst, ◌∙◌, refl, List, [], ◌∷◌, ◌++◌, length, get_or, map, take, drop}
 use Rattle.std.specs.List.{between}
-use Rattle.std.proofs.lemmas.List.{append_assoc, drop-drop, drop-map, drop_at, get_or_read, length-append, length-map, take-append-le, take-map, get_or_append_left, map_more, take_all}
+use Rattle.std.proofs.lemmas.List.{append_assoc, drop-drop, drop-map, drop_at, get_or_read, length-append, length-map, take-append-le, take-map, get_or_append_left, map_more}
 use Rattle.std.proofs.lemmas.Slice.{between_is}
 use Rattle.staat_ring.specs.declared.entry.Entry.{Entry}
 use Rattle.staat_ring.specs.Builds.{AreStopsFrom, all_around, opposite, stops_from}

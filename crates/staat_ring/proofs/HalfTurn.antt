@@ -9,11 +9,11 @@ use Rattle.staat_vec.specs.declared.vector.V3.{V3}
 use Rattle.staat_vec.specs.Primitives.{content, primitive}
 use Rattle.staat_vec.specs.Vectors.{cross, det, dot, negative, origin, sign}
 use Rattle.staat_vec.proofs.Canons.{negative-negative}
-use Rattle.staat_vec.proofs.Integers.{zero_from_opposite, zero_not_positive}
+use Rattle.staat_vec.proofs.Integers.{zero_not_positive}
 use Rattle.staat_vec.proofs.ListLaws.{Contains-map}
 use Rattle.staat_vec.proofs.Naturals.{lt_one_more_cases}
 use Rattle.staat_vec.proofs.Primitives.{primitive-is, primitive-negative}
-use Rattle.staat_vec.proofs.Ring.{num, opp, ring}
+use Rattle.staat_vec.proofs.Ring.{opp, ring}
 use Rattle.staat_vec.proofs.Signs.{positive_sign, sign_positive, times_sign, zero_sign}
 use Rattle.staat_vec.proofs.VecRing.{crossE, detE, dot_cross_left, negativeE, ring3, same_vector, v0, v1, v2, values, dot_scale, dot_comm}
 use Rattle.staat_vec.proofs.VectorLaws.{cross_origin, det_dot, some_square}
@@ -23,7 +23,7 @@ use Rattle.staat_model.specs.Planes.{axes}
 use Rattle.staat_pairs.specs.Tables.{AreTablePlanes}
 use Rattle.staat_ring.specs.declared.entry.Entry.{Entry}
 use Rattle.staat_ring.specs.Builds.{AreUpper, IsUpper, IsUpperEntry, key_entry, ray}
-use Rattle.staat_ring.specs.Order.{HasEntryOfPlane, IsOrderOf, IsTransitive, CrossesBefore, facet_of, order_det}
+use Rattle.staat_ring.specs.Order.{HasEntryOfPlane, IsTransitive, CrossesBefore, facet_of, order_det}
 use Rattle.staat_ring.specs.Rings.{facet_by}
 use Rattle.staat_planes.specs.PairOrder.{plane_at}
 use Rattle.staat_ring.proofs.NextVertexWithout.{IsPoint, same_ray}

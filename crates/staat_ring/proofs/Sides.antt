@@ -1,5 +1,5 @@
 -- On which side of a plane a vertex lies, by the turn to a crossing.
-use Rattle.std.proofs.Common.{◌≡◌, ◌≢◌, ap, ◌∙◌, ℤ, pos, ◌*ℤ◌, [], ◌∷◌, ◌<ℤ◌, sym, ℕ}
+use Rattle.std.proofs.Common.{◌≡◌, ◌≢◌, ap, ◌∙◌, ℤ, pos, ◌*ℤ◌, [], ◌∷◌, ◌<ℤ◌, sym}
 use Rattle.staat_vec.specs.declared.vector.V3.{V3}
 use Rattle.staat_vec.specs.Vectors.{dot, cross, origin, sign}
 use Rattle.staat_vec.specs.Primitives.{primitive, content}

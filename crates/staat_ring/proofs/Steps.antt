@@ -7,7 +7,7 @@ use Rattle.staat_vec.specs.Primitives.{primitive, content}
 use Rattle.staat_model.specs.Circles.{IsLinked, IsOnCircle}
 use Rattle.staat_ring.proofs.Turns.{turn}
 use Rattle.staat_ring.proofs.Stops.{AreLinkedApart}
-use Rattle.staat_vec.proofs.Ring.{num, ◌⊕◌, ◌⊗◌, ring, zero-mul_ℤ}
+use Rattle.staat_vec.proofs.Ring.{◌⊕◌, ◌⊗◌, ring, zero-mul_ℤ}
 use Rattle.staat_vec.proofs.VecRing.{dotE, detE, values, v0, v1, v2, v3, dot_cross_left, dot_negative, dot_scale}
 use Rattle.staat_vec.proofs.Order.{pos_mul, cancel_zero}
 use Rattle.staat_ring.proofs.TurnOrder.{turnE, turn_back}

@@ -1,8 +1,7 @@
-use Rattle.std.proofs.Common.{◌<◌, subst, ◌≡◌, ℕ, arith, sym}
+use Rattle.std.proofs.Common.{subst, ◌≡◌, arith}
 use Rattle.staat_ring.specs.RingViews.{numbers_below}
 use Rattle.staat_ring.proofs.Built.{below_all}
 use Rattle.staat_ring.proofs.CircleSteps.{can, none_below, one_more}
-use Rattle.std.proofs.lemmas.Result.{err_from_is_err_and}
 use Rattle.staat_ring.specs.Linking.{AreLinkedBelow}
 use Rattle.staat_ring.proofs.build.linked_arrays.Goals as goal
 

@@ -1,10 +1,9 @@
-use Rattle.std.proofs.Common.{[], ℕ, ℤ, ◌<◌, Bool, false, get_or, length, map, pos, subst, sym, take, ◌+◌}
-use Rattle.std.proofs.lemmas.List.{map_more, take_all}
+use Rattle.std.proofs.Common.{ℕ, ℤ, ◌<◌, Bool, false, get_or, length, map, pos, subst, take, ◌+◌}
+use Rattle.std.proofs.lemmas.List.{map_more}
 use Rattle.std.proofs.lemmas.List.Elements.{All-contains, All-take}
 use Rattle.staat_vec.proofs.ListLaws.{Contains-from_map}
 use Rattle.staat_ring.specs.declared.entry.Entry.{Entry}
 use Rattle.staat_ring.specs.Builds.{key_entry}
-use Rattle.staat_ring.specs.Order.{IsOrderOf}
 use Rattle.staat_ring.proofs.Ordering.{order_more, order_within}
 use Rattle.staat_ring.proofs.order.in_order.Goals as goal
 

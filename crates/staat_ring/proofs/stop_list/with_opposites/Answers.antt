@@ -1,5 +1,4 @@
-use Rattle.std.proofs.Common.{◌<◌, ◌∙◌, arith, length, sym}
-use Rattle.std.proofs.lemmas.List.{append-nil}
+use Rattle.std.proofs.Common.{◌<◌, arith, length}
 use Rattle.staat_ring.specs.Builds.{opposite}
 use Rattle.staat_ring.proofs.Divided.{image_at, image_more}
 use Rattle.staat_ring.proofs.stop_list.with_opposites.Goals as goal

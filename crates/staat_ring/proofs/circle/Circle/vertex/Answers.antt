@@ -1,4 +1,4 @@
-use Rattle.std.proofs.Common.{◌<◌, ap, length, subst, sym, ◌∙◌}
+use Rattle.std.proofs.Common.{ap, ◌∙◌}
 use Rattle.staat_vec.proofs.Unique.{from_place}
 use Rattle.staat_ring.specs.Rings.{Ring, crossing}
 use Rattle.staat_ring.specs.WholeCircles.{stop_at}
