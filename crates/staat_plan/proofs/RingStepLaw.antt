@@ -20,7 +20,7 @@ use Rattle.staat_ring.specs.declared.entry.Entry.{Entry}
 use Rattle.staat_ring.specs.Rings.{IsRingOf, Ring, RingStop, crossing, linked_of, vertex_of}
 use Rattle.staat_ring.specs.Rings.{AreRings}
 use Rattle.staat_planes.specs.PairOrder.{plane_at}
-use Rattle.staat_ring.proofs.Covered.{entry_there, entry_vertex}
+use Rattle.staat_ring.proofs.CircleStops.{entry_there, entry_vertex}
 use Rattle.staat_ring.proofs.Stops.{none_parallel}
 use Rattle.staat_plan.specs.declared.ring_step.Serving.{Serving}
 use Rattle.staat_plan.specs.RingSearches.{HasServing, IsBest, IsServing, NoneServes, pair_key}

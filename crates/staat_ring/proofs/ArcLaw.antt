@@ -34,7 +34,8 @@ use Rattle.staat_ring.specs.Rings.{facet_by}
 use Rattle.staat_planes.specs.PairOrder.{plane_at}
 use Rattle.staat_ring.proofs.PairLemmas.{one}
 use Rattle.staat_ring.proofs.Strength.{strong_same}
-use Rattle.staat_vec.proofs.Truth.{and_false}
+use Rattle.staat_vec.proofs.Truth.{and_false, false_true_clash}
+use Rattle.staat_vec.proofs.Unique.{Contains-cases, Contains-front, Contains-later, Contains-nothing}
 use Rattle.staat_vec.proofs.ListLaws.{Contains-map}
 
 -- ---- the count of positive facets is the count of by_plane that are ahead
@@ -69,22 +70,19 @@ positives-none states q along against = sum_by-total (λ s. occurs q (positive_p
 
 -- ---- all are counted
 
-all_counted : {X : Type 0} (p : X → Bool) (xs : List X) → length xs ≤ count_by p xs → (x : X) → Contains xs x → p x ≡ true
-all_counted p [] h x c = absurd (omega arith)
-all_counted {X = X} p (v ∷ xs) h x c = go (p v) refl (all_counted p xs) c
+counted : {X : Type 0} (p : X → Bool) (xs : List X) → (length xs ≤ count_by p xs) ↔ ((x : X) → Contains xs x → p x ≡ true)
+counted p [] = (λ h x c. absurd (Contains-nothing x c), λ h. omega arith)
+counted {X = X} p (v ∷ xs) = by (p v) refl (counted p xs)
   where
-    go : (b : Bool) → p v ≡ b → (length xs ≤ count_by p xs → (x : X) → Contains xs x → p x ≡ true) → Contains (v ∷ xs) x → p x ≡ true
-    go true e rest (zero, lt, is) = ap p (sym is) ∙ e
-    go true e rest (suc i, lt, is) = rest (let o = ap one e in omega (arith, o, h, sum_by-cons (λ x. one (p x)) v xs)) x (i, omega arith, is)
-    go false e rest c = absurd (let o = ap one e in let l = count_by-le-length p xs in omega (arith, o, h, l, sum_by-cons (λ x. one (p x)) v xs))
-
-counted_all : {X : Type 0} (p : X → Bool) (xs : List X) → ((x : X) → Contains xs x → p x ≡ true) → count_by p xs ≡ length xs
-counted_all p [] h = refl
-counted_all p (v ∷ xs) h =
-    let o = ap one (h v (zero, omega arith, refl)) in
-    let r = counted_all p xs (λ x c. h x (suc c.0, omega (arith, c.1), c.2)) in
-    let s = sum_by-cons (λ x. one (p x)) v xs in
-    omega (arith, o, r, s)
+    by : (b : Bool) → p v ≡ b → (length xs ≤ count_by p xs) ↔ ((x : X) → Contains xs x → p x ≡ true) → (length (v ∷ xs) ≤ count_by p (v ∷ xs)) ↔ ((x : X) → Contains (v ∷ xs) x → p x ≡ true)
+    by true e (to, from) =
+        let o = ap one e in
+        let s = sum_by-cons (λ x. one (p x)) v xs in
+        (λ h x c. ⊎_elim {C = p x ≡ true} (λ q. ap p q ∙ e) (to (omega (arith, o, h, s)) x) (Contains-cases v xs x c), λ h. let l = from (λ x c. h x (Contains-later v xs x c)) in omega (arith, o, l, s))
+    by false e ih = (
+      λ h. absurd (let o = ap one e in let l = count_by-le-length p xs in omega (arith, o, h, l, sum_by-cons (λ x. one (p x)) v xs)),
+      λ h. absurd (false_true_clash (p v) e (h v (Contains-front v xs))),
+    )
 
 -- the count of what f makes of them
 count_by-map : {X Y : Type 0} (p : X → Bool) (g : Y → Bool) (f : X → Y) (xs : List X) → ((x : X) → Contains xs x → p x ≡ g (f x)) → count_by p xs ≡ count_by g (map f xs)
@@ -165,10 +163,13 @@ module _ (parts : List Part) (t : Table) (s : Signed) (linked : List ℕ) (v : V
         ∙ ap (positive_at v) is.index.are)
 
     ahead_of_full : length facets ≤ positives q s.states → (n : V3) → Contains facets n → pos 0 <ℤ dot n v
-    ahead_of_full le n c = from_test (dot n v) (all_counted (λ n. int_lt (pos 0) (dot n v)) facets (let e = count in omega (arith, e, le)) n c)
+    ahead_of_full le n c = from_test (dot n v) ((counted (λ n. int_lt (pos 0) (dot n v)) facets).0 (let e = count in omega (arith, e, le)) n c)
 
     full_of_ahead : ((n : V3) → Contains facets n → pos 0 <ℤ dot n v) → positives q s.states ≡ length facets
-    full_of_ahead all = count ∙ counted_all (λ n. int_lt (pos 0) (dot n v)) facets (λ n c. let h = all n c in grind (arith, ints, h))
+    full_of_ahead all =
+        let most = count_by-le-length (λ n. int_lt (pos 0) (dot n v)) facets in
+        let full = (counted (λ n. int_lt (pos 0) (dot n v)) facets).1 (λ n c. let h = all n c in grind (arith, ints, h)) in
+        let e = count in omega (arith, e, most, full)
 
     pub full_says : (length facets ≤ positives q s.states) ↔ All (λ n. pos 0 <ℤ dot n v) facets
     full_says = (

@@ -1,44 +1,46 @@
 -- Arrays in which all circles stand are good, and show the circles of the planes.
-use Rattle.std.proofs.Common.{◌≡◌, ◌≢◌, inl, ⊎_elim, ℕ, zero, suc, ◌+◌, ◌*◌, ◌<◌, ◌≤◌, Bool, true, false, not, arith, ap, refl, sym, subst, ◌∙◌, List, [], ◌∷◌, ◌++◌, length, get_or, All, Contains, take, eq-eqb}
+use Rattle.std.proofs.Common.{◌≡◌, ◌≢◌, inl, ⊎_elim, ℕ, zero, suc, ◌+◌, ◌*◌, ◌<◌, ◌≤◌, Bool, true, false, not, arith, ap, refl, sym, subst, ◌∙◌, List, [], ◌∷◌, ◌++◌, length, get_or, Contains, take, add-one}
 use Rattle.std.specs.Prelude.{Some, map, slice_get, ◌==◌}
 use Rattle.std.specs.List.{filter}
 use Rattle.std.specs.Ordering.{nat_cmp}
 use Rattle.std.specs.List.Sorted.{IsStrictlySortedBy}
-use Rattle.std.proofs.Math.ListN.{length-append}
-use Rattle.std.proofs.lemmas.List.{get_or_default, length-map}
-use Rattle.std.proofs.lemmas.List.Elements.{All-contains, Contains-append_cases, Contains-append_left, Contains-append_right}
+use Rattle.std.specs.List.{range_with_len}
+use Rattle.std.proofs.lemmas.List.{get_or_default}
+use Rattle.std.proofs.lemmas.List.Folds.{map_fixed}
+use Rattle.std.proofs.lemmas.List.FromFn.{get_or-map-range_with_len, length-map-range_with_len, map-range_with_len_more}
+use Rattle.std.proofs.lemmas.List.Elements.{All-contains, All-map, Contains-append_left, Contains-append_right, Contains-get_or}
 use Rattle.std.proofs.lemmas.Map.Keys.{sorted_from_strictly_increasing}
 use Rattle.std.proofs.lemmas.Option.{get_or_from_slice_get, slice_get_within}
 use Rattle.staat_vec.specs.declared.vector.V3.{V3}
 use Rattle.staat_vec.specs.Vectors.{origin}
 use Rattle.staat_pairs.specs.Tables.{AreTablePlanes}
 use Rattle.staat_model.proofs.Members.{All-from_members}
-use Rattle.staat_model.specs.Circles.{IsLinked, Stop}
+use Rattle.staat_model.specs.Circles.{IsCircle, IsLinked}
 use Rattle.staat_ring.specs.declared.entry.Entry.{Entry}
 use Rattle.staat_ring.specs.Builds.{ring_by, slot_at}
 use Rattle.staat_ring.specs.Links.{Arrays}
 use Rattle.staat_ring.specs.Linking.{AreLinkedBelow, CanBeLinked, HasCircle}
 use Rattle.staat_ring.specs.Numbered.{head_number, node_number, entry_number, plane_of, entry_numbered}
 use Rattle.staat_ring.specs.Planes.{entries_of, entries_on}
-use Rattle.staat_ring.specs.Rings.{AreRings, IsRingOf, Ring, RingStop, WereMadeFrom, linked_of, stop_of, vertex_of}
+use Rattle.staat_ring.specs.Rings.{AreRings, IsRingOf, NameVertex, RingStop, WereMadeFrom, linked_of, stop_of}
 use Rattle.staat_planes.specs.PairOrder.{plane_at}
 use Rattle.staat_ring.specs.RingInvariant.{HaveTakenOut}
 use Rattle.staat_ring.specs.RingViews.{StandForCircles, CanBeUndone, arrangement_of, numbers_below, is_out, ring_of, rings_of, shape, still_linked}
-use Rattle.staat_ring.specs.Stands.{AllPresent, IsPresent, IsRing, StandFor, Tagged, home_of, is_empty}
+use Rattle.staat_ring.specs.Stands.{AllPresent, EachEntry, EachVertex, IsPresent, IsRing, StandFor, Tagged, home_of, is_empty}
 use Rattle.staat_ring.specs.Within.{InRange}
 use Rattle.staat_ring.specs.Views.{lists_of}
-use Rattle.staat_ring.proofs.Covered.{entry_there}
-use Rattle.staat_ring.proofs.Linkable.{can_be_linked, other_plane}
+use Rattle.staat_ring.proofs.CircleStops.{entry_other, entry_there}
+use Rattle.staat_ring.proofs.CircleSteps.{can_be_linked}
 use Rattle.staat_ring.proofs.Mapped.{few_below}
 use Rattle.staat_ring.proofs.Numbering.{entry_back, head_circle, head_small}
-use Rattle.staat_ring.proofs.RingLemmas.{below_small}
+use Rattle.staat_ring.proofs.RingLemmas.{below_small, map_same}
 use Rattle.staat_ring.proofs.RowRules as rules
-use Rattle.staat_ring.proofs.SoundLemmas.{two_cases}
+use Rattle.staat_ring.proofs.SoundLemmas.{entry_in, two_cases}
 use Rattle.staat_ring.proofs.Stops.{none_parallel}
 use Rattle.staat_ring.proofs.Unlinking.{planes_of_rings}
 use Rattle.staat_ring.proofs.ViewLemmas.{nodes_of_is}
 use Rattle.staat_vec.proofs.Naturals.{lt_suc_cases}
-use Rattle.staat_vec.proofs.ListLaws.{Contains-from_map, Contains-map}
+use Rattle.staat_vec.proofs.ListLaws.{Contains-from_map, Contains-map, map_twice, place_in_map}
 
 -- ---- the planes below n
 
@@ -50,44 +52,26 @@ all_stay : (xs : List ℕ) → filter (λ c. not (is_out [] c)) xs ≡ xs
 all_stay [] = refl
 all_stay (x ∷ xs) = ap (λ ys. x ∷ ys) (all_stay xs)
 
-length_below : (n : ℕ) → length (numbers_below n) ≡ n
-length_below zero = refl
-length_below (suc n) = length-append (numbers_below n) (n ∷ []) ∙ (let e = length_below n in omega (arith, e))
+below_is : (n : ℕ) → numbers_below n ≡ map (λ k. k) (range_with_len 0 n)
+below_is zero = refl
+below_is (suc n) = ap (λ xs. xs ++ n ∷ []) (below_is n) ∙ sym (map-range_with_len_more (λ k. k) 0 n n (omega arith)) ∙ ap (λ m. map (λ k. k) (range_with_len 0 m)) (add-one n)
 
-pub below_all : (n c : ℕ) → c < n → Contains (numbers_below n) c
-below_all zero c lt = absurd (omega (arith, lt))
-below_all (suc n) c lt = ⊎_elim {C = Contains (numbers_below (suc n)) c} (λ l. Contains-append_left (numbers_below n) (n ∷ []) c (below_all n c l)) (λ e. Contains-append_right (numbers_below n) (n ∷ []) c (zero, omega arith, sym e)) (lt_suc_cases c n lt)
+length_below : (n : ℕ) → length (numbers_below n) ≡ n
+length_below n = ap length (below_is n) ∙ length-map-range_with_len (λ k. k) 0 n
 
 below_at : (n k : ℕ) → k < n → get_or (numbers_below n) k 0 ≡ k
-below_at zero k lt = absurd (omega (arith, lt))
-below_at (suc n) k lt = go (numbers_below n) (length_below n) (below_at n k)
-  where
-    go : (xs : List ℕ) → length xs ≡ n → (k < n → get_or xs k 0 ≡ k) → get_or (xs ++ n ∷ []) k 0 ≡ k
-    go xs e ih = ⊎_elim {C = get_or (xs ++ n ∷ []) k 0 ≡ k}
-        (λ l. Rattle.std.proofs.lemmas.List.get_or_append_left xs (n ∷ []) 0 k (let q : k < length xs = omega (arith, l, e) in q) ∙ ih l)
-        (λ q. Rattle.std.proofs.lemmas.List.get_or_push xs n 0 k (e ∙ sym q) ∙ sym q) (lt_suc_cases k n lt)
+below_at n k lt = ap (λ xs. get_or xs k 0) (below_is n) ∙ get_or-map-range_with_len (λ k. k) 0 n k k 0 lt (omega arith)
+
+pub below_all : (n c : ℕ) → c < n → Contains (numbers_below n) c
+below_all n c lt = subst (Contains (numbers_below n)) (below_at n c lt) (Contains-get_or (numbers_below n) c 0 (omega (arith, lt, length_below n)))
 
 -- ---- the entries of a plane
-
-entry_in : (n p k e : ℕ) → Contains (entries_of n p k) e → (c : ℕ) × (c < k) × Contains (entries_on n p c) e
-entry_in n p zero e c = absurd (omega (arith, c.1))
-entry_in n p (suc k) e c = ⊎_elim {C = (c : ℕ) × (c < suc k) × Contains (entries_on n p c) e}
-    (λ a. let (d, l, x) = entry_in n p k e a in (d, omega (arith, l), x))
-    (λ b. (k, omega arith, b))
-    (Contains-append_cases (entries_of n p k) (entries_on n p k) e c)
 
 pub in_entries : (n p k c e : ℕ) → c < k → Contains (entries_on n p c) e → Contains (entries_of n p k) e
 in_entries n p zero c e lt x = absurd (omega (arith, lt))
 in_entries n p (suc k) c e lt x = ⊎_elim {C = Contains (entries_of n p (suc k)) e}
     (λ l. Contains-append_left (entries_of n p k) (entries_on n p k) e (in_entries n p k c e l x))
     (λ q. Contains-append_right (entries_of n p k) (entries_on n p k) e (subst (λ d. Contains (entries_on n p d) e) q x)) (lt_suc_cases c k lt)
-
-on_other : (n p c e : ℕ) → Contains (entries_on n p c) e → c ≢ p
-on_other n p c e x q = none (c == p) (eq-eqb c p q) x
-  where
-    none : (b : Bool) → b ≡ true → Contains (Rattle.std.specs.Prelude.if◌then◌else◌ b [] ((2 * (c * n + p)) ∷ (2 * (c * n + p) + 1) ∷ [])) e → ⊥
-    none true h (k, lt, w) = absurd (omega (arith, lt))
-    none false h x = cc
 
 on_circle : (n c : ℕ) (e : Entry) → c ≢ e.plane → Contains (entries_on n e.plane c) (entry_number n c e)
 on_circle n c e ne = go (c == e.plane) (Rattle.staat_vec.proofs.Naturals.eq_test_false c e.plane ne) e.turned
@@ -110,11 +94,8 @@ tagged_by tag t (x ∷ xs) h = (h x (zero, omega arith, refl), tagged_by tag t x
 ring_renamed : (planes : List V3) (linked : List ℕ) (c : ℕ) (f : List Entry → ℕ) (stops : List (List Entry)) → IsRingOf planes linked (ring_by c stops)
     → IsRingOf planes linked (record { plane = c; stops = map (λ es. record { node = f es; entries = es }) stops })
 ring_renamed planes linked c f stops is = record {
-  circle = subst (Rattle.staat_model.specs.Circles.IsCircle planes linked c) (map_twice' zero_stop ∙ sym (map_twice' named)) is.circle;
-  agree = All-from_members (λ s. All (λ e. Rattle.staat_ring.specs.Rings.crossing planes c e ≡ vertex_of planes c s.entries) s.entries) (map named stops) (λ s cs.
-      let (es, ce, q) = Contains-from_map named stops s cs in
-      subst (λ (x : RingStop). All (λ e. Rattle.staat_ring.specs.Rings.crossing planes c e ≡ vertex_of planes c x.entries) x.entries) q
-      (All-contains (λ s. All (λ e. Rattle.staat_ring.specs.Rings.crossing planes c e ≡ vertex_of planes c s.entries) s.entries) (map zero_stop stops) (zero_stop es) is.agree (Contains-map zero_stop stops es ce)));
+  circle = subst (IsCircle planes linked c) (map_twice (stop_of planes c) zero_stop stops ∙ sym (map_twice (stop_of planes c) named stops)) is.circle;
+  agree = All-map (NameVertex planes c) named stops (All-from_members (λ es. NameVertex planes c (zero_stop es)) stops (λ es ce. All-contains (NameVertex planes c) (map zero_stop stops) (zero_stop es) is.agree (Contains-map zero_stop stops es ce)));
 }
   where
     zero_stop : List Entry → RingStop
@@ -122,13 +103,6 @@ ring_renamed planes linked c f stops is = record {
 
     named : List Entry → RingStop
     named es = record { node = f es; entries = es }
-
-    map_twice' : (g : List Entry → RingStop) → map (stop_of planes c) (map g stops) ≡ map (λ es. stop_of planes c (g es)) stops
-    map_twice' g = go stops
-      where
-        go : (xs : List (List Entry)) → map (stop_of planes c) (map g xs) ≡ map (λ es. stop_of planes c (g es)) xs
-        go [] = refl
-        go (x ∷ xs) = ap (λ ys. stop_of planes c (g x) ∷ ys) (go xs)
 
 module _ (planes : List V3) (table : AreTablePlanes planes) (few : length planes ≤ 1024) (least : 3 ≤ length planes) (a : Arrays)
     (circles_in : InRange a.circles) (vertices_in : InRange a.vertices) (are : AreLinkedBelow planes (length planes) (length planes) a) where
@@ -205,18 +179,14 @@ module _ (planes : List V3) (table : AreTablePlanes planes) (few : length planes
   pub entries_are : (c : ℕ) (lc : c < n) (k : ℕ) → k < length (stops c lc) → l.entries (node c lc k) ≡ numbers c lc k
   entries_are c lc k lk = nodes_of_is a.vertices (home_of a) (node c lc k) (numbers c lc k) (short_stop c lc k lk) (stop_ring c lc k lk)
 
-  -- ---- a vertex of the lists is the node of a stop
+  -- ---- a vertex of the lists is the node of a stop, and its entries are the numbers of the entries there
 
-  record IsNode (c : ℕ) (lc : c < n) (v : ℕ) : Type 0 where
-    place : ℕ
-    within : place < length (stops c lc)
-    is : node c lc place ≡ v
+  each_vertex : (P : ℕ → ℕ → Type 0) → ((c : ℕ) (lc : c < n) (k : ℕ) → k < length (stops c lc) → P c (node c lc k)) → EachVertex n l P
+  each_vertex P h c v lc cv = let (k, lk, q) = rules.node_in n c lc (stops c lc) (can c lc) v (subst (λ xs. Contains xs v) (vertices_are c lc) cv) in subst (P c) q (h c lc k lk)
 
-  node_of : (c : ℕ) (lc : c < n) (v : ℕ) → Contains (l.vertices c) v → IsNode c lc v
-  node_of c lc v cv = let (k, lk, q) = rules.node_in n c lc (stops c lc) (can c lc) v (subst (λ xs. Contains xs v) (vertices_are c lc) cv) in record { place = k; within = lk; is = q }
-
-  entries_at : (c : ℕ) (lc : c < n) (v : ℕ) (o : IsNode c lc v) → l.entries v ≡ numbers c lc o.place
-  entries_at c lc v o = ap l.entries (sym o.is) ∙ entries_are c lc o.place o.within
+  each_entry : (P : ℕ → ℕ → ℕ → Type 0) → ((c : ℕ) (lc : c < n) (k : ℕ) → k < length (stops c lc) → (x : Entry) → Contains (slot c lc k) x → P c (node c lc k) (entry_number n c x)) → EachEntry n l P
+  each_entry P h c v e lc cv = each_vertex (λ c v. (e : ℕ) → Contains (l.entries v) e → P c v e) (λ c lc k lk e ce.
+      let (x, cx, q) = Contains-from_map (entry_number n c) (slot c lc k) e (subst (λ xs. Contains xs e) (entries_are c lc k lk) ce) in subst (P c (node c lc k)) q (h c lc k lk x cx)) c v lc cv e
 
   stands : StandFor (shape n) l a
   stands = record {
@@ -224,15 +194,10 @@ module _ (planes : List V3) (table : AreTablePlanes planes) (few : length planes
     vertices_in_range = vertices_in;
     heads = λ c lc. head_circle n c lc;
     circles = λ c lc. subst (λ xs. IsRing a.circles (shape n).circle (head_number n c) xs) (sym (vertices_are c lc)) (circle_ring c lc);
-    owns = λ c v lc cv. let o = node_of c lc v cv in subst (λ x. home_of a x ≡ x) o.is (own c lc o.place o.within);
-    vertices = λ c v lc cv. let o = node_of c lc v cv in
-        subst (λ x. IsRing a.vertices (home_of a) x (l.entries x)) o.is (subst (λ xs. IsRing a.vertices (home_of a) (node c lc o.place) xs) (sym (entries_are c lc o.place o.within)) (stop_ring c lc o.place o.within));
-    within = λ c v lc cv. let o = node_of c lc v cv in let w = rules.node_within n c lc (stops c lc) (can c lc) o.place o.within in let s = are.sizes.circles in let q = o.is in omega (arith, w, s, q);
-    entries_within = λ c v e lc cv ce.
-        let o = node_of c lc v cv in
-        let (x, cx, q) = Contains-from_map (entry_number n c) (slot c lc o.place) e (subst (λ xs. Contains xs e) (entries_at c lc v o) ce) in
-        let w = rules.number_within n c lc (stops c lc) (can c lc) o.place o.within x cx in
-        let s = are.sizes.vertices in omega (arith, w, s, q);
+    owns = each_vertex (λ c v. home_of a v ≡ v) own;
+    vertices = each_vertex (λ c v. IsRing a.vertices (home_of a) v (l.entries v)) (λ c lc k lk. subst (λ xs. IsRing a.vertices (home_of a) (node c lc k) xs) (sym (entries_are c lc k lk)) (stop_ring c lc k lk));
+    within = each_vertex (λ c v. v < length a.circles.next) (λ c lc k lk. let w = rules.node_within n c lc (stops c lc) (can c lc) k lk in let s = are.sizes.circles in omega (arith, w, s));
+    entries_within = each_entry (λ c v e. e < length a.vertices.next) (λ c lc k lk x cx. let w = rules.number_within n c lc (stops c lc) (can c lc) k lk x cx in let s = are.sizes.vertices in omega (arith, w, s));
   }
 
   -- ---- each entry stands somewhere
@@ -243,8 +208,9 @@ module _ (planes : List V3) (table : AreTablePlanes planes) (few : length planes
   present_at : (c : ℕ) (lc : c < n) (e : Entry) → e.plane < n → e.plane ≢ c → IsPresent (shape n) l a (entry_number n c e)
   present_at c lc e lp ne =
       let t = entry_there planes (numbers_below n) (ring_by c (stops c lc)) (none_parallel planes (numbers_below n) table) (has c lc).ring e (plane_at planes e.plane) (linked_at e.plane lp) ne in
-      let lk : t.place < length (stops c lc) = subst (λ m. t.place < m) (length-map (stops c lc) (λ es. record { node = 0; entries = es })) (slice_get_within (map (λ es. record { node = 0; entries = es }) (stops c lc)) t.place t.stop t.is) in
-      let ce : Contains (slot c lc t.place) e = subst (λ (s : RingStop). Contains s.entries e) (same t.place t.stop lk t.is) t.listed in
+      let (es, at, q) = place_in_map (λ es. record { node = 0; entries = es }) (stops c lc) t.place t.stop t.is in
+      let lk = slice_get_within (stops c lc) t.place es at in
+      let ce : Contains (slot c lc t.place) e = subst (λ xs. Contains xs e) (sym (get_or_from_slice_get (stops c lc) t.place es [] at)) (subst (λ (s : RingStop). Contains s.entries e) (sym q) t.listed) in
       let h : home_of a (entry_number n c e) ≡ node c lc t.place = home_at c lc t.place lk e ce in
       let q : (shape n).circle (home_of a (entry_number n c e)) ≡ c = ap (shape n).circle h ∙ rules.circle_of_node n c lc (stops c lc) (can c lc) t.place lk in
       record {
@@ -252,15 +218,12 @@ module _ (planes : List V3) (table : AreTablePlanes planes) (few : length planes
         vertex = subst (λ d. Contains (l.vertices d) (home_of a (entry_number n c e))) (sym q) (subst (Contains (l.vertices c)) (sym h) (subst (λ xs. Contains xs (node c lc t.place)) (sym (vertices_are c lc)) (Contains-map (node_number n c) (stops c lc) (slot c lc t.place) (rules.slot_in n c lc (stops c lc) (can c lc) t.place lk))));
         entry = subst (λ v. Contains (l.entries v) (entry_number n c e)) (sym h) (subst (λ xs. Contains xs (entry_number n c e)) (sym (entries_are c lc t.place lk)) (Contains-map (entry_number n c) (slot c lc t.place) e ce));
       }
-    where
-      same : (k : ℕ) (s : RingStop) (lk : k < length (stops c lc)) → slice_get (map (λ es. record { node = 0; entries = es }) (stops c lc)) k ≡ Some s → s ≡ record { node = 0; entries = slot c lc k }
-      same k s lk e = Rattle.std.proofs.lemmas.Option.same_Some s (record { node = 0; entries = slot c lc k }) (sym e ∙ (Rattle.std.proofs.lemmas.Option.slice_get-map (λ es. record { node = 0; entries = es }) (stops c lc) k ∙ ap (Rattle.std.specs.Prelude.option_map (λ es. record { node = 0; entries = es })) (Rattle.std.proofs.lemmas.Option.slice_get-get_or (stops c lc) k [] lk)))
 
   present_number : (p : ℕ) → p < n → (e : ℕ) → Contains (entries_of n p n) e → IsPresent (shape n) l a e
   present_number p lp e ce =
       let (c, lc, x) = entry_in n p n e ce in
-      let (s, ls, q) = two_cases n p c e x in
-      by c lc (λ w. on_other n p c e x (sym w)) s ls q
+      let (s, ls, q, ne) = two_cases n p c e x in
+      by c lc (λ w. ne (sym w)) s ls q
     where
       by : (c : ℕ) → c < n → p ≢ c → (s : ℕ) → s < 2 → e ≡ 2 * (c * n + p) + s → IsPresent (shape n) l a e
       by c lc ne zero ls q = subst (IsPresent (shape n) l a) (sym q) (present_at c lc (record { plane = p; turned = false }) lp ne)
@@ -274,23 +237,16 @@ module _ (planes : List V3) (table : AreTablePlanes planes) (few : length planes
   pub good : StandForCircles n [] a
   good = record {
     stands = stands;
-    full = λ c v lc cv. let o = node_of c lc v cv in ap is_empty (entries_at c lc v o) ∙ some_list (entry_number n c) (slot c lc o.place) (rules.some n c lc (stops c lc) (can c lc) o.place o.within);
+    full = each_vertex (λ c v. is_empty (l.entries v) ≡ false) (λ c lc k lk. ap is_empty (entries_are c lc k lk) ∙ some_list (entry_number n c) (slot c lc k) (rules.some n c lc (stops c lc) (can c lc) k lk));
     short_circles = λ c lc. subst (λ xs. length xs < length a.circles.next) (sym (vertices_are c lc)) (short_circle c lc);
-    short_vertices = λ c v lc cv. let o = node_of c lc v cv in subst (λ xs. length xs < length a.vertices.next) (sym (entries_at c lc v o)) (short_stop c lc o.place o.within);
+    short_vertices = each_vertex (λ c v. length (l.entries v) < length a.vertices.next) (λ c lc k lk. subst (λ xs. length xs < length a.vertices.next) (sym (entries_are c lc k lk)) (short_stop c lc k lk));
     present = λ p lp no. all_present (entries_of n p n) (present_number p lp);
-    known = λ c v e lc cv ce.
-        let o = node_of c lc v cv in
-        let (x, cx, q) = Contains-from_map (entry_number n c) (slot c lc o.place) e (subst (λ xs. Contains xs e) (entries_at c lc v o) ce) in
-        let lx = rules.small n c lc (stops c lc) (can c lc) o.place o.within x cx in
-        let ne = other_plane planes table (numbers_below n) c (stops c lc) (has c lc).ring (slot c lc o.place) x (rules.slot_in n c lc (stops c lc) (can c lc) o.place o.within) cx in
-        let w = in_entries n x.plane n c (entry_number n c x) lc (on_circle n c x (λ z. ne (sym z))) in
-        let p : plane_of n e ≡ x.plane = ap (plane_of n) (sym q) ∙ ap (λ (y : Entry). y.plane) (entry_back n c x lx) in
-        subst (λ i. Contains (entries_of n i n) e) (sym p) (subst (Contains (entries_of n x.plane n)) q w);
-    numbered = λ c v e lc cv ce.
-        let o = node_of c lc v cv in
-        let (x, cx, q) = Contains-from_map (entry_number n c) (slot c lc o.place) e (subst (λ xs. Contains xs e) (entries_at c lc v o) ce) in
-        let lx = rules.small n c lc (stops c lc) (can c lc) o.place o.within x cx in
-        ap (λ y. entry_number n c (entry_numbered n y)) (sym q) ∙ (ap (entry_number n c) (entry_back n c x lx) ∙ q);
+    known = each_entry (λ c v e. Contains (entries_of n (plane_of n e) n) e) (λ c lc k lk x cx.
+        let stop = Contains-map (λ es. record { node = 0; entries = es }) (stops c lc) (slot c lc k) (rules.slot_in n c lc (stops c lc) (can c lc) k lk) in
+        let ne = entry_other planes (numbers_below n) (ring_by c (stops c lc)) (none_parallel planes (numbers_below n) table) (has c lc).ring (record { node = 0; entries = slot c lc k }) stop x cx in
+        subst (λ i. Contains (entries_of n i n) (entry_number n c x)) (sym (ap (λ (y : Entry). y.plane) (entry_back n c x (rules.small n c lc (stops c lc) (can c lc) k lk x cx))))
+        (in_entries n x.plane n c (entry_number n c x) lc (on_circle n c x (λ z. ne (sym z)))));
+    numbered = each_entry (λ c v e. entry_number n c (entry_numbered n e) ≡ e) (λ c lc k lk x cx. ap (entry_number n c) (entry_back n c x (rules.small n c lc (stops c lc) (can c lc) k lk x cx)));
   }
 
   -- ---- the circles that the arrays show
@@ -302,21 +258,16 @@ module _ (planes : List V3) (table : AreTablePlanes planes) (few : length planes
   entries_read c lc es (k, lk, e) =
       let q : slot c lc k ≡ es = get_or_default (stops c lc) k [] es lk ∙ e in
       subst (λ xs. map (entry_numbered n) (l.entries (node_number n c xs)) ≡ xs) q
-      (ap (map (entry_numbered n)) (entries_are c lc k lk) ∙ back (slot c lc k) (rules.small n c lc (stops c lc) (can c lc) k lk))
-    where
-      back : (xs : List Entry) → ((x : Entry) → Contains xs x → x.plane < n) → map (entry_numbered n) (map (entry_number n c) xs) ≡ xs
-      back [] h = refl
-      back (x ∷ xs) h = λ i. entry_back n c x (h x (zero, omega arith, refl)) i ∷ back xs (λ y cy. h y (suc cy.0, omega (arith, cy.1), cy.2)) i
+      (ap (map (entry_numbered n)) (entries_are c lc k lk) ∙ map_twice (entry_numbered n) (entry_number n c) (slot c lc k)
+      ∙ map_fixed (λ x. entry_numbered n (entry_number n c x)) (slot c lc k) (All-from_members (λ x. entry_numbered n (entry_number n c x) ≡ x) (slot c lc k) (λ x cx. entry_back n c x (rules.small n c lc (stops c lc) (can c lc) k lk x cx))))
 
   stops_read : (c : ℕ) (lc : c < n) → (ring_of n l c).stops ≡ map (named c) (stops c lc)
-  stops_read c lc = ap (map read) (vertices_are c lc) ∙ go (stops c lc) (entries_read c lc)
+  stops_read c lc =
+      ap (map read) (vertices_are c lc) ∙ map_twice read (node_number n c) (stops c lc)
+      ∙ map_same (λ es. read (node_number n c es)) (named c) (stops c lc) (λ es ce i. record { node = node_number n c es; entries = entries_read c lc es ce i })
     where
       read : ℕ → RingStop
       read v = record { node = v; entries = map (entry_numbered n) (l.entries v) }
-
-      go : (xs : List (List Entry)) → ((es : List Entry) → Contains xs es → map (entry_numbered n) (l.entries (node_number n c es)) ≡ es) → map read (map (node_number n c) xs) ≡ map (named c) xs
-      go [] h = refl
-      go (x ∷ xs) h = λ i. (record { node = node_number n c x; entries = h x (zero, omega arith, refl) i }) ∷ go xs (λ y cy. h y (suc cy.0, omega (arith, cy.1), cy.2)) i
 
   ring_read : (c : ℕ) (lc : c < n) → ring_of n l c ≡ record { plane = c; stops = map (named c) (stops c lc) }
   ring_read c lc = λ i. record { plane = c; stops = stops_read c lc i }

@@ -1,44 +1,75 @@
--- Entries in order, divided where their crossings differ, are the stops of the half circle.
-use Rattle.std.proofs.Common.{◌≡◌, ◌≢◌, ◌⊎◌, inl, inr, ⊎_elim, ℕ, zero, suc, ◌+◌, ◌-◌, ◌<◌, ◌≤◌, Bool, true, false, arith, ap, sym, subst, ◌∙◌, refl, List, [], ◌∷◌, ◌++◌, length, get_or, Contains, pos, ◌<ℤ◌}
+-- Entries in order, divided where their crossings differ, and their opposites are the circle.
+use Rattle.std.proofs.Common.{◌≡◌, ◌≢◌, ◌⊎◌, ◌↔◌, inl, inr, ⊎_elim, ℕ, zero, suc, ◌+◌, ◌-◌, ◌<◌, ◌≤◌, Bool, true, false, not, arith, ap, sym, subst, ◌∙◌, refl, List, [], ◌∷◌, ◌++◌, length, get_or, All, Contains, pos, ◌<ℤ◌}
 use Rattle.std.specs.Prelude.{Some, map, slice_get}
-use Rattle.std.specs.List.{between}
 use Rattle.std.specs.List.Sorted.{IsStrictlySortedBy}
 use Rattle.std.specs.Ordering.{nat_cmp}
 use Rattle.std.specs.declared.cmp.Ordering.TheVariants.{Less}
-use Rattle.std.proofs.lemmas.List.{get_or-map, get_or_append_left, get_or_default, get_or_push, length-append, length-map}
+use Rattle.std.proofs.lemmas.List.{get_or-map, get_or_append_left, get_or_default, length-map, map-append}
 use Rattle.std.proofs.lemmas.List.Edits.{get_or-between, length-between}
-use Rattle.std.proofs.lemmas.List.Elements.{Contains-append_cases}
-use Rattle.std.proofs.lemmas.Option.{get_or_from_slice_get, slice_get_within}
+use Rattle.std.proofs.lemmas.List.Elements.{All-map, Contains-append_cases, Contains-append_left, Contains-get_or, Contains-push, Contains-push_cases}
+use Rattle.std.proofs.lemmas.Map.Keys.{sorted_from_strictly_increasing}
+use Rattle.std.proofs.lemmas.Option.{get_or_from_slice_get, slice_get-get_or, slice_get_within}
 use Rattle.staat_vec.specs.declared.vector.V3.{V3}
+use Rattle.staat_vec.specs.Lists.{Lists}
 use Rattle.staat_vec.specs.Primitives.{primitive}
 use Rattle.staat_vec.specs.Vectors.{cross, det, dot, negative, origin}
+use Rattle.staat_vec.proofs.Canons.{negative-negative}
 use Rattle.staat_vec.proofs.Comparisons.{head_less, nat_cmp-less, sorted_push, tail_sorted}
-use Rattle.staat_vec.proofs.Integers.{zero_not_positive, zero_or}
-use Rattle.staat_vec.proofs.ListLaws.{Contains-from_map, Contains-map, all_of, only_one}
-use Rattle.staat_vec.proofs.Naturals.{lt_or_le, same_or, same_or_apart}
+use Rattle.staat_vec.proofs.Integers.{zero_from_opposite, zero_not_positive, zero_or}
+use Rattle.staat_vec.proofs.ListLaws.{Contains-from_map, Contains-map, all_of, map_twice}
+use Rattle.staat_vec.proofs.Naturals.{lt_or_le, same_or, trichotomy}
+use Rattle.staat_vec.proofs.Primitives.{IsPrimitive-some}
 use Rattle.staat_vec.proofs.Unique.{Contains-front, Contains-later}
+use Rattle.staat_vec.proofs.VecRing.{dot_cross_right, dot_negative}
+use Rattle.staat_vec.proofs.VectorLaws.{det_same}
 use Rattle.staat_model.proofs.Members.{All-from_members}
-use Rattle.staat_model.specs.Circles.{axis_beside}
+use Rattle.staat_model.specs.Circles.{IsLinked, IsOnCircle, PassesThrough, axis_beside}
+use Rattle.staat_model.specs.Planes.{axes}
 use Rattle.staat_pairs.specs.Tables.{AreTablePlanes}
 use Rattle.staat_planes.specs.PairOrder.{plane_at}
 use Rattle.staat_planes.proofs.UsedPlanes.{places_rise}
 use Rattle.staat_ring.specs.declared.entry.Entry.{Entry}
-use Rattle.staat_ring.specs.Builds.{AreStopsFrom, AreUpper, IsUpperEntry, all_around, ray, ring_by, slot_at, stops_from}
-use Rattle.staat_ring.specs.Order.{AreStopEnds, AreInOrder, IsBreak, IsOrderOf, entry_at, facet_of, no_entry}
-use Rattle.staat_ring.specs.Rings.{IsRingOf, crossing, facet_by}
-use Rattle.staat_ring.proofs.CircleFromPlaces.{AreFilled, AreThroughCrossing, IsHalfCircle, normal_at, ray_negative, ring_is}
+use Rattle.staat_ring.specs.Builds.{AreStopsFrom, AreUpper, IsUpperEntry, all_around, opposite, ray, ring_by, slot_at, stops_from}
+use Rattle.staat_ring.specs.Order.{AreStopEnds, IsBreak, IsOrderOf, entry_at, no_entry, order_det}
+use Rattle.staat_ring.specs.Rings.{IsRingOf, RingStop, crossing, facet_by, stop_of, vertex_of}
+use Rattle.staat_ring.proofs.CircleFromHalf.{IsHalf, circle_from_half, whole_circle}
 use Rattle.staat_ring.proofs.Divided.{length-stops, stop_at}
-use Rattle.staat_ring.proofs.HalfTurn.{IsOn, ahead_left, ahead_trans, axis_apart, axis_differs, det_facet, det_own, facet_det, is_on, no_opposite, none_before, one_ray, same_vertex, some_normal, some_off, transitive, turned, unit}
+use Rattle.staat_ring.proofs.HalfTurn.{IsOnHalf, Precedes, ahead_trans, axis_apart, axis_differs, axis_first, flat_facet, not_before, on_half, one_vertex, precedes, ray_negative, some_normal, on_all_axes, transitive, unit, vertex}
+use Rattle.staat_ring.proofs.RingLemmas.{map_same}
+use Rattle.staat_ring.proofs.Steps.{negative_on, not_both, primitive_on}
+use Rattle.staat_ring.proofs.TurnOrder.{turn_same}
+use Rattle.staat_ring.proofs.Turns.{turn}
 
--- ---- ascending numbers
+-- ---- stops, one by one
 
-sorted_from : (xs : List ℕ) → ((i k : ℕ) → i < k → k < length xs → get_or xs i 0 < get_or xs k 0) → IsStrictlySortedBy nat_cmp xs
-unfolding IsStrictlySortedBy
-sorted_from [] all = tt
-sorted_from (x ∷ xs) all = (
-  all_of (λ z. nat_cmp x z ≡ Less) xs (λ z (k, lt, e). nat_cmp-less x z (subst (λ y. x < y) (sym (get_or_default xs k z 0 lt) ∙ e) (all 0 (suc k) (omega arith) (omega (arith, lt))))),
-  sorted_from xs (λ i k lt lk. all (suc i) (suc k) (omega (arith, lt)) (omega (arith, lk))),
-)
+-- the entries of the stop at u: each names it, and they are of the planes through it
+record IsStopOf (planes : List V3) (linked : List ℕ) (c : ℕ) (u : V3) (xs : List Entry) : Type 0 where
+  some : 0 < length xs
+  names : (e : Entry) → Contains xs e → crossing planes c e ≡ u
+  through : Lists nat_cmp (PassesThrough planes linked c u) (map (λ e. e.plane) xs)
+
+module _ (planes : List V3) (linked : List ℕ) (c : ℕ) where
+  vertex_is : (u : V3) (xs : List Entry) → IsStopOf planes linked c u xs → vertex_of planes c xs ≡ u
+  vertex_is u [] is = absurd (let lt = is.some in omega (arith, lt))
+  vertex_is u (x ∷ xs) is = is.names x (Contains-front x xs)
+
+  -- the same planes pass through the opposite vertex
+  turned : (u : V3) (xs : List Entry) → IsStopOf planes linked c u xs → IsStopOf planes linked c (negative u) (map opposite xs)
+  turned u xs is = record {
+    some = let lt = is.some in omega (arith, lt, length-map xs opposite);
+    names = λ e ce. let (x, cx, q) = Contains-from_map opposite xs e ce in subst (λ (y : Entry). crossing planes c y ≡ negative u) q (flipped x.turned (primitive (cross (plane_at planes c) (plane_at planes x.plane))) ∙ ap negative (is.names x cx));
+    through = subst (λ ks. Lists nat_cmp (PassesThrough planes linked c (negative u)) ks) (sym (map_twice (λ (e : Entry). e.plane) opposite xs)) (record {
+      ascending = is.through.ascending;
+      each = λ k ck. let p = is.through.each k ck in record { h = p.h; linked_is = p.linked_is; different = p.different; on = negative_on p.h u p.on };
+      all = λ k p. is.through.all k (record { h = p.h; linked_is = p.linked_is; different = p.different; on = zero_from_opposite (dot p.h u) (sym (dot_negative p.h u) ∙ p.on) });
+    });
+  }
+    where
+      flipped : (t : Bool) (v : V3) → facet_by (not t) v ≡ negative (facet_by t v)
+      flipped false v = refl
+      flipped true v = sym (negative-negative v)
+
+-- ---- numbers in order
 
 sorted_after : (x : ℕ) (xs : List ℕ) → IsStrictlySortedBy nat_cmp xs → ((y : ℕ) → Contains xs y → x < y) → IsStrictlySortedBy nat_cmp (x ∷ xs)
 unfolding IsStrictlySortedBy
@@ -51,12 +82,12 @@ record IsIn (start : ℕ) (ends : List ℕ) (p : ℕ) : Type 0 where
   from : get_or (start ∷ ends) part 0 ≤ p
   to : p < get_or ends part 0
 
-part_of : (start : ℕ) (ends : List ℕ) (p k : ℕ) → start ≤ p → k < length ends → p < get_or ends k 0 → IsIn start ends p
-part_of start [] p k le lk lt = absurd (omega (arith, lk))
-part_of start (end ∷ ends) p zero le lk lt = record { part = 0; within = omega arith; from = le; to = lt }
-part_of start (end ∷ ends) p (suc k) le lk lt = ⊎_elim {C = IsIn start (end ∷ ends) p}
+part_of : (start : ℕ) (ends : List ℕ) (p : ℕ) → start ≤ p → (k : ℕ) → k < length ends → p < get_or ends k 0 → IsIn start ends p
+part_of start [] p le k lk lt = absurd (omega (arith, lk))
+part_of start (end ∷ ends) p le zero lk lt = record { part = 0; within = omega arith; from = le; to = lt }
+part_of start (end ∷ ends) p le (suc k) lk lt = ⊎_elim {C = IsIn start (end ∷ ends) p}
     (λ low. record { part = 0; within = omega arith; from = le; to = low })
-    (λ high. let r = part_of end ends p k high (omega (arith, lk)) lt in let w = r.within in record { part = suc r.part; within = omega (arith, w); from = r.from; to = r.to })
+    (λ high. let r = part_of end ends p high k (omega (arith, lk)) lt in let w = r.within in record { part = suc r.part; within = omega (arith, w); from = r.from; to = r.to })
     (lt_or_le p end)
 
 -- ---- the stops
@@ -66,44 +97,71 @@ module _ (planes : List V3) (rules : AreTablePlanes planes) (c : ℕ) (g axis : 
   abbrev at : ℕ → Entry
   at p = entry_at es p
 
-  abbrev facet : ℕ → V3
-  facet p = facet_of planes (at p)
-
-  abbrev OnTurn : V3 → Type 0
-  OnTurn h = IsOn g axis (some_normal planes rules c g axis gi ai) (axis_apart planes rules c g axis gi ai) h
+  abbrev v : ℕ → V3
+  v p = vertex planes g (at p)
 
   abbrev gg : pos 0 <ℤ dot g g
-  gg = some_normal planes rules c g axis gi ai
-
-  abbrev flat : cross g axis ≢ origin
-  flat = axis_apart planes rules c g axis gi ai
-
-  listed : (p : ℕ) → p < length es → Contains es (at p)
-  listed p lt = (p, lt, get_or_default es p (at p) no_entry lt)
+  gg = some_normal g axis (axis_apart planes rules c g axis gi ai)
 
   upper_at : (p : ℕ) → p < length es → IsUpperEntry planes c g axis (at p)
-  upper_at p lt = upper.each (at p) (order.only (at p) (listed p lt))
+  upper_at p lt = upper.each (at p) (order.only (at p) (Contains-get_or es p no_entry lt))
 
-  on : (p : ℕ) → p < length es → OnTurn (facet p)
-  on p lt = is_on planes rules c g axis gi ai (at p) (upper_at p lt)
+  on : (p : ℕ) → p < length es → IsOnHalf g (ray g axis) gg (v p)
+  on p lt = on_half planes rules c g axis gi ai (at p) (upper_at p lt)
 
-  rises : AreInOrder planes g es
-  rises = order.rises (transitive planes rules c g axis gi ai keys upper.each)
+  rises : (p q : ℕ) → p < q → q < length es → Precedes planes g (at p) (at q)
+  rises p q lt lq = (precedes planes rules c g axis gi ai (at p) (at q) (upper_at p (omega (arith, lt, lq))) (upper_at q lq)).0
+      (order.rises (transitive planes rules c g axis gi ai keys upper.each) p q lt lq)
 
-  -- where the entry of a plane stands
-  record IsPut (k : ℕ) : Type 0 where
-    spot : ℕ
-    inside : spot < length es
-    plane : (at spot).plane ≡ k
+  same_line : (p q : ℕ) → p < length es → q < length es → (order_det planes g (at p) (at q) ≡ pos 0) ↔ (v p ≡ v q)
+  same_line p q lp lq = one_vertex planes rules c g axis gi ai (at p) (at q) (upper_at p lp) (upper_at q lq)
 
-  put : (k : ℕ) → k < length planes → k ≢ c → IsPut k
+  -- the vertex changes at a break, and only there
+  past_break : (p q : ℕ) → p < q → IsBreak planes g es q → pos 0 <ℤ turn g (v p) (v q)
+  past_break p q lt is =
+      let lq = is.within in
+      let near : q - 1 < length es = omega (arith, lq) in
+      let step : pos 0 <ℤ turn g (v (q - 1)) (v q) = ⊎_elim {C = pos 0 <ℤ turn g (v (q - 1)) (v q)} (λ h. h) (λ h. absurd (is.differ ((same_line (q - 1) q near lq).1 h.0))) (rises (q - 1) q (omega (arith, lt)) lq) in
+      ⊎_elim {C = pos 0 <ℤ turn g (v p) (v q)} (λ e. subst (λ i. pos 0 <ℤ turn g (v i) (v q)) (sym e) step)
+      (λ ne. ⊎_elim {C = pos 0 <ℤ turn g (v p) (v q)} (λ h. ahead_trans g (ray g axis) gg (v p) (v (q - 1)) (v q) (on p (omega (arith, lt, lq))) (on (q - 1) near) (on q lq) h step)
+      (λ h. subst (λ x. pos 0 <ℤ turn g x (v q)) (sym h.0) step)
+      (rises p (q - 1) (omega (arith, lt, ne)) near))
+      (same_or p (q - 1))
+
+  until_break : (p d : ℕ) → p + d < length es → ((q : ℕ) → p < q → q ≤ p + d → IsBreak planes g es q → ⊥) → v (p + d) ≡ v p
+  until_break p zero lt none = ap v (let z : p + 0 ≡ p = omega arith in z)
+  until_break p (suc d) lt none =
+      let before : p + suc d - 1 ≡ p + d = omega arith in
+      let step : v (p + d) ≡ v (p + suc d) = ⊎_elim {C = v (p + d) ≡ v (p + suc d)} (λ z. (same_line (p + d) (p + suc d) (omega (arith, lt)) lt).0 z)
+      (λ nz. absurd (none (p + suc d) (omega arith) (omega arith) (record { later = omega arith; within = lt; differ = λ z. nz (ap (λ i. order_det planes g (at i) (at (p + suc d))) (sym before) ∙ z) })))
+      (zero_or (order_det planes g (at (p + d)) (at (p + suc d)))) in
+      sym step ∙ until_break p d (omega (arith, lt)) (λ q low high. none q low (omega (arith, high)))
+
+  -- the place of the entry of a plane
+  put : (k : ℕ) → k < length planes → k ≢ c → (p : ℕ) × (p < length es) × ((at p).plane ≡ k)
   put k lt ne =
       let h = upper.all k lt ne in
       let r = order.each (record { plane = k; turned = h.turned }) h.listed in
       let (p, lp, e) = r.listed in
-      record { spot = p; inside = lp; plane = ap (λ x. x.plane) (sym (get_or_default es p (record { plane = k; turned = r.turned }) no_entry lp) ∙ e) }
+      (p, lp, ap (λ x. x.plane) (sym (get_or_default es p (record { plane = k; turned = r.turned }) no_entry lp) ∙ e))
 
-  -- ---- the ends
+  axis_within : axis_beside c < length planes
+  axis_within = slice_get_within planes (axis_beside c) axis ai
+
+  some : 0 < length es
+  some = let (p, lp, e) = put (axis_beside c) axis_within (axis_differs c) in omega (arith, lp)
+
+  -- ---- where they end
+
+  ends_are : Lists nat_cmp (λ p. IsBreak planes g es p ⊎ (length es ≡ p)) ends
+  ends_are = subst (Lists nat_cmp (λ p. IsBreak planes g es p ⊎ (length es ≡ p))) (sym are.is) (record {
+    ascending = sorted_push are.breaks (length es) are.are.ascending (λ p cp. (are.are.each p cp).within);
+    each = λ p cp. ⊎_elim {C = IsBreak planes g es p ⊎ (length es ≡ p)} (λ a. inl (are.are.each p a)) (λ e. inr e) (Contains-push_cases are.breaks (length es) p cp);
+    all = λ p. ⊎_elim {C = Contains (are.breaks ++ length es ∷ []) p} (λ b. Contains-append_left are.breaks (length es ∷ []) p (are.are.all p b)) (λ e. subst (Contains (are.breaks ++ length es ∷ [])) e (Contains-push are.breaks (length es)));
+  })
+
+  end_below : (p : ℕ) → Contains ends p → (0 < p) × (p ≤ length es)
+  end_below p cp = ⊎_elim {C = (0 < p) × (p ≤ length es)} (λ b. (b.later, (let w = b.within in omega (arith, w)))) (λ e. (let s = some in omega (arith, s, e), omega (arith, e))) (ends_are.each p cp)
 
   abbrev first : ℕ → ℕ
   first k = get_or (0 ∷ ends) k 0
@@ -111,172 +169,74 @@ module _ (planes : List V3) (rules : AreTablePlanes planes) (c : ℕ) (g axis : 
   abbrev end : ℕ → ℕ
   end k = get_or ends k 0
 
-  axis_put : IsPut (axis_beside c)
-  axis_put = put (axis_beside c) (slice_get_within planes (axis_beside c) axis ai) (axis_differs c)
-
-  some : 0 < length es
-  some = let l = axis_put.inside in omega (arith, l)
-
-  count : length ends ≡ length are.breaks + 1
-  count = ap length are.is ∙ length-append are.breaks (length es ∷ [])
-
-  last : end (length are.breaks) ≡ length es
-  last = ap (λ l. get_or l (length are.breaks) 0) are.is ∙ get_or_push are.breaks (length es) 0 (length are.breaks) refl
-
   ascending : IsStrictlySortedBy nat_cmp (0 ∷ ends)
-  ascending = subst (λ l. IsStrictlySortedBy nat_cmp (0 ∷ l)) (sym are.is) (sorted_after 0 (are.breaks ++ length es ∷ [])
-      (sorted_push are.breaks (length es) are.are.ascending (λ p cp. (are.are.each p cp).within))
-      (λ p cp. ⊎_elim {C = 0 < p} (λ a. (are.are.each p a).later) (λ b. subst (λ n. 0 < n) (sym (only_one (length es) p b)) some) (Contains-append_cases are.breaks (length es ∷ []) p cp)))
+  ascending = sorted_after 0 ends ends_are.ascending (λ p cp. (end_below p cp).0)
 
   step : (i k : ℕ) → i < k → k < length ends + 1 → first i < first k
   step i k lt lk = places_rise (0 ∷ ends) i k ascending lt (omega (arith, lk))
 
-  nonempty : (k : ℕ) → k < length ends → first k < end k
-  nonempty k lk = step k (suc k) (omega arith) (omega (arith, lk))
+  step_back : (i k : ℕ) → i < length ends + 1 → first i < first k → i < k
+  step_back i k li lt = ⊎_elim {C = i < k} (λ l. l) (λ o. absurd (⊎_elim {C = ⊥} (λ q. let e = ap first q in omega (arith, lt, e)) (λ gt. let r = step k i gt li in omega (arith, lt, r)) o)) (trichotomy i k)
 
-  in_entries : (k : ℕ) → k < length ends → end k ≤ length es
-  in_entries k lk = ⊎_elim {C = end k ≤ length es}
-      (λ q. let e = ap end q ∙ last in omega (arith, e))
-      (λ ne. let l = step (suc k) (suc (length are.breaks)) (omega (arith, lk, count, ne)) (omega (arith, count)) in omega (arith, l, last))
-      (same_or k (length are.breaks))
+  high : (k : ℕ) → k < length ends → (first k < end k) × (end k ≤ length es)
+  high k lk = (step k (suc k) (omega arith) (omega (arith, lk)), (end_below (end k) (Contains-get_or ends k 0 lk)).1)
+
+  first_in : (k : ℕ) → k < length ends → first k < length es
+  first_in k lk = let h = high k lk in omega (arith, h)
 
   from_break : (k : ℕ) → 0 < k → k < length ends → IsBreak planes g es (first k)
   from_break zero lt lk = absurd (omega (arith, lt))
-  from_break (suc k) lt lk =
-      let near : k < length are.breaks = omega (arith, lk, count) in
-      let same = ap (λ l. get_or l k 0) are.is ∙ get_or_append_left are.breaks (length es ∷ []) 0 k near in
-      are.are.each (first (suc k)) (k, near, get_or_default are.breaks k (first (suc k)) 0 near ∙ sym same)
-
-  -- no other stop begins within one
-  no_break : (k p : ℕ) → k < length ends → first k < p → p < end k → IsBreak planes g es p → ⊥
-  no_break k p lk low high is =
-      let (j, lj, e) = are.are.all p is in
-      let at_j = ap (λ l. get_or l j 0) are.is ∙ (get_or_append_left are.breaks (length es ∷ []) 0 j lj ∙ (sym (get_or_default are.breaks j p 0 lj) ∙ e)) in
-      ⊎_elim {C = ⊥} (λ q. (let s = ap end q ∙ at_j in omega (arith, s, high)))
-      (λ o. ⊎_elim {C = ⊥}
-      (λ l. (let s = step (suc k) (suc j) (omega (arith, l)) (omega (arith, lj, count)) in omega (arith, s, at_j, high)))
-      (λ l. (let s = not_above j k l lk in omega (arith, s, at_j, low))) o)
-      (same_or_apart k j)
-    where
-      not_above : (j k : ℕ) → j < k → k < length ends → end j ≤ first k
-      not_above j k l lk = ⊎_elim {C = end j ≤ first k} (λ q. let s = ap first q in omega (arith, s)) (λ ne. let s = step (suc j) k (omega (arith, l, ne)) (omega (arith, lk)) in omega (arith, s)) (same_or (suc j) k)
-
-  -- the entries of a stop cross in one vertex
-  one_vertex : (k d : ℕ) → k < length ends → first k + d < end k → ray g (facet (first k + d)) ≡ ray g (facet (first k))
-  one_vertex k zero lk lt = ap (λ p. ray g (facet p)) (let z : first k + 0 ≡ first k = omega arith in z)
-  one_vertex k (suc d) lk lt =
-      let p : ℕ = first k + d in
-      let w = in_entries k lk in
-      let lp : p < length es = omega (arith, lt, w) in
-      let lq : first k + suc d < length es = omega (arith, lt, w) in
-      let before : first k + suc d - 1 ≡ p = omega arith in
-      let z : det g (facet p) (facet (first k + suc d)) ≡ pos 0 = ⊎_elim {C = det g (facet p) (facet (first k + suc d)) ≡ pos 0} (λ z. z)
-      (λ nz. absurd (no_break k (first k + suc d) lk (omega arith) lt (record { later = omega arith; within = lq; differ = λ z. nz (ap (λ j. det g (facet j) (facet (first k + suc d))) (sym before) ∙ z) })))
-      (zero_or (det g (facet p) (facet (first k + suc d)))) in
-      sym (same_vertex g axis gg flat (facet p) (facet (first k + suc d)) (on p lp) (on (first k + suc d) lq) z) ∙ one_vertex k d lk (omega (arith, lt))
-
-  first_in : (k : ℕ) → k < length ends → first k < length es
-  first_in k lk = let a = nonempty k lk in let b = in_entries k lk in omega (arith, a, b)
+  from_break (suc k) lt lk = ⊎_elim {C = IsBreak planes g es (first (suc k))} (λ b. b) (λ e. let h = high (suc k) lk in absurd (omega (arith, h, e))) (ends_are.each (end k) (Contains-get_or ends k 0 (omega (arith, lk))))
 
   -- those of later stops come later
-  stop_rises : (i k : ℕ) → i < k → k < length ends → pos 0 <ℤ det g (facet (first i)) (facet (first k))
-  stop_rises i k lt lk =
-      let li : i < length ends = omega (arith, lt, lk) in
-      let b = from_break k (omega (arith, lt)) lk in
-      let p : ℕ = first k - 1 in
-      let le = step i k lt (omega (arith, lk)) in
-      let lf = first_in k lk in
-      let lp : p < length es = omega (arith, lf) in
-      let next : pos 0 <ℤ det g (facet p) (facet (first k)) = ⊎_elim {C = pos 0 <ℤ det g (facet p) (facet (first k))} (λ h. h) (λ h. absurd (b.differ h.0)) (rises p (first k) (let l = b.later in omega (arith, l)) lf) in
-      ⊎_elim {C = pos 0 <ℤ det g (facet (first i)) (facet (first k))}
-      (λ q. subst (λ j. pos 0 <ℤ det g (facet j) (facet (first k))) (sym q) next)
-      (λ ne. ⊎_elim {C = pos 0 <ℤ det g (facet (first i)) (facet (first k))}
-      (λ h. ahead_trans g axis gg flat (facet (first i)) (facet p) (facet (first k)) (on (first i) (first_in i li)) (on p lp) (on (first k) lf) h next)
-      (λ h. ahead_left g axis gg flat (facet (first i)) (facet p) (facet (first k)) (on (first i) (first_in i li)) (on p lp) (on (first k) lf) (same_vertex g axis gg flat (facet (first i)) (facet p) (on (first i) (first_in i li)) (on p lp) h.0) next)
-      (rises (first i) p (omega (arith, le, ne)) lp))
-      (same_or (first i) p)
+  stop_rises : (i k : ℕ) → i < k → k < length ends → pos 0 <ℤ turn g (v (first i)) (v (first k))
+  stop_rises i k lt lk = past_break (first i) (first k) (step i k lt (omega (arith, lk))) (from_break k (omega (arith, lt)) lk)
 
-  -- ---- the half circle and its places
+  -- the entries of a stop cross in one vertex
+  one_stop : (k p : ℕ) → k < length ends → first k ≤ p → p < end k → v p ≡ v (first k)
+  one_stop k p lk low lt =
+      let h = high k lk in
+      let same : first k + (p - first k) ≡ p = omega (arith, low) in
+      ap v (sym same) ∙ until_break (first k) (p - first k) (omega (arith, h, lt, low)) (λ q l m is.
+      let (j, lj, e) = ends_are.all q (inl is) in
+      let s : first (suc j) ≡ q = get_or_default ends j 0 q lj ∙ e in
+      let a = step_back k (suc j) (omega (arith, lk)) (omega (arith, l, s)) in
+      let b = step_back (suc j) (suc k) (omega (arith, lj)) (omega (arith, s, m, same, lt)) in
+      omega (arith, a, b))
 
-  abbrev starts : List ℕ
-  starts = 0 ∷ are.breaks
+  -- the stop of a place
+  found : (p : ℕ) → p < length es → IsIn 0 ends p
+  found p lt = let (k, lk, e) = ends_are.all (length es) (inr refl) in part_of 0 ends p (omega arith) k lk (let q : end k ≡ length es = get_or_default ends k 0 (length es) lk ∙ e in omega (arith, q, lt))
 
-  abbrev half : List V3
-  half = map facet starts
+  -- ---- the entries of a stop
 
   abbrev slots : List (List Entry)
   slots = stops_from 0 ends es
 
-  long : length half ≡ length ends
-  long = let a = length-map starts facet in omega (arith, a, count)
+  abbrev slot : ℕ → List Entry
+  slot k = slot_at slots k
 
-  half_at : (k : ℕ) → k < length ends → normal_at half k ≡ facet (first k)
-  half_at k lk =
-      let near : k < length starts = omega (arith, lk, count) in
-      get_or-map facet starts k 0 origin near ∙ ap facet (sym (ap (λ l. get_or (0 ∷ l) k 0) are.is ∙ get_or_append_left starts (length es ∷ []) 0 k near))
+  slot_long : (k : ℕ) → k < length ends → length (slot k) ≡ end k - first k
+  slot_long k lk = ap length (stop_at 0 k ends es lk) ∙ length-between es (first k) (end k) (high k lk).1
 
-  slot_is : (k : ℕ) → k < length ends → slot_at slots k ≡ between (first k) (end k) es
-  slot_is k lk = stop_at 0 k ends es lk
+  slot_entry : (k d : ℕ) → k < length ends → d < length (slot k) → (first k + d < end k) × (get_or (slot k) d no_entry ≡ at (first k + d))
+  slot_entry k d lk lt =
+      let near : first k + d < end k = omega (arith, lt, slot_long k lk) in
+      (near, ap (λ l. get_or l d no_entry) (stop_at 0 k ends es lk) ∙ get_or-between es (first k) (end k) d no_entry near)
 
-  -- a place of the stop k
+  -- an entry of the stop k
   record IsOfStop (k : ℕ) (e : Entry) : Type 0 where
-    offset : ℕ
-    near : first k + offset < end k
-    is : at (first k + offset) ≡ e
+    is_upper : IsUpperEntry planes c g axis e
+    crossed : vertex planes g e ≡ v (first k)
 
-  slot_long : (k : ℕ) → k < length ends → length (slot_at slots k) ≡ end k - first k
-  slot_long k lk = ap length (slot_is k lk) ∙ length-between es (first k) (end k) (in_entries k lk)
-
-  slot_entry : (k d : ℕ) → k < length ends → first k + d < end k → get_or (slot_at slots k) d no_entry ≡ at (first k + d)
-  slot_entry k d lk lt = ap (λ l. get_or l d no_entry) (slot_is k lk) ∙ get_or-between es (first k) (end k) d no_entry lt
-
-  of_stop : (k : ℕ) (e : Entry) → k < length ends → Contains (slot_at slots k) e → IsOfStop k e
+  of_stop : (k : ℕ) (e : Entry) → k < length ends → Contains (slot k) e → IsOfStop k e
   of_stop k e lk (d, lt, q) =
-      let n = slot_long k lk in
-      let near : first k + d < end k = omega (arith, lt, n) in
-      record { offset = d; near = near; is = sym (slot_entry k d lk near) ∙ (sym (get_or_default (slot_at slots k) d e no_entry lt) ∙ q) }
-
-  in_stop : (k p : ℕ) → k < length ends → first k ≤ p → p < end k → Contains (slot_at slots k) (at p)
-  in_stop k p lk low high =
-      let n = slot_long k lk in
-      let near : first k + (p - first k) < end k = omega (arith, low, high) in
-      let same : first k + (p - first k) ≡ p = omega (arith, low) in
-      let lt : p - first k < length (slot_at slots k) = omega (arith, n, low, high) in
-      (p - first k, lt, get_or_default (slot_at slots k) (p - first k) (at p) no_entry lt ∙ (slot_entry k (p - first k) lk near ∙ ap at same))
-
-  vertex_of : (k : ℕ) (e : Entry) → k < length ends → IsOfStop k e → ray g (facet_of planes e) ≡ ray g (facet (first k))
-  vertex_of k e lk o = ap (λ x. ray g (facet_of planes x)) (sym o.is) ∙ one_vertex k o.offset lk o.near
-
-  on_entry : (k : ℕ) (e : Entry) → k < length ends → IsOfStop k e → IsUpperEntry planes c g axis e
-  on_entry k e lk o = subst (IsUpperEntry planes c g axis) o.is (upper_at (first k + o.offset) (let w = in_entries k lk in let l = o.near in omega (arith, w, l)))
-
-  normal_is : plane_at planes c ≡ g
-  normal_is = get_or_from_slice_get planes c g origin gi
-
-  named : (e : Entry) → crossing planes c e ≡ ray g (facet_of planes e)
-  named e = go e.turned
-    where
-      go : (t : Bool) → facet_by t (primitive (cross (plane_at planes c) (plane_at planes e.plane))) ≡ ray g (facet_by t (plane_at planes e.plane))
-      go false = λ i. primitive (cross (normal_is i) (plane_at planes e.plane))
-      go true = (λ i. negative (primitive (cross (normal_is i) (plane_at planes e.plane)))) ∙ sym (ray_negative g (plane_at planes e.plane))
-
-  -- the stop of a place
-  found : (p : ℕ) → p < length es → IsIn 0 ends p
-  found p lt = part_of 0 ends p (length are.breaks) (omega arith) (omega (arith, count)) (omega (arith, last, lt))
-
-  -- the stop of the plane of an entry that crosses on the line of a stop is that one
-  one_stop : (i k : ℕ) → i < length ends → k < length ends → ray g (facet (first i)) ≡ ray g (facet (first k)) → i ≡ k
-  one_stop i k li lk e =
-      let z = one_ray g axis gg flat (facet (first i)) (facet (first k)) (on (first i) (first_in i li)) (on (first k) (first_in k lk)) e in
-      let y = one_ray g axis gg flat (facet (first k)) (facet (first i)) (on (first k) (first_in k lk)) (on (first i) (first_in i li)) (sym e) in
-      ⊎_elim {C = i ≡ k} (λ q. q) (λ o. ⊎_elim {C = i ≡ k}
-      (λ lt. absurd (zero_not_positive (det g (facet (first i)) (facet (first k))) z (stop_rises i k lt lk)))
-      (λ lt. absurd (zero_not_positive (det g (facet (first k)) (facet (first i))) y (stop_rises k i lt li))) o)
-      (same_or_apart i k)
-
-  meets : (k : ℕ) (e : Entry) → k < length ends → IsOfStop k e → det g (facet (first k)) (plane_at planes e.plane) ≡ pos 0
-  meets k e lk o = facet_det g (facet (first k)) (plane_at planes e.plane) e.turned
-      (one_ray g axis gg flat (facet (first k)) (facet_of planes e) (on (first k) (first_in k lk)) (is_on planes rules c g axis gi ai e (on_entry k e lk o)) (sym (vertex_of k e lk o)))
+      let (near, is) = slot_entry k d lk lt in
+      let h = high k lk in
+      subst (IsOfStop k) (sym is ∙ (get_or_default (slot k) d no_entry e lt ∙ q)) (record {
+        is_upper = upper_at (first k + d) (omega (arith, near, h));
+        crossed = one_stop k (first k + d) lk (omega arith) near;
+      })
 
   -- the entry of a plane, in its stop
   record IsFound (j : ℕ) : Type 0 where
@@ -284,147 +244,200 @@ module _ (planes : List V3) (rules : AreTablePlanes planes) (c : ℕ) (g axis : 
     inside : stop < length ends
     entry : Entry
     plane : entry.plane ≡ j
-    there : Contains (slot_at slots stop) entry
+    there : Contains (slot stop) entry
+    is : IsOfStop stop entry
 
   find : (j : ℕ) → j < length planes → j ≢ c → IsFound j
   find j lt ne =
-      let p = put j lt ne in
-      let r = found p.spot p.inside in
-      record { stop = r.part; inside = r.within; entry = at p.spot; plane = p.plane; there = in_stop r.part p.spot r.within r.from r.to }
+      let (p, lp, plane) = put j lt ne in
+      let r = found p lp in
+      let low = r.from in
+      let to = r.to in
+      let d : ℕ = p - first r.part in
+      let ld : d < length (slot r.part) = omega (arith, slot_long r.part r.within, low, to) in
+      let same : first r.part + d ≡ p = omega (arith, low) in
+      let there : Contains (slot r.part) (at p) = subst (Contains (slot r.part)) ((slot_entry r.part d r.within ld).1 ∙ ap at same) (Contains-get_or (slot r.part) d no_entry ld) in
+      record { stop = r.part; inside = r.within; entry = at p; plane = plane; there = there; is = of_stop r.part (at p) r.within there }
 
-  through : (k : ℕ) → k < length ends → AreThroughCrossing planes c g (facet (first k)) (slot_at slots k)
-  through k lk = record {
-    listed = record {
-      ascending = sorted_from (map (λ e. e.plane) (slot_at slots k)) planes_rise;
-      each = λ j cj.
-          let (e, ce, q) = Contains-from_map (λ e. e.plane) (slot_at slots k) j cj in
-          let o = of_stop k e lk ce in
-          let u = on_entry k e lk o in
-          subst (λ i. (i < length planes) × (i ≢ c) × (det g (facet (first k)) (plane_at planes i) ≡ pos 0)) q (u.within, u.different, meets k e lk o);
-      all = λ j h.
-          let f = find j h.0 h.1 in
-          let o = of_stop f.stop f.entry f.inside f.there in
-          let u = is_on planes rules c g axis gi ai f.entry (on_entry f.stop f.entry f.inside o) in
-          let z = det_facet g (facet (first k)) (plane_at planes f.entry.plane) f.entry.turned (ap (λ i. det g (facet (first k)) (plane_at planes i)) f.plane ∙ h.2) in
-          let e = same_vertex g axis gg flat (facet (first k)) (facet_of planes f.entry) (on (first k) (first_in k lk)) u z ∙ vertex_of f.stop f.entry f.inside o in
-          let same = one_stop f.stop k f.inside lk (sym e) in
-          subst (Contains (map (λ e. e.plane) (slot_at slots k))) f.plane (Contains-map (λ e. e.plane) (slot_at slots k) f.entry (subst (λ i. Contains (slot_at slots i) f.entry) same f.there));
-    };
-    ways = All-from_members (λ e. crossing planes c e ≡ ray g (facet (first k))) (slot_at slots k) (λ e ce. named e ∙ vertex_of k e lk (of_stop k e lk ce));
-  }
+  -- the planes of a stop ascend
+  planes_rise : (k : ℕ) → k < length ends → IsStrictlySortedBy nat_cmp (map (λ e. e.plane) (slot k))
+  planes_rise k lk = sorted_from_strictly_increasing (map (λ e. e.plane) (slot k)) (λ d lt.
+      let m = length-map (slot k) (λ (e : Entry). e.plane) in
+      let ld : d + 1 < length (slot k) = omega (arith, lt, m) in
+      let (near, is) = slot_entry k d lk (omega (arith, ld)) in
+      let (next, next_is) = slot_entry k (d + 1) lk ld in
+      let h = high k lk in
+      let a = get_or-map (λ (e : Entry). e.plane) (slot k) d no_entry 0 (omega (arith, ld)) ∙ ap (λ (e : Entry). e.plane) is in
+      let b = get_or-map (λ (e : Entry). e.plane) (slot k) (d + 1) no_entry 0 ld ∙ ap (λ (e : Entry). e.plane) next_is in
+      let same = one_stop k (first k + d) lk (omega arith) near ∙ sym (one_stop k (first k + (d + 1)) lk (omega arith) next) in
+      let less : (at (first k + d)).plane < (at (first k + (d + 1))).plane = ⊎_elim {C = (at (first k + d)).plane < (at (first k + (d + 1))).plane}
+      (λ t. absurd (zero_not_positive (turn g (v (first k + d)) (v (first k + (d + 1)))) (ap (λ x. turn g x (v (first k + (d + 1)))) same ∙ turn_same g (v (first k + (d + 1)))) t)) (λ t. t.1)
+      (rises (first k + d) (first k + (d + 1)) (omega arith) (omega (arith, next, h))) in
+      omega (arith, less, a, b))
+
+  -- ---- planes and vertices
+
+  normal_is : plane_at planes c ≡ g
+  normal_is = get_or_from_slice_get planes c g origin gi
+
+  -- an entry names its vertex
+  named : (e : Entry) → crossing planes c e ≡ vertex planes g e
+  named e = by e.turned
     where
-      plane_is : (d : ℕ) → d < length (map (λ e. e.plane) (slot_at slots k)) → get_or (map (λ e. e.plane) (slot_at slots k)) d 0 ≡ (at (first k + d)).plane
-      plane_is d lt =
-          let m = length-map (slot_at slots k) (λ e. e.plane) in
-          let n = slot_long k lk in
-          get_or-map (λ e. e.plane) (slot_at slots k) d no_entry 0 (omega (arith, lt, m)) ∙ ap (λ e. e.plane) (slot_entry k d lk (omega (arith, lt, m, n)))
+      by : (t : Bool) → facet_by t (primitive (cross (plane_at planes c) (plane_at planes e.plane))) ≡ ray g (facet_by t (plane_at planes e.plane))
+      by false = λ i. primitive (cross (normal_is i) (plane_at planes e.plane))
+      by true = (λ i. negative (primitive (cross (normal_is i) (plane_at planes e.plane)))) ∙ sym (ray_negative g (plane_at planes e.plane))
 
-      planes_rise : (i d : ℕ) → i < d → d < length (map (λ e. e.plane) (slot_at slots k)) → get_or (map (λ e. e.plane) (slot_at slots k)) i 0 < get_or (map (λ e. e.plane) (slot_at slots k)) d 0
-      planes_rise i d lt ld =
-          let m = length-map (slot_at slots k) (λ e. e.plane) in
-          let n = slot_long k lk in
-          let w = in_entries k lk in
-          let near : first k + d < end k = omega (arith, ld, m, n) in
-          let ni : first k + i < end k = omega (arith, near, lt) in
-          let z = one_ray g axis gg flat (facet (first k + i)) (facet (first k + d)) (on (first k + i) (omega (arith, ni, w))) (on (first k + d) (omega (arith, near, w))) (one_vertex k i lk ni ∙ sym (one_vertex k d lk near)) in
-          let less : (at (first k + i)).plane < (at (first k + d)).plane = ⊎_elim {C = (at (first k + i)).plane < (at (first k + d)).plane} (λ h. absurd (zero_not_positive (det g (facet (first k + i)) (facet (first k + d))) z h)) (λ h. h.1) (rises (first k + i) (first k + d) (omega (arith, lt)) (omega (arith, near, w))) in
-          let a = plane_is i (omega (arith, lt, ld)) in
-          let b = plane_is d ld in
-          omega (arith, less, a, b)
+  either_way : (e : Entry) → (vertex planes g e ≡ ray g (plane_at planes e.plane)) ⊎ (vertex planes g e ≡ negative (ray g (plane_at planes e.plane)))
+  either_way e = by e.turned
+    where
+      by : (t : Bool) → (ray g (facet_by t (plane_at planes e.plane)) ≡ ray g (plane_at planes e.plane)) ⊎ (ray g (facet_by t (plane_at planes e.plane)) ≡ negative (ray g (plane_at planes e.plane)))
+      by false = inl refl
+      by true = inr (ray_negative g (plane_at planes e.plane))
 
-  filled : AreFilled planes c g half slots
-  filled = record {
-    size = length-stops 0 ends es ∙ sym long;
-    each = λ k lk. let l : k < length ends = omega (arith, lk, long) in subst (λ m. AreThroughCrossing planes c g m (slot_at slots k)) (sym (half_at k l)) (through k l);
-  }
+  -- no plane is parallel to c
+  not_parallel : (j : ℕ) → j < length planes → j ≢ c → cross g (plane_at planes j) ≢ origin
+  not_parallel j lt ne = rules.apart c j g (plane_at planes j) gi (slice_get-get_or planes j origin lt) (λ q. ne (sym q))
+
+  -- the plane passes through the vertex
+  on_plane : (e : Entry) → IsUpperEntry planes c g axis e → dot (plane_at planes e.plane) (vertex planes g e) ≡ pos 0
+  on_plane e u =
+      let h : V3 = plane_at planes e.plane in
+      let z = primitive_on h (cross g h) (dot_cross_right g h) (not_parallel e.plane u.within u.different) in
+      ⊎_elim {C = dot h (vertex planes g e) ≡ pos 0} (λ q. ap (dot h) q ∙ z) (λ q. ap (dot h) q ∙ negative_on h (ray g h) z) (either_way e)
 
   -- ---- the first stop is that of the axis
 
-  axis_is : plane_at planes (axis_beside c) ≡ axis
-  axis_is = get_or_from_slice_get planes (axis_beside c) axis origin ai
+  begins : v 0 ≡ ray g axis
+  begins =
+      let f = find (axis_beside c) axis_within (axis_differs c) in
+      let flat = flat_facet g axis (plane_at planes f.entry.plane) f.entry.turned (ap (λ j. det g axis (plane_at planes j)) f.plane ∙ ap (det g axis) (get_or_from_slice_get planes (axis_beside c) axis origin ai) ∙ det_same g axis) in
+      let is : v (first f.stop) ≡ ray g axis = sym f.is.crossed ∙ axis_first planes rules c g axis gi ai f.entry f.is.is_upper flat in
+      ⊎_elim {C = v 0 ≡ ray g axis} (λ e. ap (λ k. v (first k)) (sym e) ∙ is)
+      (λ ne. absurd (not_before g (ray g axis) gg (v 0) (on 0 some) (subst (λ x. pos 0 <ℤ turn g (v 0) x) is (stop_rises 0 f.stop (omega (arith, ne)) f.inside))))
+      (same_or f.stop 0)
 
-  abbrev axis_spot : ℕ
-  axis_spot = axis_put.spot
+  unit_is : (k : ℕ) → k < 3 → (k < length planes) × (plane_at planes k ≡ unit k)
+  unit_is k lt = (subst (λ ps. k < length ps) (sym rules.is) (omega (arith, lt)), ap (λ ps. plane_at ps k) rules.is ∙ get_or_append_left axes _ origin k lt)
 
-  -- the entry of the axis is not turned
-  axis_facet : facet axis_spot ≡ axis
-  axis_facet = go (at axis_spot).turned (ap (λ j. facet_by (at axis_spot).turned (plane_at planes j)) axis_put.plane ∙ ap (facet_by (at axis_spot).turned) axis_is) (on axis_spot axis_put.inside)
-    where
-      go : (t : Bool) → facet axis_spot ≡ facet_by t axis → OnTurn (facet axis_spot) → facet axis_spot ≡ axis
-      go false e o = e
-      go true e o = absurd (no_opposite g axis gg flat (subst OnTurn e o))
+  -- some plane does not pass through the first stop
+  more_than_one : 1 < length ends
+  more_than_one = ⊎_elim {C = 1 < length ends} (λ h. h) (λ le. absurd (IsPrimitive-some (v 0) (on 0 some).point.primitive (on_all_axes (v 0) (λ k lt.
+      let (small, is) = unit_is k lt in
+      ap (λ h. dot h (v 0)) (sym is) ∙ ⊎_elim {C = dot (plane_at planes k) (v 0) ≡ pos 0} (λ e. ap (λ j. dot (plane_at planes j) (v 0)) e ∙ ap (λ h. dot h (v 0)) normal_is ∙ (on 0 some).point.on)
+      (λ ne.
+      let f = find k small ne in
+      let z : f.stop ≡ 0 = (let w = f.inside in omega (arith, w, le)) in
+      ap (λ j. dot (plane_at planes j) (v 0)) (sym f.plane) ∙ (ap (dot (plane_at planes f.entry.plane)) (sym (f.is.crossed ∙ ap (λ i. v (first i)) z)) ∙ on_plane f.entry f.is.is_upper))
+      (same_or k c))))) (lt_or_le 1 (length ends))
 
-  -- and no other comes before it
-  none_earlier : (p : ℕ) → p ≡ axis_spot → p ≡ 0
-  none_earlier zero e = refl
-  none_earlier (suc p) e =
-      let lt : 0 < axis_spot = omega (arith, e) in
-      absurd (⊎_elim {C = ⊥}
-      (λ h. none_before g axis gg flat (facet 0) (on 0 some) (turned g axis gg flat (facet 0) axis (on 0 some).apart flat (subst (λ x. pos 0 <ℤ det g (facet 0) x) axis_facet h)))
-      (λ h. least c (at 0).plane (upper_at 0 some).different (subst (λ j. (at 0).plane < j) axis_put.plane h.1))
-      (rises 0 axis_spot lt axis_put.inside))
-    where
-      least : (c j : ℕ) → j ≢ c → j < axis_beside c → ⊥
-      least zero j ne lt = ne (omega (arith, lt))
-      least (suc c) j ne lt = omega (arith, lt)
+  -- ---- the circle
 
-  begins : facet 0 ≡ axis
-  begins = ap facet (sym (none_earlier axis_spot refl)) ∙ axis_facet
+  module _ (linked : List ℕ) (whole : (j : ℕ) → j < length planes → Contains linked j) where
+    link : (j : ℕ) (h : V3) → slice_get planes j ≡ Some h → IsLinked planes linked j h
+    link j h e = record { listed = whole j (slice_get_within planes j h e); is = e }
 
-  unit_is : (k : ℕ) → k < 3 → plane_at planes k ≡ unit k
-  unit_is zero lt = ap (λ ps. plane_at ps 0) rules.is
-  unit_is (suc zero) lt = ap (λ ps. plane_at ps 1) rules.is
-  unit_is (suc (suc zero)) lt = ap (λ ps. plane_at ps 2) rules.is
-  unit_is (suc (suc (suc k))) lt = absurd (omega arith)
+    on_circle : (p : ℕ) → p < length es → IsOnCircle planes linked c g (v p)
+    on_circle p lt =
+        let u = upper_at p lt in
+        record { other = (at p).plane; h = plane_at planes (at p).plane; other_is = link (at p).plane (plane_at planes (at p).plane) (slice_get-get_or planes (at p).plane origin u.within); different = u.different; is = either_way (at p) }
 
-  three : (k : ℕ) → k < 3 → k < length planes
-  three k lt = subst (λ ps. k < length ps) (sym rules.is) (omega (arith, lt))
+    stop_is : (k : ℕ) → k < length ends → IsStopOf planes linked c (v (first k)) (slot k)
+    stop_is k lk = record {
+      some = let n = slot_long k lk in let h = high k lk in omega (arith, n, h);
+      names = λ e ce. named e ∙ (of_stop k e lk ce).crossed;
+      through = record {
+        ascending = planes_rise k lk;
+        each = λ j cj.
+            let (e, ce, q) = Contains-from_map (λ e. e.plane) (slot k) j cj in
+            let o = of_stop k e lk ce in
+            subst (PassesThrough planes linked c (v (first k))) q (record {
+              h = plane_at planes e.plane;
+              linked_is = link e.plane (plane_at planes e.plane) (slice_get-get_or planes e.plane origin o.is_upper.within);
+              different = o.is_upper.different;
+              on = ap (dot (plane_at planes e.plane)) (sym o.crossed) ∙ on_plane e o.is_upper;
+            });
+        all = λ j p.
+            let f = find j (slice_get_within planes j p.h p.linked_is.is) p.different in
+            let is : plane_at planes j ≡ p.h = get_or_from_slice_get planes j p.h origin p.linked_is.is in
+            let on_both = ap (λ h. dot h (v (first f.stop))) (sym (ap (plane_at planes) f.plane ∙ is)) ∙ (ap (dot (plane_at planes f.entry.plane)) (sym f.is.crossed) ∙ on_plane f.entry f.is.is_upper) in
+            let flat = subst (λ h. cross g h ≢ origin) is (not_parallel j (slice_get_within planes j p.h p.linked_is.is) p.different) in
+            let never = λ (i m : ℕ) (lt : i < m) (lm : m < length ends) (zi : dot p.h (v (first i)) ≡ pos 0) (zm : dot p.h (v (first m)) ≡ pos 0).
+            not_both g p.h (v (first i)) (v (first m)) (stop_rises i m lt lm) (on (first i) (first_in i (omega (arith, lt, lm)))).point.on (on (first m) (first_in m lm)).point.on flat zi zm in
+            let same : f.stop ≡ k = ⊎_elim {C = f.stop ≡ k} (λ lt. absurd (never f.stop k lt lk on_both p.on)) (λ o. ⊎_elim {C = f.stop ≡ k} (λ q. q) (λ gt. absurd (never k f.stop gt f.inside p.on on_both)) o) (trichotomy f.stop k) in
+            subst (Contains (map (λ e. e.plane) (slot k))) f.plane (Contains-map (λ e. e.plane) (slot k) f.entry (subst (λ i. Contains (slot i) f.entry) same f.there));
+      };
+    }
 
-  -- some entry is ahead of the axis
-  one_off : (k : ℕ) → k < 3 → (det g axis (unit k) ≡ pos 0) ⊎ (1 < length ends)
-  one_off k lt = ⊎_elim {C = (det g axis (unit k) ≡ pos 0) ⊎ (1 < length ends)}
-      (λ q. inl (ap (det g axis) (sym (unit_is k lt)) ∙ (ap (λ j. det g axis (plane_at planes j)) q ∙ (ap (det g axis) normal_is ∙ det_own g axis))))
-      (λ ne. ⊎_elim {C = (det g axis (unit k) ≡ pos 0) ⊎ (1 < length ends)} (λ z. inl z) (λ nz. inr (two ne nz)) (zero_or (det g axis (unit k))))
-      (same_or k c)
-    where
-      two : k ≢ c → det g axis (unit k) ≢ pos 0 → 1 < length ends
-      two ne nz =
-          let f = find k (three k lt) ne in
-          let o = of_stop f.stop f.entry f.inside f.there in
-          ⊎_elim {C = 1 < length ends}
-          (λ q. absurd (nz (ap (det g axis) (sym (unit_is k lt) ∙ ap (plane_at planes) (sym f.plane)) ∙ (ap (λ x. det g x (plane_at planes f.entry.plane)) (sym (ap (λ i. facet (first i)) q ∙ begins)) ∙ meets f.stop f.entry f.inside o))))
-          (λ d. let w = f.inside in some_more f.stop d w)
-          (same_or f.stop 0)
-        where
-          some_more : (i : ℕ) → i ≢ 0 → i < length ends → 1 < length ends
-          some_more zero ne lt = absurd (ne refl)
-          some_more (suc i) ne lt = omega (arith, lt)
+    abbrev named_by : List Entry → V3
+    named_by xs = vertex_of planes c xs
 
-  half_is : IsHalfCircle planes c g axis half
-  half_is = record {
-    two = let a = more_than_one in omega (arith, a, long);
-    start = half_at 0 (omega (arith, count)) ∙ begins;
-    rises = λ i k lt lk.
-        let l : k < length ends = omega (arith, lk, long) in
-        let m : i < length ends = omega (arith, l, lt) in
-        subst (λ x. pos 0 <ℤ det g x (normal_at half k)) (sym (half_at i m)) (subst (λ x. pos 0 <ℤ det g (facet (first i)) x) (sym (half_at k l)) (stop_rises i k lt l));
-    each = λ k lk. let l : k < length ends = omega (arith, lk, long) in
-        let u = upper_at (first k) (first_in k l) in
-        record { number = (at (first k)).plane; within = u.within; different = u.different; turned = (at (first k)).turned; is = half_at k l };
-    all = λ j lt ne.
-        let f = find j lt ne in
-        let z = meets f.stop f.entry f.inside (of_stop f.stop f.entry f.inside f.there) in
-        record { place = f.stop; within = (let w = f.inside in omega (arith, w, long)); flat = ap (λ x. det g x (plane_at planes j)) (half_at f.stop f.inside) ∙ (ap (λ i. det g (facet (first f.stop)) (plane_at planes i)) (sym f.plane) ∙ z) };
-  }
-    where
-      more_than_one : 1 < length ends
-      more_than_one = ⊎_elim {C = 1 < length ends} (λ h. h) (λ le. absurd (some_off g axis flat (λ k lt. ⊎_elim {C = det g axis (unit k) ≡ pos 0} (λ z. z) (λ l. absurd (omega (arith, l, le))) (one_off k lt)))) (lt_or_le 1 (length ends))
+    -- a stop of the half circle, by its vertex
+    stop_in : (xs : List Entry) → Contains slots xs → IsStopOf planes linked c (named_by xs) xs
+    stop_in xs (k, lk, e) =
+        let is = subst (IsStopOf planes linked c (v (first k))) (get_or_default slots k [] xs lk ∙ e) (stop_is k (omega (arith, lk, length-stops 0 ends es))) in
+        subst (λ u. IsStopOf planes linked c u xs) (sym (vertex_is planes linked c (v (first k)) xs is)) is
 
-  pub circle_is : (linked : List ℕ) → ((j : ℕ) → j < length planes → Contains linked j) → IsRingOf planes linked (ring_by c (all_around slots))
-  circle_is linked whole = ring_is planes linked c g axis half whole rules.apart gi ai half_is slots filled
+    all_stops : (xs : List Entry) → Contains (all_around slots) xs → IsStopOf planes linked c (named_by xs) xs
+    all_stops xs cx = ⊎_elim {C = IsStopOf planes linked c (named_by xs) xs} (stop_in xs) (λ b.
+        let (ys, cy, e) = Contains-from_map (map opposite) slots xs b in
+        let is = subst (IsStopOf planes linked c (negative (named_by ys))) e (turned planes linked c (named_by ys) ys (stop_in ys cy)) in
+        subst (λ u. IsStopOf planes linked c u xs) (sym (vertex_is planes linked c (negative (named_by ys)) xs is)) is)
+        (Contains-append_cases slots (map (map opposite) slots) xs cx)
+
+    abbrev half : List V3
+    half = map named_by slots
+
+    long : length half ≡ length ends
+    long = length-map slots named_by ∙ length-stops 0 ends es
+
+    half_at : (k : ℕ) → k < length ends → get_or half k origin ≡ v (first k)
+    half_at k lk = get_or-map named_by slots k [] origin (omega (arith, lk, length-stops 0 ends es)) ∙ vertex_is planes linked c (v (first k)) (slot k) (stop_is k lk)
+
+    half_is : IsHalf planes linked c g axis half
+    half_is = record {
+      rises = λ i k lt lk.
+          let l : k < length ends = omega (arith, lk, long) in
+          subst (λ x. pos 0 <ℤ turn g x (get_or half k origin)) (sym (half_at i (omega (arith, lt, l)))) (subst (λ x. pos 0 <ℤ turn g (v (first i)) x) (sym (half_at k l)) (stop_rises i k lt l));
+      two = let t = more_than_one in omega (arith, t, long);
+      start = half_at 0 (let t = more_than_one in omega (arith, t)) ∙ begins;
+      each = λ u (k, lk, e). let l : k < length ends = omega (arith, lk, long) in subst (IsOnCircle planes linked c g) (sym (half_at k l) ∙ (get_or_default half k origin u lk ∙ e)) (on_circle (first k) (first_in k l));
+      all = λ u x.
+          let f = find x.other (slice_get_within planes x.other x.h x.other_is.is) x.different in
+          let is : plane_at planes f.entry.plane ≡ x.h = ap (plane_at planes) f.plane ∙ get_or_from_slice_get planes x.other x.h origin x.other_is.is in
+          record {
+            vertex = get_or half f.stop origin;
+            listed = Contains-get_or half f.stop origin (let w = f.inside in omega (arith, w, long));
+            same = subst (λ y. (u ≡ y) ⊎ (u ≡ negative y)) (f.is.crossed ∙ sym (half_at f.stop f.inside)) (
+                turned_same u (ray g x.h) (vertex planes g f.entry) x.is (subst (λ h. (vertex planes g f.entry ≡ ray g h) ⊎ (vertex planes g f.entry ≡ negative (ray g h))) is (either_way f.entry)));
+          };
+    }
+      where
+        turned_same : (u r w : V3) → (u ≡ r) ⊎ (u ≡ negative r) → (w ≡ r) ⊎ (w ≡ negative r) → (u ≡ w) ⊎ (u ≡ negative w)
+        turned_same u r w (inl a) (inl b) = inl (a ∙ sym b)
+        turned_same u r w (inl a) (inr b) = inr (a ∙ sym (ap negative b ∙ negative-negative r))
+        turned_same u r w (inr a) (inl b) = inr (a ∙ ap negative (sym b))
+        turned_same u r w (inr a) (inr b) = inl (a ∙ sym b)
+
+    abbrev as_stop : List Entry → RingStop
+    as_stop xs = record { node = 0; entries = xs }
+
+    pub circle_is : IsRingOf planes linked (ring_by c (all_around slots))
+    circle_is = record {
+      circle = circle_from_half planes linked c g axis half half_is (map (stop_of planes c) (map as_stop (all_around slots))) (link c g gi) (link (axis_beside c) axis ai) vertices
+          (All-map (λ s. Lists nat_cmp (PassesThrough planes linked c s.vertex) s.through) (stop_of planes c) (map as_stop (all_around slots))
+          (All-map (λ s. Lists nat_cmp (PassesThrough planes linked c (vertex_of planes c s.entries)) (map (λ e. e.plane) s.entries)) as_stop (all_around slots) (All-from_members (λ xs. Lists nat_cmp (PassesThrough planes linked c (named_by xs)) (map (λ e. e.plane) xs)) (all_around slots) (λ xs cx. (all_stops xs cx).through))));
+      agree = All-map (λ s. All (λ e. crossing planes c e ≡ vertex_of planes c s.entries) s.entries) as_stop (all_around slots) (All-from_members (λ xs. All (λ e. crossing planes c e ≡ named_by xs) xs) (all_around slots) (λ xs cx. All-from_members (λ e. crossing planes c e ≡ named_by xs) xs (all_stops xs cx).names));
+    }
+      where
+        vertices : map (λ s. s.vertex) (map (stop_of planes c) (map as_stop (all_around slots))) ≡ whole_circle half
+        vertices = map_twice (λ s. s.vertex) (stop_of planes c) (map as_stop (all_around slots)) ∙ map_twice (λ s. vertex_of planes c s.entries) as_stop (all_around slots) ∙ map-append named_by slots (map (map opposite) slots)
+            ∙ ap (λ us. half ++ us) (map_twice named_by (map opposite) slots
+            ∙ map_same (λ xs. named_by (map opposite xs)) (λ xs. negative (named_by xs)) slots (λ xs cx. vertex_is planes linked c (negative (named_by xs)) (map opposite xs) (turned planes linked c (named_by xs) xs (stop_in xs cx)))
+            ∙ sym (map_twice negative named_by slots))
 
   pub are_stops : AreStopsFrom 0 (length es) ends
-  are_stops = stops_by 0 ends ascending (omega arith) (λ p cp. ⊎_elim {C = p ≤ length es} (λ a. let w = (are.are.each p a).within in omega (arith, w)) (λ b. let q = only_one (length es) p b in omega (arith, q)) (Contains-append_cases are.breaks (length es ∷ []) p (subst (λ l. Contains l p) are.is cp)))
+  are_stops = stops_by 0 ends ascending (omega arith) (λ p cp. (end_below p cp).1)
     where
       stops_by : (start : ℕ) (xs : List ℕ) → IsStrictlySortedBy nat_cmp (start ∷ xs) → start ≤ length es → ((p : ℕ) → Contains xs p → p ≤ length es) → AreStopsFrom start (length es) xs
       stops_by start [] s le h = le

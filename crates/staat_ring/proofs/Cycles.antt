@@ -1,5 +1,5 @@
 -- A list that is read around, where members are left out of which no two follow each other.
-use Rattle.std.proofs.Common.{◌≡◌, ◌≢◌, ⊎_elim, ℕ, zero, suc, ◌+◌, ◌%◌, ◌<◌, Bool, true, false, arith, ap, sym, subst, ◌∙◌, refl, List, [], ◌∷◌, length, cond, add-one}
+use Rattle.std.proofs.Common.{◌≡◌, ◌⊎◌, inl, inr, ⊎_elim, ℕ, zero, suc, ◌+◌, ◌%◌, ◌<◌, Bool, true, false, arith, ap, sym, subst, ◌∙◌, refl, List, [], ◌∷◌, length, cond, add-one}
 use Rattle.std.specs.Prelude.{Some, slice_get}
 use Rattle.std.specs.List.{filter}
 use Rattle.std.proofs.Math.Nat.{mod_self, mod-eq_of_lt}
@@ -14,6 +14,10 @@ Linked R a (x ∷ xs) b = R a x × Linked R x xs b
 -- R holds from each to the next, the last being followed by the first
 abbrev pub Around : {A : Type 0} → (A → A → Type 0) → List A → Type 0
 Around {A = A} R xs = (k : ℕ) (s t : A) → slice_get xs k ≡ Some s → slice_get xs ((k + 1) % length xs) ≡ Some t → R s t
+
+-- the next place, or the first
+pub following : (k m : ℕ) → k < m → ((k + 1) % m ≡ k + 1) ⊎ ((k + 1 ≡ m) × ((k + 1) % m ≡ 0))
+following k m lt = ⊎_elim {C = ((k + 1) % m ≡ k + 1) ⊎ ((k + 1 ≡ m) × ((k + 1) % m ≡ 0))} (λ e. inr (e, ap (λ j. j % m) e ∙ mod_self m)) (λ ne. inl (mod-eq_of_lt (omega (arith, lt, ne)))) (same_or (k + 1) m)
 
 -- ---- both ways
 
@@ -38,21 +42,12 @@ linked_last R a [] b l s p = subst (λ y. R y b) (same_Some a s p) l
 linked_last R a (x ∷ xs) b l s p = linked_last R x xs b l.1 s p
 
 pub around_of_linked : {A : Type 0} (R : A → A → Type 0) (a : A) (xs : List A) → Linked R a xs a → Around R (a ∷ xs)
-around_of_linked {A = A} R a xs l k s t p q = ⊎_elim {C = R s t} last more (same_or k (length xs))
-  where
-    within : k < length (a ∷ xs)
-    within = slice_get_within (a ∷ xs) k s p
-
-    last : k ≡ length xs → R s t
-    last e =
-        let z : (k + 1) % length (a ∷ xs) ≡ 0 = ap (λ m. (m + 1) % length (a ∷ xs)) e ∙ (ap (λ m. m % length (a ∷ xs)) (add-one (length xs)) ∙ mod_self (length (a ∷ xs))) in
-        let same : a ≡ t = same_Some a t (subst (λ m. slice_get (a ∷ xs) m ≡ Some t) z q) in
-        subst (R s) same (linked_last R a xs a l s (subst (λ m. slice_get (a ∷ xs) m ≡ Some s) e p))
-
-    more : k ≢ length xs → R s t
-    more ne =
-        let lt : suc k < length (a ∷ xs) = (let w = within in omega (arith, w, ne)) in
-        linked_step R a xs a l k s t p (subst (λ m. slice_get (a ∷ xs) m ≡ Some t) (ap (λ m. m % length (a ∷ xs)) (add-one k) ∙ mod-eq_of_lt lt) q)
+around_of_linked R a xs l k s t p q = ⊎_elim {C = R s t}
+    (λ e. linked_step R a xs a l k s t p (subst (λ m. slice_get (a ∷ xs) m ≡ Some t) (e ∙ add-one k) q))
+    (λ e.
+    let at_last = subst (λ m. slice_get (a ∷ xs) m ≡ Some s) (let k_is : k ≡ length xs = omega (arith, e.0) in k_is) p in
+    subst (R s) (same_Some a t (subst (λ m. slice_get (a ∷ xs) m ≡ Some t) e.1 q)) (linked_last R a xs a l s at_last))
+    (following k (length (a ∷ xs)) (slice_get_within (a ∷ xs) k s p))
 
 -- ---- left out
 

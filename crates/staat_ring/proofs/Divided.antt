@@ -1,7 +1,7 @@
 -- Entries that are divided by the ends of stops, and their opposites after them.
 use Rattle.std.proofs.Common.{◌≡◌, ℕ, zero, suc, ◌+◌, ◌-◌, ◌<◌, ◌≤◌, arith, ap, sym, subst, ◌∙◌, refl, List, [], ◌∷◌, ◌++◌, length, get_or, map, take, drop}
 use Rattle.std.specs.List.{between}
-use Rattle.std.proofs.lemmas.List.{append_assoc, get_or_read, length-append, length-map, take-append-le}
+use Rattle.std.proofs.lemmas.List.{append_assoc, drop-drop, drop-map, drop_at, get_or_read, length-append, length-map, take-append-le, take-map, get_or_append_left, map_more}
 use Rattle.std.proofs.lemmas.Slice.{between_is}
 use Rattle.staat_ring.specs.declared.entry.Entry.{Entry}
 use Rattle.staat_ring.specs.Builds.{AreStopsFrom, all_around, opposite, stops_from}
@@ -67,8 +67,7 @@ after start n [] ends es = refl
 after start n (end ∷ front) ends es = ap (λ l. between start end es ∷ l) (after end n front ends es)
 
 drop_first : (n : ℕ) (xs ys : List Entry) → drop (length xs + n) (xs ++ ys) ≡ drop n ys
-drop_first n [] ys = ap (λ m. drop m ys) (let z : 0 + n ≡ n = omega arith in z)
-drop_first n (x ∷ xs) ys = ap (λ m. drop m (x ∷ xs ++ ys)) (let z : suc (length xs) + n ≡ suc (length xs + n) = omega arith in z) ∙ drop_first n xs ys
+drop_first n xs ys = sym (drop-drop n (length xs) (xs ++ ys)) ∙ ap (drop n) (drop_at xs ys (length xs) refl)
 
 first_stops : (start : ℕ) (ends : List ℕ) (es more : List Entry) → AreStopsFrom start (length es) ends → stops_from start ends (es ++ more) ≡ stops_from start ends es
 first_stops start [] es more are = refl
@@ -88,11 +87,7 @@ later_stops start (end ∷ ends) es more = λ i. here i ∷ later_stops end ends
     here = λ i. take (count i) (drop_first start es more i)
 
 map_between : (f : Entry → Entry) (m n : ℕ) (es : List Entry) → take m (drop n (map f es)) ≡ map f (take m (drop n es))
-map_between f zero n es = refl
-map_between f (suc m) zero [] = refl
-map_between f (suc m) zero (e ∷ es) = ap (λ l. f e ∷ l) (map_between f m zero es)
-map_between f (suc m) (suc n) [] = refl
-map_between f (suc m) (suc n) (e ∷ es) = map_between f (suc m) n es
+map_between f m n es = ap (take m) (drop-map f n es) ∙ take-map f m (drop n es)
 
 turned_stops : (start : ℕ) (ends : List ℕ) (es : List Entry) → stops_from start ends (map opposite es) ≡ map (λ l. map opposite l) (stops_from start ends es)
 turned_stops start [] es = refl
@@ -128,3 +123,15 @@ module _ (es : List Entry) (front ends : List ℕ) (last : ends ≡ front ++ len
 
       second : stops_from (length es) more all_entries ≡ map (λ l. map opposite l) (stops_from 0 ends es)
       second = ap (λ n. stops_from n more all_entries) (sym none) ∙ (later_stops 0 ends es (map opposite es) ∙ turned_stops 0 ends es)
+
+-- ---- a list that gets the images of its first items at its end
+
+module _ {X : Type 0} (f : X → X) (half old : List X) (k : ℕ) (is : old ≡ half ++ map f (take k half)) where
+  pub image_at : (x : X) → k < length half → x ≡ get_or old k x → x ≡ get_or half k x
+  image_at x lt at = at ∙ ap (λ l. get_or l k x) is ∙ get_or_append_left half (map f (take k half)) x k lt
+
+  pub image_more : (x : X) (new : List X) → k < length half → x ≡ get_or half k x → new ≡ old ++ f x ∷ []
+      → new ≡ half ++ map f (take (k + 1) half)
+  image_more x new lt at pushed =
+      pushed ∙ (λ i. is i ++ f (at i) ∷ []) ∙ append_assoc half (map f (take k half)) (f (get_or half k x) ∷ [])
+      ∙ ap (λ l. half ++ l) (sym (map_more f half k x lt))

@@ -4,7 +4,6 @@ pub mod TurnOrder
 pub mod Sides
 pub mod Steps
 pub mod Stops
-pub mod Covered
 pub mod Ordering
 pub mod NextVertexWithout
 pub mod Cycles
@@ -12,10 +11,7 @@ pub mod WithoutLemmas
 pub mod CircleWithout
 pub mod RingWithout
 pub mod RingsWithout
-pub mod NextOnHalfCircle
 pub mod CircleFromHalf
-pub mod Deciding
-pub mod CircleFromPlaces
 pub mod Divided
 pub mod HalfTurn
 pub mod CircleFromEntries
@@ -34,7 +30,6 @@ pub mod Appending
 pub mod Rows
 pub mod Numbers
 pub mod Numbering
-pub mod Linkable
 pub mod RowRules
 pub mod EntryHomes
 pub mod EntrySteps
@@ -51,15 +46,11 @@ pub mod SignLemmas
 pub mod SumsBelow
 pub mod ArcLaw
 pub mod PushLemmas
-pub mod Images
 pub mod IndexLemmas
 pub mod PairNumbers
 pub mod Starting
 pub mod Walking
-pub mod Leaving
-pub mod StepLaw
 pub mod StopSigns
-pub mod CrossLaw
 pub mod SignAll
 pub mod CircleStops
 pub mod StopLemmas
@@ -70,7 +61,6 @@ pub mod CrossSteps
 pub mod Strength
 pub mod BlockSteps
 pub mod Turns
-pub mod StepSigns
 pub mod Taking
 pub mod Ends
 pub mod ListsWithout

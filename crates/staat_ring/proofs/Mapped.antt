@@ -1,9 +1,10 @@
 -- Members of lists and of mapped lists, and numbers that differ.
-use Rattle.std.proofs.Common.{◌≡◌, ◌≢◌, ℕ, zero, suc, ◌<◌, ◌≤◌, Bool, true, false, ◌||◌, arith, refl, sym, ◌∙◌, List, [], ◌∷◌, length, Contains, eqb}
+use Rattle.std.proofs.Common.{◌≡◌, ◌≢◌, ℕ, zero, suc, ◌<◌, ◌≤◌, false, arith, refl, sym, subst, ◌∙◌, List, [], ◌∷◌, length, Contains, eqb}
 use Rattle.std.specs.Prelude.{Some, map, slice_get}
-use Rattle.std.specs.List.{IsDistinct, list_any}
+use Rattle.std.specs.List.{IsDistinct}
 use Rattle.std.proofs.lemmas.Bool.Decides.{Decides-eqb}
 use Rattle.std.proofs.lemmas.List.Elements.{recursion_from_All}
+use Rattle.std.proofs.lemmas.List.Folds.{Any-from_list_any}
 use Rattle.std.proofs.lemmas.Map.Steps.{length-le_from_distinct_below}
 use Rattle.staat_model.proofs.Members.{All-from_members}
 use Rattle.staat_ring.specs.Links.{Apart, Distinct}
@@ -35,14 +36,6 @@ unfolding IsDistinct
 distinct_words [] d = tt
 distinct_words (x ∷ xs) d = (recursion_from_All (λ y. eqb x y ≡ false) xs (All-from_members (λ y. eqb x y ≡ false) xs (λ y c. eq_test_false x y (λ e. from_apart x xs y d.0 c (sym e)))), distinct_words xs d.1)
 
-found : (q : ℕ) (xs : List ℕ) → list_any (eqb q) xs ≡ true → Contains xs q
-found q [] e = cc
-found q (x ∷ xs) e = go (eqb q x) refl e (found q xs)
-  where
-    go : (b : Bool) → eqb q x ≡ b → (b || list_any (eqb q) xs) ≡ true → (list_any (eqb q) xs ≡ true → Contains xs q) → Contains (x ∷ xs) q
-    go true h e ih = (zero, omega arith, sym ((Decides-eqb q x).0 h))
-    go false h e ih = let r = ih e in (suc r.0, omega (arith, r.1), r.2)
-
 -- different numbers below n are at most n
 pub few_below : (n : ℕ) (xs : List ℕ) → Distinct xs → ((x : ℕ) → Contains xs x → x < n) → length xs ≤ n
-few_below n xs d h = length-le_from_distinct_below xs n (distinct_words xs d) (λ q e. h q (found q xs e))
+few_below n xs d h = length-le_from_distinct_below xs n (distinct_words xs d) (λ q e. let (k, x, lt, at, same) = Any-from_list_any (eqb q) xs e in subst (λ y. y < n) (sym ((Decides-eqb q x).0 same)) (h x (k, lt, at)))

@@ -1,23 +1,26 @@
 -- An entry that is put at its place leaves the others in order.
-use Rattle.std.proofs.Common.{◌≡◌, ◌≢◌, ◌⊎◌, ⊎_elim, inl, inr, ℕ, ◌+◌, ◌-◌, ◌<◌, ◌≤◌, arith, ap, sym, subst, ◌∙◌, List, [], ◌∷◌, ◌++◌, length, get_or, Contains, ℤ, pos, ◌-ℤ◌, ◌<ℤ◌}
+use Rattle.std.proofs.Common.{◌≡◌, ◌≢◌, ◌⊎◌, ⊎_elim, inl, inr, ℕ, ◌+◌, ◌-◌, ◌<◌, ◌≤◌, arith, ap, sym, subst, ◌∙◌, List, [], ◌∷◌, ◌++◌, length, All, Contains, ℤ, pos, ◌<ℤ◌}
+use Rattle.std.specs.Prelude.{IsPermutation}
 use Rattle.std.specs.List.{insert}
 use Rattle.std.specs.List.Sorted.{IsStrictlySortedBy}
 use Rattle.std.specs.Ordering.{nat_cmp}
 use Rattle.std.proofs.lemmas.Int.{ints}
 use Rattle.std.proofs.lemmas.List.{get_or_default}
 use Rattle.std.proofs.lemmas.List.Edits.{get_or-insert_above, get_or-insert_at, get_or-insert_below, length-insert}
-use Rattle.std.proofs.lemmas.List.Elements.{Contains-append_cases, Contains-append_left, Contains-append_right}
+use Rattle.std.proofs.lemmas.List.Elements.{Contains-append_left, Contains-push, Contains-push_cases}
+use Rattle.std.proofs.lemmas.List.Sorted.{Contains-permutation, IsPermutation-insert, IsPermutation-sym}
 use Rattle.staat_vec.specs.declared.vector.V3.{V3}
 use Rattle.staat_vec.specs.Lists.{Lists}
 use Rattle.staat_vec.proofs.Comparisons.{sorted_push}
 use Rattle.staat_vec.proofs.Integers.{zero_not_negative}
-use Rattle.staat_vec.proofs.ListLaws.{only_one}
-use Rattle.staat_vec.proofs.Naturals.{lt_one_more_cases, lt_or_le, same_or, trichotomy}
-use Rattle.staat_vec.proofs.Unique.{Contains-front, Contains-nothing}
+use Rattle.staat_vec.proofs.Naturals.{le_from_not_lt, lt_from_le, lt_one_more_cases, same_or, trichotomy}
+use Rattle.staat_vec.proofs.Unique.{Contains-cases, Contains-front, Contains-later, Contains-nothing}
 use Rattle.staat_vec.proofs.VectorLaws.{det_back}
+use Rattle.staat_model.proofs.Members.{All-from_members}
 use Rattle.staat_planes.proofs.Passing.{not_both}
 use Rattle.staat_ring.specs.declared.entry.Entry.{Entry}
 use Rattle.staat_ring.specs.Order.{AreInOrder, HasEntryOfPlane, IsBreak, IsInserted, IsOrderOf, IsTransitive, CrossesBefore, entry_at, facet_of, no_entry, order_det}
+use Rattle.staat_ring.proofs.HalfTurn.{has_plane}
 use Rattle.staat_ring.proofs.NextVertexWithout.{three}
 
 pub not_precedes : (planes : List V3) (g : V3) (e f : Entry) → order_det planes g e f <ℤ pos 0 → CrossesBefore planes g e f → ⊥
@@ -31,18 +34,9 @@ precedes_back planes g e f not ne =
     let z : ℤ = order_det planes g e f in
     ⊎_elim {C = CrossesBefore planes g f e} (λ p. absurd (not (inl p)))
     (λ o. ⊎_elim {C = CrossesBefore planes g f e}
-    (λ q. inr (zero_back z (order_det planes g f e) back q, less e.plane f.plane (λ lt. not (inr (q, lt))) ne))
-    (λ n. inl (positive_back z (order_det planes g f e) back n)) o)
+    (λ q. inr (omega (arith, ints, back, q), lt_from_le e.plane f.plane (λ same. ne (sym same)) (le_from_not_lt f.plane e.plane (λ lt. not (inr (q, lt))))))
+    (λ n. inl (omega (arith, ints, back, n))) o)
     (three z)
-  where
-    zero_back : (a b : ℤ) → b ≡ pos 0 -ℤ a → a ≡ pos 0 → b ≡ pos 0
-    zero_back a b e z = omega (arith, ints)
-
-    positive_back : (a b : ℤ) → b ≡ pos 0 -ℤ a → a <ℤ pos 0 → pos 0 <ℤ b
-    positive_back a b e n = omega (arith, ints)
-
-    less : (m n : ℕ) → (m < n → ⊥) → n ≢ m → n < m
-    less m n never ne = ⊎_elim {C = n < m} (λ lt. absurd (never lt)) (λ o. ⊎_elim {C = n < m} (λ e. absurd (ne (sym e))) (λ lt. lt) o) (trichotomy m n)
 
 -- ---- the list with one entry more
 
@@ -53,24 +47,17 @@ module _ (es : List Entry) (e : Entry) (i : ℕ) (le : i ≤ length es) where
   long : length new ≡ length es + 1
   long = length-insert es i e le
 
+  moved : IsPermutation (e ∷ es) new
+  moved = IsPermutation-insert es i e
+
   in_before : (x : Entry) → Contains es x → Contains new x
-  in_before x (k, lt, q) = ⊎_elim {C = Contains new x}
-      (λ low. (k, omega (arith, long, lt), get_or-insert_below es i e x k low le ∙ q))
-      (λ high. (k + 1, omega (arith, long, lt), get_or-insert_above es i e x k high le ∙ q))
-      (lt_or_le k i)
+  in_before x c = Contains-permutation (e ∷ es) new x moved (Contains-later e es x c)
 
   in_new : Contains new e
-  in_new = (i, omega (arith, long, le), get_or-insert_at es i e e le)
+  in_new = Contains-permutation (e ∷ es) new e moved (Contains-front e es)
 
   in_only : (x : Entry) → Contains new x → (x ≡ e) ⊎ Contains es x
-  in_only x (k, lt, q) = ⊎_elim {C = (x ≡ e) ⊎ Contains es x}
-      (λ low. inr (k, omega (arith, low, le), sym (get_or-insert_below es i e x k low le) ∙ q))
-      (λ o. ⊎_elim {C = (x ≡ e) ⊎ Contains es x} (λ here. inl (sym (sym (get_or-insert_at es i e x le) ∙ (ap (λ j. get_or new j x) (sym here) ∙ q))))
-      (λ high. inr (k - 1, omega (arith, long, lt, high), sym (get_or-insert_above es i e x (k - 1) (omega (arith, high)) le) ∙ (ap (λ j. get_or new j x) (back k high) ∙ q))) o)
-      (trichotomy k i)
-    where
-      back : (k : ℕ) → i < k → k - 1 + 1 ≡ k
-      back k lt = omega (arith, lt)
+  in_only x c = Contains-cases e es x (Contains-permutation new (e ∷ es) x (IsPermutation-sym (e ∷ es) new moved) c)
 
   low_is : (k : ℕ) → k < i → entry_at new k ≡ entry_at es k
   low_is k lt = get_or-insert_below es i e no_entry k lt le
@@ -104,22 +91,19 @@ module _ (es : List Entry) (e : Entry) (i : ℕ) (le : i ≤ length es) where
 
 -- ---- one entry more
 
-pub order_none : (planes : List V3) (g : V3) → IsOrderOf planes g [] []
-order_none planes g = record { only = λ e c. c; each = λ e c. absurd (Contains-nothing e c); rises = λ t i k lt small. absurd (omega (arith, small)) }
-
-has_plane : (old more : List Entry) (k : ℕ) → ((x : Entry) → Contains old x → Contains more x) → HasEntryOfPlane old k → HasEntryOfPlane more k
-has_plane old more k in_more h = record { turned = h.turned; listed = in_more (record { plane = k; turned = h.turned }) h.listed }
+pub order_within : (planes : List V3) (g : V3) (m : ℕ) (es new : List Entry) → IsOrderOf planes g es new → ((e : Entry) → Contains es e → e.plane < m) → All (λ e. e.plane < m) new
+order_within planes g m es new o small = All-from_members (λ e. e.plane < m) new (λ e c. small e (o.only e c))
 
 pub order_more : (planes : List V3) (g : V3) (e : Entry) (es done old new : List Entry) → done ≡ es ++ e ∷ [] → IsInserted planes g e old new → IsOrderOf planes g es old → IsOrderOf planes g done new
 order_more planes g e es done old new is (inr (has, same)) o = subst (λ (ds : List Entry). IsOrderOf planes g ds new) (sym is) (subst (λ (v : List Entry). IsOrderOf planes g (es ++ e ∷ []) v) (sym same) (record {
   only = λ x c. Contains-append_left es (e ∷ []) x (o.only x c);
-  each = λ x c. ⊎_elim {C = HasEntryOfPlane old x.plane} (λ c. o.each x c) (λ c. subst (λ (y : Entry). HasEntryOfPlane old y.plane) (sym (only_one e x c)) has) (Contains-append_cases es (e ∷ []) x c);
+  each = λ x c. ⊎_elim {C = HasEntryOfPlane old x.plane} (λ c. o.each x c) (λ q. subst (λ (y : Entry). HasEntryOfPlane old y.plane) q has) (Contains-push_cases es e x c);
   rises = λ t. o.rises (λ a b d ca cb cd. t a b d (Contains-append_left es (e ∷ []) a ca) (Contains-append_left es (e ∷ []) b cb) (Contains-append_left es (e ∷ []) d cd));
 }))
 order_more planes g e es done old new is (inl (i, at, apart, set)) o = subst (λ (ds : List Entry). IsOrderOf planes g ds new) (sym is) (subst (λ (v : List Entry). IsOrderOf planes g all v) (sym set) (record {
   only = λ x c. ⊎_elim {C = Contains all x} (λ q. subst (Contains all) (sym q) last) (λ c. first x (o.only x c)) (in_only old e i at.within x c);
   each = λ x c. ⊎_elim {C = HasEntryOfPlane (insert old i e) x.plane} (λ c. has_plane old (insert old i e) x.plane (in_before old e i at.within) (o.each x c))
-      (λ c. subst (λ (y : Entry). HasEntryOfPlane (insert old i e) y.plane) (sym (only_one e x c)) (record { turned = e.turned; listed = in_new old e i at.within })) (Contains-append_cases es (e ∷ []) x c);
+      (λ q. subst (λ (y : Entry). HasEntryOfPlane (insert old i e) y.plane) q (record { turned = e.turned; listed = in_new old e i at.within })) (Contains-push_cases es e x c);
   rises = in_order;
 }))
   where
@@ -130,7 +114,7 @@ order_more planes g e es done old new is (inl (i, at, apart, set)) o = subst (λ
     first x c = Contains-append_left es (e ∷ []) x c
 
     last : Contains all e
-    last = Contains-append_right es (e ∷ []) e (Contains-front e [])
+    last = Contains-push es e
 
     one_before : (k : ℕ) → k + 1 ≡ i → CrossesBefore planes g (entry_at old k) e
     one_before k q = precedes_back planes g e (entry_at old k) (at.before k q) (λ p. apart (omega (arith, q)) (ap (λ j. (entry_at old j).plane) (place k q) ∙ p))
@@ -183,10 +167,10 @@ breaks_more planes g es n ends new is set b = subst (λ (v : List ℕ). AreBreak
   ascending = sorted_push ends n b.ascending (λ p c. (b.each p c).0);
   each = λ p c. ⊎_elim {C = (p < n + 1) × IsBreak planes g es p}
       (λ c. let h = b.each p c in ((let l = h.0 in omega (arith, l)), h.1))
-      (λ c. let q = only_one n p c in (omega (arith, q), subst (IsBreak planes g es) (sym q) is))
-      (Contains-append_cases ends (n ∷ []) p c);
+      (λ q. (omega (arith, q), subst (IsBreak planes g es) q is))
+      (Contains-push_cases ends n p c);
   all = λ p h. ⊎_elim {C = Contains (ends ++ n ∷ []) p} (λ lt. Contains-append_left ends (n ∷ []) p (b.all p (lt, h.1)))
-      (λ q. subst (Contains (ends ++ n ∷ [])) (sym q) (Contains-append_right ends (n ∷ []) n (Contains-front n [])))
+      (λ q. subst (Contains (ends ++ n ∷ [])) (sym q) (Contains-push ends n))
       (lt_one_more_cases p n h.0);
 })
 

@@ -1,9 +1,10 @@
 -- The invariant of the rings is kept.
-use Rattle.std.proofs.Common.{◌≡◌, ◌≢◌, ℕ, zero, suc, ◌+◌, ◌*◌, ◌/◌, ◌%◌, ◌<◌, ◌≤◌, refl, sym, ap, subst, ◌∙◌, arith, List, [], ◌∷◌, ◌++◌, length, Bool, true, false, not, ◌||◌, cond, if◌then◌else◌, Contains, inl, inr, eq-eqb, get_or}
+use Rattle.std.proofs.Common.{◌≡◌, ◌≢◌, ⊎_elim, ℕ, zero, suc, ◌+◌, ◌*◌, ◌/◌, ◌%◌, ◌<◌, ◌≤◌, refl, sym, ap, subst, ◌∙◌, arith, List, [], ◌∷◌, ◌++◌, length, Bool, true, false, not, if◌then◌else◌, Contains, eq-eqb, get_or}
 use Rattle.std.specs.List.{filter}
 use Rattle.std.specs.Prelude.{◌==◌}
-use Rattle.std.proofs.Math.Nat.{mul-add-mod_self_left, mod-eq_of_lt}
+use Rattle.std.proofs.Math.Nat.{mul-add-mod_self_left, mul-le-mul_right, mod-eq_of_lt}
 use Rattle.std.proofs.Math.ListN.{length-set}
+use Rattle.std.proofs.lemmas.List.Sums.{count_by-le-length, length-filter}
 use Rattle.std.proofs.lemmas.List.Elements.{Contains-append_cases}
 use Rattle.staat_ring.proofs.WithoutLemmas.{filter_from}
 use Rattle.staat_ring.specs.Links.{Arrays, Apart, Distinct, unlink, is_bare, take, take_all}
@@ -19,9 +20,10 @@ use Rattle.staat_ring.proofs.RelinkUndoesUnlink.{give_all-take_all}
 use Rattle.staat_ring.proofs.TwoLevels.{length_if, stands-take_all, present-after}
 use Rattle.staat_ring.proofs.ViewLemmas.{AreShort, lists_of_is, stands_same}
 use Rattle.staat_ring.proofs.Filters.{without-plane}
-use Rattle.staat_ring.proofs.RingLemmas.{rings-without, rings-same}
+use Rattle.staat_ring.proofs.RingLemmas.{listed-push, rings-without, rings-same}
 use Rattle.staat_ring.proofs.Mapped.{apart_from}
-use Rattle.staat_vec.proofs.Truth.{from_not_true}
+use Rattle.staat_vec.proofs.Truth.{and_split, false_true_clash, from_not_true}
+use Rattle.staat_vec.proofs.Naturals.{apart_from_test}
 
 -- ---- the numbers of the entries
 pub plane_of_entry : (n p c s : ℕ) → p < n → s < 2 → plane_of n (2 * (c * n + p) + s) ≡ p
@@ -30,28 +32,33 @@ plane_of_entry n p c s h g =
     let turned : c * n + p ≡ n * c + p = omega arith in
     ap (λ x. x % n) (half ∙ turned) ∙ (mul-add-mod_self_left n c p ∙ mod-eq_of_lt h)
 
-pub two_cases : (n p k e : ℕ) → Contains (entries_on n p k) e → (s : ℕ) × (s < 2) × (e ≡ 2 * (k * n + p) + s)
-two_cases n p k e c = go (k == p) c
+-- one of the two entries of p on the circle k
+pub two_cases : (n p k e : ℕ) → Contains (entries_on n p k) e → (s : ℕ) × (s < 2) × (e ≡ 2 * (k * n + p) + s) × (k ≢ p)
+two_cases n p k e c = go (k == p) refl c
   where
-    go : (b : Bool) → Contains (if b then [] else (2 * (k * n + p)) ∷ (2 * (k * n + p) + 1) ∷ []) e → (s : ℕ) × (s < 2) × (e ≡ 2 * (k * n + p) + s)
-    go true (i, lt, q) = absurd (omega arith)
-    go false (zero, lt, q) = (zero, omega arith, omega (arith, q))
-    go false (suc zero, lt, q) = (1, omega arith, sym q)
-    go false (suc (suc i), lt, q) = absurd (omega arith)
+    go : (b : Bool) → (k == p) ≡ b → Contains (if b then [] else (2 * (k * n + p)) ∷ (2 * (k * n + p) + 1) ∷ []) e → (s : ℕ) × (s < 2) × (e ≡ 2 * (k * n + p) + s) × (k ≢ p)
+    go true h (i, lt, q) = absurd (omega arith)
+    go false h (zero, lt, q) = (zero, omega arith, omega (arith, q), λ w. false_true_clash (k == p) h (eq-eqb k p w))
+    go false h (suc zero, lt, q) = (1, omega arith, sym q, λ w. false_true_clash (k == p) h (eq-eqb k p w))
+    go false h (suc (suc i), lt, q) = absurd (omega arith)
+
+-- an entry of p on one of the circles below k
+pub entry_in : (n p k e : ℕ) → Contains (entries_of n p k) e → (c : ℕ) × (c < k) × Contains (entries_on n p c) e
+entry_in n p zero e c = absurd (omega (arith, c.1))
+entry_in n p (suc k) e c = ⊎_elim {C = (c : ℕ) × (c < suc k) × Contains (entries_on n p c) e}
+    (λ a. let (d, l, x) = entry_in n p k e a in (d, omega (arith, l), x))
+    (λ b. (k, omega arith, b))
+    (Contains-append_cases (entries_of n p k) (entries_on n p k) e c)
 
 pub entries_planes : (n p k e : ℕ) → p < n → Contains (entries_of n p k) e → plane_of n e ≡ p
-entries_planes n p zero e h (i, lt, q) = absurd (omega arith)
-entries_planes n p (suc k) e h c = elim (Contains-append_cases (entries_of n p k) (entries_on n p k) e c) [
-  | inl a ↦ entries_planes n p k e h a
-  | inr b ↦ let t = two_cases n p k e b in ap (plane_of n) t.2 ∙ plane_of_entry n p k t.0 h t.1
-]
+entries_planes n p k e h c = let (d, l, x) = entry_in n p k e c in let (s, ls, q, ne) = two_cases n p d e x in ap (plane_of n) q ∙ plane_of_entry n p d s h ls
 
 entries_below : (n p k e : ℕ) → p < n → Contains (entries_of n p k) e → e < 2 * (k * n)
-entries_below n p zero e h (i, lt, q) = absurd (omega arith)
-entries_below n p (suc k) e h c = elim (Contains-append_cases (entries_of n p k) (entries_on n p k) e c) [
-  | inl a ↦ let r = entries_below n p k e h a in omega arith
-  | inr b ↦ let t = two_cases n p k e b in omega (arith, t.1, t.2)
-]
+entries_below n p k e h c =
+    let (d, l, x) = entry_in n p k e c in
+    let (s, ls, q, ne) = two_cases n p d e x in
+    let row : suc d * n ≤ k * n = mul-le-mul_right n l in
+    omega (arith, ls, q, row)
 
 apart_append : (x : ℕ) (xs ys : List ℕ) → Apart x xs → Apart x ys → Apart x (xs ++ ys)
 apart_append x [] ys h g = g
@@ -110,24 +117,12 @@ lengths_kept (e ∷ es) a =
     (r.0 ∙ length_if (is_bare (unlink e a.vertices) (home_of a e)) a.circles (home_of a e), r.1 ∙ length-set a.vertices.next (get_or a.vertices.prev e 0) (get_or a.vertices.next e 0))
 
 filter_length : (test : ℕ → Bool) (xs : List ℕ) → length (filter test xs) ≤ length xs
-filter_length test [] = omega arith
-filter_length test (x ∷ xs) = go (test x) (filter_length test xs)
-  where
-    go : (b : Bool) → length (filter test xs) ≤ length xs → length (cond b (x ∷ filter test xs) (filter test xs)) ≤ suc (length xs)
-    go true h = omega arith
-    go false h = omega arith
+filter_length test xs = rw length-filter (count_by-le-length test xs)
 
 listed_apart : (out : List ℕ) (p q : ℕ) → is_out (out ++ p ∷ []) q ≡ false → (is_out out q ≡ false) × (q ≢ p)
-listed_apart [] p q h = (refl, λ e. last (p == q) (eq-eqb p q (sym e)) h)
-  where
-    last : (b : Bool) → b ≡ true → (b || false) ≡ false → ⊥
-    last true e f = cc
-    last false e f = cc
-listed_apart (x ∷ out) p q h = go (x == q) h (listed_apart out p q)
-  where
-    go : (b : Bool) → (b || is_out (out ++ p ∷ []) q) ≡ false → (is_out (out ++ p ∷ []) q ≡ false → (is_out out q ≡ false) × (q ≢ p)) → ((b || is_out out q) ≡ false) × (q ≢ p)
-    go true e ih = cc
-    go false e ih = ih e
+listed_apart out p q h =
+    let (a, b) = and_split (not (is_out out q)) (not (p == q)) (sym (listed-push out p q) ∙ ap not h) in
+    (from_not_true (is_out out q) a, λ e. apart_from_test p q b (sym e))
 
 -- ---- one plane is unlinked
 module _ (n p : ℕ) (out : List ℕ) (a : Arrays) (in' : p < n) (linked : is_out out p ≡ false) (good : StandForCircles n out a) where

@@ -1,5 +1,5 @@
 -- Crossings lie on their planes, and two planes do not meet in two vertices that follow each other.
-use Rattle.std.proofs.Common.{◌≡◌, ◌≢◌, ℕ, sym, ap, ◌∙◌, arith, ℤ, pos, ◌+ℤ◌, ◌-ℤ◌, ◌*ℤ◌, ◌<ℤ◌, List, [], ◌∷◌, inl, inr}
+use Rattle.std.proofs.Common.{◌≡◌, ◌≢◌, ℕ, sym, ap, ◌∙◌, arith, ℤ, pos, neg_ℤ, ◌+ℤ◌, ◌-ℤ◌, ◌*ℤ◌, ◌<ℤ◌, List, [], ◌∷◌, inl, inr}
 use Rattle.std.proofs.lemmas.Int.{ints}
 use Rattle.staat_vec.specs.declared.vector.V3.{V3}
 use Rattle.staat_vec.specs.Vectors.{dot, cross, det, negative, origin}
@@ -7,36 +7,24 @@ use Rattle.staat_vec.specs.Primitives.{primitive, content}
 use Rattle.staat_model.specs.Circles.{IsLinked, IsOnCircle}
 use Rattle.staat_ring.proofs.Turns.{turn}
 use Rattle.staat_ring.proofs.Stops.{AreLinkedApart}
-use Rattle.staat_vec.proofs.Ring.{at, num, ◌⊕◌, ◌⊖◌, ◌⊗◌, ring, zero-mul_ℤ}
-use Rattle.staat_vec.proofs.VecRing.{dotE, detE, values, v0, v1, v2, v3, timesE, dot_cross_left}
+use Rattle.staat_vec.proofs.Ring.{◌⊕◌, ◌⊗◌, ring, zero-mul_ℤ}
+use Rattle.staat_vec.proofs.VecRing.{dotE, detE, values, v0, v1, v2, v3, dot_cross_left, dot_negative, dot_scale}
 use Rattle.staat_vec.proofs.Order.{pos_mul, cancel_zero}
 use Rattle.staat_ring.proofs.TurnOrder.{turnE, turn_back}
 use Rattle.staat_ring.proofs.Content.{content_divides}
 use Rattle.staat_ring.proofs.Sides.{turn_is_side}
-use Rattle.staat_vec.proofs.Integers.{neg_is_minus, positive_not_zero}
+use Rattle.staat_vec.proofs.Integers.{positive_not_zero}
 use Rattle.staat_vec.proofs.VectorLaws.{some_square}
 
--- ---- sizes
-
-pub no_turn_origin : (v w : V3) → turn origin v w ≡ pos 0
-no_turn_origin v w = ring (values (v ∷ w ∷ []) []) (turnE (record { x = num (pos 0); y = num (pos 0); z = num (pos 0) }) v0 v1) (num (pos 0)) tt
-
 -- ---- a crossing lies on the plane
-
-dot_times : (g v : V3) (k : ℤ) → dot g (record { x = k *ℤ v.x; y = k *ℤ v.y; z = k *ℤ v.z }) ≡ k *ℤ dot g v
-dot_times g v k = ring (values (g ∷ v ∷ []) (k ∷ [])) (dotE v0 (timesE (at 6) v1)) (at 6 ⊗ dotE v0 v1) tt
 
 pub primitive_on : (g u : V3) → dot g u ≡ pos 0 → u ≢ origin → dot g (primitive u) ≡ pos 0
 primitive_on g u e some =
     let c = content_divides u some in
-    cancel_zero (content u) (dot g (primitive u)) c.0 (sym (ap (λ x. dot g x) c.1 ∙ dot_times g (primitive u) (pos (content u))) ∙ e)
+    cancel_zero (content u) (dot g (primitive u)) c.0 (sym (ap (dot g) c.1 ∙ dot_scale (pos (content u)) g (primitive u)) ∙ e)
 
 pub negative_on : (g v : V3) → dot g v ≡ pos 0 → dot g (negative v) ≡ pos 0
-negative_on g v e = turned ∙ ap (λ z. pos 0 -ℤ z) e
-  where
-    turned : dot g (negative v) ≡ pos 0 -ℤ dot g v
-    turned = (λ i. g.x *ℤ neg_is_minus v.x i +ℤ g.y *ℤ neg_is_minus v.y i +ℤ g.z *ℤ neg_is_minus v.z i)
-        ∙ ring (values (g ∷ v ∷ []) []) (dotE v0 (record { x = num (pos 0) ⊖ at 3; y = num (pos 0) ⊖ at 4; z = num (pos 0) ⊖ at 5 })) (num (pos 0) ⊖ dotE v0 v1) tt
+negative_on g v e = dot_negative g v ∙ ap neg_ℤ e
 
 -- four vectors, of which the last lies on the plane g
 four_on : (g u v w : V3) → turn g v w *ℤ dot u u ≡ turn g u w *ℤ dot v u +ℤ turn g v u *ℤ dot w u +ℤ det u v w *ℤ dot g u

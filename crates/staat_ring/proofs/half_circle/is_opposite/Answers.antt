@@ -14,9 +14,6 @@ less a b e = lt_z_yes (T_from_true (lt_z a b) e)
 not_less : (a b : ℤ) → lt_z a b ≡ false → b ≤ℤ a
 not_less a b e = lt_z_no (T_from_true (not (lt_z a b)) (ap not e))
 
-pub returns-then-across-gt0 : goal.returns-then-across-gt0
-returns-then-across-gt0 c = inl (subst (λ (z : ℤ). pos 0 <ℤ z) (to_z-of_z w128 c.args.across c.ranges.across ∙ c.requires.across) (less (pos 0) _ c.if-across-gt0.true))
-
 pub returns-then-across-lt0 : goal.returns-then-across-lt0
 returns-then-across-lt0 c = inl (negative_ahead c.args.g c.args.axis c.args.h (subst (λ (z : ℤ). z <ℤ pos 0) (to_z-of_z w128 c.args.across c.ranges.across ∙ c.requires.across) (less _ (pos 0) c.if-across-lt0.true)))
 

@@ -1,18 +1,14 @@
-use Rattle.std.proofs.Common.{[], ℕ, ℤ, ◌<◌, Bool, false, get_or, length, map, pos, subst, sym, take, ◌+◌}
-use Rattle.std.proofs.lemmas.List.{get_or_default, map_more, take_all}
+use Rattle.std.proofs.Common.{ℕ, ℤ, ◌<◌, Bool, false, get_or, length, map, pos, subst, take, ◌+◌}
+use Rattle.std.proofs.lemmas.List.{map_more}
 use Rattle.std.proofs.lemmas.List.Elements.{All-contains, All-take}
 use Rattle.staat_vec.proofs.ListLaws.{Contains-from_map}
 use Rattle.staat_ring.specs.declared.entry.Entry.{Entry}
 use Rattle.staat_ring.specs.Builds.{key_entry}
-use Rattle.staat_ring.specs.Order.{IsOrderOf}
-use Rattle.staat_ring.proofs.Ordering.{order_more, order_none}
+use Rattle.staat_ring.proofs.Ordering.{order_more, order_within}
 use Rattle.staat_ring.proofs.order.in_order.Goals as goal
 
 abbrev no_key : ℤ × ℕ × Bool
 no_key = (pos 0, 0, false)
-
-pub loop-key-init : goal.loop-key-init
-loop-key-init c = subst (IsOrderOf c.args.turn.now.table.now.planes c.args.turn.now.g []) (sym c.in_ok-entries.ensures.items) (order_none c.args.turn.now.table.now.planes c.args.turn.now.g)
 
 pub loop-key-preserved : goal.loop-key-preserved
 loop-key-preserved c =
@@ -22,16 +18,9 @@ loop-key-preserved c =
     (map_more key_entry keys i no_key c.loop-key-test.true) c.in_ok-insert.ensures c.loop-key.invariant
 
 pub insert-requires-clause-es : goal.insert-requires-clause-es
-insert-requires-clause-es c = λ k d lt.
+insert-requires-clause-es c =
+    let m = length c.args.turn.now.table.now.planes in
     let keys = take c.loop-key.key-index c.args.keys.now in
-    let (x, cx, ex) = Contains-from_map key_entry keys (get_or c.loop-key.entries.items k d) (c.loop-key.invariant.only (get_or c.loop-key.entries.items k d) (k, lt, get_or_default c.loop-key.entries.items k (get_or c.loop-key.entries.items k d) d lt)) in
-    subst (λ (e : Entry). e.plane < length c.args.turn.now.table.now.planes) ex
-    (All-contains (λ (k : ℤ × ℕ × Bool). k.1 < length c.args.turn.now.table.now.planes) keys x (All-take (λ (k : ℤ × ℕ × Bool). k.1 < length c.args.turn.now.table.now.planes) c.loop-key.key-index c.args.keys.now c.requires.keys) cx)
-
-pub insert-requires-clause-e : goal.insert-requires-clause-e
-insert-requires-clause-e c = c.requires.keys c.loop-key.key-index no_key c.loop-key-test.true
-
-pub returns : goal.returns
-returns c =
-    subst (λ l. IsOrderOf c.args.turn.now.table.now.planes c.args.turn.now.g (map key_entry l) c.loop-key.entries.items)
-    (take_all c.loop-key.key-index c.args.keys.now c.loop-key-test.false) c.loop-key.invariant
+    order_within c.args.turn.now.table.now.planes c.args.turn.now.g m (map key_entry keys) c.loop-key.entries.items c.loop-key.invariant (λ e ce.
+    let (x, cx, q) = Contains-from_map key_entry keys e ce in
+    subst (λ (e : Entry). e.plane < m) q (All-contains (λ (k : ℤ × ℕ × Bool). k.1 < m) keys x (All-take (λ (k : ℤ × ℕ × Bool). k.1 < m) c.loop-key.key-index c.args.keys.now c.requires.keys) cx))

@@ -1,18 +1,8 @@
-use Rattle.std.proofs.Common.{◌∙◌, ◌+◌, ◌<◌, arith, length, sym, ℕ}
-use Rattle.std.proofs.lemmas.List.{append-nil, get_or_read}
+use Rattle.std.proofs.Common.{◌+◌, ◌<◌, arith, length, ℕ}
+use Rattle.std.proofs.lemmas.List.{get_or_read}
 use Rattle.staat_ring.proofs.Divided.{end_within}
-use Rattle.staat_ring.proofs.Images.{image_all, image_at, image_more, image_room}
+use Rattle.staat_ring.proofs.Divided.{image_at, image_more}
 use Rattle.staat_ring.proofs.stop_list.with_later.Goals as goal
-
-pub loop-k-init : goal.loop-k-init
-loop-k-init c = record { all = c.len-k-end.ensures ∙ c.args.half.ok.0; so_far = sym (append-nil c.args.half.items) }
-
-pub index-requires : goal.index-requires
-index-requires c =
-    let half = c.args.half.items in
-    let lt : c.loop-k.k < length half = omega (arith, c.loop-k-test.true, c.loop-k.invariant.all) in
-    let room = image_room (λ (end : ℕ). c.args.count + end) half c.loop-k.ends.items c.loop-k.k c.loop-k.invariant.so_far lt in
-    omega (arith, room, c.loop-k.ends.ok.0)
 
 pub overflow_add-end : goal.overflow_add-end
 overflow_add-end c =
@@ -35,8 +25,3 @@ loop-k-preserved c =
       all = c.loop-k.invariant.all;
       so_far = image_more later half c.loop-k.ends.items k so_far c.index.result.now c.push.new.self.items lt at c.in_ok-push.ensures.items;
     }
-
-pub returns : goal.returns
-returns c =
-    image_all (λ (end : ℕ). c.args.count + end) c.args.half.items c.loop-k.ends.items c.loop-k.k c.loop-k.invariant.so_far
-    (omega (arith, c.loop-k-test.false, c.loop-k.invariant.all))

@@ -1,18 +1,7 @@
-use Rattle.std.proofs.Common.{◌<◌, ◌∙◌, arith, length, sym}
-use Rattle.std.proofs.lemmas.List.{append-nil}
+use Rattle.std.proofs.Common.{◌<◌, arith, length}
 use Rattle.staat_ring.specs.Builds.{opposite}
-use Rattle.staat_ring.proofs.Images.{image_all, image_at, image_more, image_room}
+use Rattle.staat_ring.proofs.Divided.{image_at, image_more}
 use Rattle.staat_ring.proofs.stop_list.with_opposites.Goals as goal
-
-pub loop-i-init : goal.loop-i-init
-loop-i-init c = record { all = c.len-i-end.ensures ∙ c.args.half.ok.0; so_far = sym (append-nil c.args.half.items) }
-
-pub index-e-requires : goal.index-e-requires
-index-e-requires c =
-    let half = c.args.half.items in
-    let lt : c.loop-i.i < length half = omega (arith, c.loop-i-test.true, c.loop-i.invariant.all) in
-    let room = image_room opposite half c.loop-i.entries.items c.loop-i.i c.loop-i.invariant.so_far lt in
-    omega (arith, room, c.loop-i.entries.ok.0)
 
 pub loop-i-preserved : goal.loop-i-preserved
 loop-i-preserved c =
@@ -27,8 +16,3 @@ loop-i-preserved c =
       all = c.loop-i.invariant.all;
       so_far = image_more opposite half entries i so_far e c.push.new.self.items lt at c.in_ok-push.ensures.items;
     }
-
-pub returns : goal.returns
-returns c =
-    let half = c.args.half.items in
-    image_all opposite half c.loop-i.entries.items c.loop-i.i c.loop-i.invariant.so_far (omega (arith, c.loop-i-test.false, c.loop-i.invariant.all))

@@ -1,13 +1,10 @@
-use Rattle.std.proofs.Common.{◌<◌, ap, length, subst, sym, ◌∙◌}
+use Rattle.std.proofs.Common.{ap, ◌∙◌}
 use Rattle.staat_vec.proofs.Unique.{from_place}
 use Rattle.staat_ring.specs.Rings.{Ring, crossing}
 use Rattle.staat_ring.specs.WholeCircles.{stop_at}
 use Rattle.staat_ring.proofs.StopLemmas.{vertex_first}
 use Rattle.staat_ring.proofs.WholeCircles.{entry_other, entry_small}
 use Rattle.staat_ring.proofs.circle.Circle.vertex.Goals as goal
-
-pub of-requires-clause-c : goal.of-requires-clause-c
-of-requires-clause-c c = subst (λ (r : Ring). r.plane < length c.args.table.now.planes) (sym c.self.view_is) c.requires.circle.small
 
 pub of-requires-clause-plane : goal.of-requires-clause-plane
 of-requires-clause-plane c =

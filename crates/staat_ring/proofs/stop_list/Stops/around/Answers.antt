@@ -20,8 +20,3 @@ returns c =
     let count : c.len-count.result ≡ length es = omega (arith, c.len-count.ensures, c.args.entries.ok.0) in
     let ends_are = c.in_ok-ends.ensures ∙ ap (λ n. ends ++ map (λ end. n + end) ends) count in
     (λ i. stops_from 0 (ends_are i) (c.in_ok-entries.ensures i)) ∙ around_is es c.requires.last.0 ends c.requires.last.1 c.requires.stops
-
-pub with_later-requires-clause-stops : goal.with_later-requires-clause-stops
-with_later-requires-clause-stops c =
-    let count : c.len-count.result ≡ length c.args.entries.items = omega (arith, c.len-count.ensures, c.args.entries.ok.0) in
-    subst (λ n. AreStopsFrom 0 n c.args.ends.items) (sym count) c.requires.stops

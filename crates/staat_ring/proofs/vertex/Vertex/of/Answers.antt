@@ -18,9 +18,3 @@ returns c =
     let own = sym (get_or_from_slice_get planes c.args.c c.plane.result origin c.plane.ensures.is) in
     let other = sym (get_or_from_slice_get planes c.args.entry.plane c.plane-2.result origin c.plane-2.ensures.is) in
     c.new.ensures ∙ (λ i. facet_by c.args.entry.turned (primitive (cross (own i) (other i))))
-
-pub plane-requires : goal.plane-requires
-plane-requires c = c.requires.c
-
-pub plane-requires-2 : goal.plane-requires-2
-plane-requires-2 c = c.requires.plane
