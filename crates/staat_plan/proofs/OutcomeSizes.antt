@@ -54,7 +54,7 @@ module _ (parts : List Part) (is : IsAssembly parts) where
             (piece_is parts plane.arc.b plane.arc.j holds.q is holds.q_is) holds.holds)))
       ]
 
-  table_planes : (w : PartSet) (planes : List V3) → ArePlanes parts w planes → AreTablePlanes planes
+  pub table_planes : (w : PartSet) (planes : List V3) → ArePlanes parts w planes → AreTablePlanes planes
   table_planes w planes are = record {
     others = are.others;
     is = are.is;

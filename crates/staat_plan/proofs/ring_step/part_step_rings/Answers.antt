@@ -11,8 +11,8 @@ use Rattle.staat_ring.proofs.SignAll.{count_all}
 use Rattle.staat_plan.specs.RingSearches.{lengths_below}
 use Rattle.staat_certify.proofs.SomeMember.{some_member}
 use Rattle.staat_plan.proofs.RingLengths.{lengths_past, lengths_rise}
-use Rattle.staat_plan.proofs.RingStepLaw.{has_no_step, is_stuck}
-use Rattle.staat_plan.proofs.StepLemmas.{not_stuck, some_found}
+use Rattle.staat_plan.proofs.RingStepLaw.{has_no_step}
+use Rattle.staat_plan.proofs.StepLemmas.{none_if_stuck}
 use Rattle.staat_plan.proofs.ring_step.part_step_rings.Goals as goal
 use Rattle.staat_vec.proofs.Naturals.{min_at_start, lt_or_le}
 
@@ -116,17 +116,12 @@ returns-clause-step g c parts made =
 
 pub returns-clause-stuck : goal.returns-clause-stuck
 returns-clause-stuck g c parts made =
-    let rings = c.args.rings.now.rings in (
-      (λ none. is_stuck parts c.args.table.now c.args.w c.len-len.ensures.rules rings (unlinked_of c.args.rings.now.unlinked) c.requires.rings.now made c.requires.set (c.requires.linked parts made)
-          (λ h e ch ce lt later. c.loop-i.invariant.none parts made h e ch ce (let a = c.loop-i.invariant.all in let t = c.loop-i-test.false in omega (arith, lt, a, t)) later) c.requires.two),
-      (λ stuck. refl),
-    )
+    none_if_stuck parts c.args.w None made.assembly c.requires.two (returns-clause-step g c parts made)
 
 pub returns-in-Some-clause-stuck : goal.returns-in-Some-clause-stuck
-returns-in-Some-clause-stuck g c parts made = (
-  (λ none. absurd (some_found _ none)),
-  (λ stuck. absurd (not_stuck parts c.args.w (try_vertex c.step_of.result.d) c.step_of.result.moved (returns-in-Some-clause-step g c parts made) stuck)),
-)
+returns-in-Some-clause-stuck g c parts made =
+    none_if_stuck parts c.args.w (Some c.step_of.result) made.assembly c.requires.two
+    (returns-in-Some-clause-step g c parts made)
 
 pub search-requires-clause-some : goal.search-requires-clause-some
 search-requires-clause-some g c = some_member c.args.w (let two = c.requires.two in omega (arith, two))
