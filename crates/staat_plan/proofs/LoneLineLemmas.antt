@@ -18,10 +18,9 @@ use Rattle.staat_vec.specs.Primitives.{IsCanon, canon, or_next}
 use Rattle.staat_vec.specs.Vectors.{cross, dot, minus, negative, origin, plus, sign, vector, vector_cmp}
 use Rattle.staat_vec.proofs.Canons.{IsCanon-canon, canon-either, negative-negative, same_canon}
 use Rattle.staat_vec.proofs.Primitives.{parallel_primitives}
-use Rattle.staat_vec.proofs.Ring.{num, ring}
 use Rattle.staat_vec.proofs.Signs.{zero_sign}
 use Rattle.staat_vec.proofs.Unique.{Contains-cases, Contains-front, Contains-later, Contains-nothing, IsFirst-in}
-use Rattle.staat_vec.proofs.VecRing.{dotE, dot_comm, negativeE, originE, plusE, ring3, scale, v0, values}
+use Rattle.staat_vec.proofs.VecRing.{dot_comm, negativeE, originE, plusE, ring3, scale, v0, values}
 use Rattle.staat_vec.proofs.VectorLaws.{cross_back, cross_twice, no_multiples, parallel_cross}
 use Rattle.staat_vec.proofs.VectorOrder.{less_apart}
 use Rattle.staat_model.specs.declared.assembly.Part.{Part}
@@ -127,13 +126,17 @@ module _ (parts : List Part) (is : IsAssembly parts) (w : PartSet) (planes : Lis
       (subst (λ s. IsBorder s (signs_of planes d)) (sym cell.is) edge.border) serves)
       (ap kind_of cell.is ∙ edge.edge)
 
-  pub along_line : (d : V3) → Serves parts w d → cross d v ≡ origin
-  along_line d serves = by (kind_of (signs_of planes d)) refl
+  -- so what serves is a point
+  pub serves_point : (d : V3) → Serves parts w d → kind_of (signs_of planes d) ≡ Point
+  serves_point d serves = by (kind_of (signs_of planes d)) refl
     where
-      by : (kind : Kind) → kind_of (signs_of planes d) ≡ kind → cross d v ≡ origin
+      by : (kind : Kind) → kind_of (signs_of planes d) ≡ kind → kind_of (signs_of planes d) ≡ Point
       by Open e = absurd (open_serves_not d serves e)
       by Edge e = absurd (edge_serves_not d serves e)
-      by Point e = point_along d serves e
+      by Point e = e
+
+  pub along_line : (d : V3) → Serves parts w d → cross d v ≡ origin
+  along_line d serves = point_along d serves (serves_point d serves)
 
 -- ---- the order of the two directions of the line
 
@@ -151,12 +154,9 @@ before (pos zero) (pos zero) (negsuc c) s t h = absurd (omega (arith, ints))
 at_axes : (others : List V3) (d : V3)
     → signs_of (axes ++ others) d ≡ sign d.x ∷ sign d.y ∷ sign d.z ∷ signs_of others d
 at_axes others d =
-    let ρ = values (d ∷ []) [] in
-    let o = num (pos 0) in
-    let i = num (pos 1) in
-    let x : dot (vector (pos 1) (pos 0) (pos 0)) d ≡ d.x = ring ρ (dotE (record { x = i; y = o; z = o }) v0) v0.x tt in
-    let y : dot (vector (pos 0) (pos 1) (pos 0)) d ≡ d.y = ring ρ (dotE (record { x = o; y = i; z = o }) v0) v0.y tt in
-    let z : dot (vector (pos 0) (pos 0) (pos 1)) d ≡ d.z = ring ρ (dotE (record { x = o; y = o; z = i }) v0) v0.z tt in
+    let x : dot (vector (pos 1) (pos 0) (pos 0)) d ≡ d.x = omega (arith, ints) in
+    let y : dot (vector (pos 0) (pos 1) (pos 0)) d ≡ d.y = omega (arith, ints) in
+    let z : dot (vector (pos 0) (pos 0) (pos 1)) d ≡ d.z = omega (arith, ints) in
     λ j. sign (x j) ∷ sign (y j) ∷ sign (z j) ∷ signs_of others d
 
 opposite_first : (others : List V3) (p : V3) → IsCanon p
@@ -223,23 +223,13 @@ module _ (parts : List Part) (is : IsAssembly parts) (w : PartSet) (planes : Lis
       (λ e. inr (ap (signs_cmp (signs_of planes first)) (sym at.1 ∙ ap (signs_of planes) e) ∙ below))
       (one_of_two c.d at.0 c_serves)
 
-  none_of : (kind : Kind) (cells : List CellEntry) → AreCellsOf planes kind cells
-      → ((d : V3) → Serves parts w d → kind_of (signs_of planes d) ≡ kind → ⊥)
+  none_of : (kind : Kind) (cells : List CellEntry) → AreCellsOf planes kind cells → (kind ≡ Point → ⊥)
       → All (λ (c : CellEntry). P c → ⊥) cells
-  none_of kind cells of none k d lt c_serves =
+  none_of kind cells of other k d lt c_serves =
       let c = get_or cells k d in
       let entry = of.each k d lt in
-      none c.d c_serves
-      (ap kind_of (representative_lemma parts w planes kind c.signs c.d are entry.cell entry.by_count
-      entry.representative) ∙ entry.by_count)
-
-  point_first : kind_of (signs_of planes first) ≡ Point
-  point_first = by (kind_of (signs_of planes first)) refl
-    where
-      by : (kind : Kind) → kind_of (signs_of planes first) ≡ kind → kind_of (signs_of planes first) ≡ Point
-      by Open e = absurd (open_serves_not parts is w planes are v some lone first serves e)
-      by Edge e = absurd (edge_serves_not parts is w planes are v some lone first serves e)
-      by Point e = e
+      other (sym entry.by_count ∙ sym (ap kind_of (representative_lemma parts w planes kind c.signs c.d are entry.cell
+      entry.by_count entry.representative)) ∙ serves_point parts is w planes are v some lone c.d c_serves)
 
   pub line_step : (cells : List CellEntry) → AreCells planes cells → (side : PartSet) → IsMovedSide parts w first side
       → IsStep true parts w (record { d = first; mark = Point ∷ [] }) side
@@ -253,7 +243,7 @@ module _ (parts : List Part) (is : IsAssembly parts) (w : PartSet) (planes : Lis
       let entry = entry_of c c_in in
       (IsFirst-in (λ u. signs_of planes u ≡ c.signs) (vertices planes) c.d entry.representative).1) in
       let (c, is_first, e) = first_below P (signs_of planes first) all.points listed.ascending
-      (listed.all (signs_of planes first) (record { d = first; nonzero = free.moves; is = refl }, point_first))
+      (listed.all (signs_of planes first) (record { d = first; nonzero = free.moves; is = refl }, serves_point parts is w planes are v some lone first serves))
       (λ x x_in same. cell_serves parts w serves.side planes first x.d is are serves.is_side free
       (signs_in x x_in ∙ same))
       (λ x x_in p. ⊎_elim {C = (x.signs ≡ signs_of planes first) ⊎ (signs_cmp (signs_of planes first) x.signs ≡ Less)}
@@ -267,8 +257,7 @@ module _ (parts : List Part) (is : IsAssembly parts) (w : PartSet) (planes : Lis
       let m : Marked = record { step = record { moved = side; d = first }; mark = Some Point } in
       cell_step_is parts w planes are cells all (Some m) (none_then try_cell parts w (all.opens ++ all.edges) all.points
       (Some m) (All-append (λ (x : CellEntry). P x → ⊥) all.opens all.edges
-      (none_of Open all.opens all.opens_are (open_serves_not parts is w planes are v some lone))
-      (none_of Edge all.edges all.edges_are (edge_serves_not parts is w planes are v some lone)))
+      (none_of Open all.opens all.opens_are (λ e. cc)) (none_of Edge all.edges all.edges_are (λ e. cc)))
       (record {
         at = c;
         first = is_first;

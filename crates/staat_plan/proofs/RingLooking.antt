@@ -1,5 +1,5 @@
 -- What the walk finds at its vertex.
-use Rattle.std.proofs.Common.{◌≡◌, ◌≢◌, ◌↔◌, inl, inr, ⊎_elim, ℕ, ◌+◌, ◌*◌, ◌<◌, ◌≤◌, Bool, true, false, if◌then◌else◌, arith, ap, sym, subst, ◌∙◌, List, [], ◌∷◌, length, Contains}
+use Rattle.std.proofs.Common.{◌≡◌, ◌≢◌, ◌↔◌, inl, inr, ⊎_elim, ℕ, ◌+◌, ◌<◌, ◌≤◌, arith, ap, sym, subst, ◌∙◌, List, [], ◌∷◌, length, Contains}
 use Rattle.std.specs.Prelude.{Option, Some, map, slice_get}
 use Rattle.std.specs.Ordering.{nat_cmp}
 use Rattle.std.specs.List.Sorted.{IsStrictlySortedBy}
@@ -7,7 +7,7 @@ use Rattle.std.proofs.lemmas.Option.{same_Some}
 use Rattle.staat_vec.specs.declared.vector.V3.{V3}
 use Rattle.staat_vec.specs.Lists.{IsFirst}
 use Rattle.staat_vec.specs.Vectors.{origin}
-use Rattle.staat_vec.proofs.Unique.{Contains-cases, IsFirst-in, from_place}
+use Rattle.staat_vec.proofs.Unique.{Contains-cases, IsFirst-in}
 use Rattle.staat_model.specs.declared.assembly.Part.{Part}
 use Rattle.staat_model.specs.declared.set.PartSet.{PartSet}
 use Rattle.staat_model.specs.Outcomes.{Serves}
@@ -25,25 +25,20 @@ use Rattle.staat_ring.proofs.StopLemmas.{entries_ascend, entry_small, one_stop, 
 use Rattle.staat_ring.proofs.Strength.{strong_same}
 use Rattle.staat_plan.specs.declared.ring_step.Serving.{Serving}
 use Rattle.staat_plan.specs.RingSearches.{IsBest, IsLater, IsNoLater, IsServing, pair_key}
-use Rattle.staat_vec.proofs.Naturals.{lt_one_more_cases}
+use Rattle.staat_vec.proofs.Naturals.{le_from_not_lt, lt_one_more_cases}
+use Rattle.staat_plan.proofs.RingPairs.{order_less}
 use Rattle.staat_vec.proofs.ListLaws.{Contains-map}
 use Rattle.staat_vec.proofs.Comparisons.{head_less, tail_sorted}
-
-key_less : (x y : Entry) → x.plane < y.plane → pair_key x ≤ pair_key y
-key_less x y lt = by x.turned y.turned
-  where
-    by : (b c : Bool) → 2 * x.plane + (if b then 1 else 0) ≤ 2 * y.plane + (if c then 1 else 0)
-    by true true = omega arith
-    by true false = omega arith
-    by false true = omega arith
-    by false false = omega arith
 
 -- of ascending entries the first beyond i comes before any other beyond i
 pub first_least : (i : ℕ) (es : List Entry) (x e : Entry) → IsStrictlySortedBy nat_cmp (map (λ e. e.plane) es) → IsFirst (λ x. i < x.plane) es x → Contains es e → i < e.plane → pair_key x ≤ pair_key e
 first_least i [] x e s h c lt = absurd h
 first_least i (y ∷ es) x e s (inl h) c lt = ⊎_elim {C = pair_key x ≤ pair_key e}
     (λ q. subst (λ z. pair_key x ≤ pair_key z) (sym q) (let k = ap pair_key h.0 in omega (arith, k)))
-    (λ later. subst (λ z. pair_key z ≤ pair_key e) (sym h.0) (key_less y e (head_less y.plane (map (λ e. e.plane) es) e.plane s (Contains-map (λ e. e.plane) es e later))))
+    (λ later.
+    let lt = head_less y.plane (map (λ e. e.plane) es) e.plane s (Contains-map (λ e. e.plane) es e later) in
+    subst (λ z. pair_key z ≤ pair_key e) (sym h.0) (le_from_not_lt (pair_key y) (pair_key e)
+    (λ less. order_less y.plane e.plane y.turned e.turned lt (omega (arith, less)))))
     (Contains-cases y es e c)
 first_least i (y ∷ es) x e s (inr h) c lt = ⊎_elim {C = pair_key x ≤ pair_key e}
     (λ q. absurd (h.0 (subst (λ z. i < z.plane) q lt)))

@@ -1,5 +1,4 @@
-use Rattle.std.proofs.Common.{◌≡◌, ◌≤◌, arith}
-use Rattle.std.specs.Prelude.{Some}
+use Rattle.std.proofs.Common.{arith}
 use borrow.Author.Tests.{leb-true}
 use Rattle.staat_plan.proofs.ring_step.is_before.Goals as goal
 

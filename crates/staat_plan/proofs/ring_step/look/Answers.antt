@@ -1,4 +1,4 @@
-use Rattle.std.proofs.Common.{◌≡◌, ◌↔◌, ◌≤◌, All, arith, length, refl, subst, sym, ◌∙◌}
+use Rattle.std.proofs.Common.{◌↔◌, ◌≤◌, arith, length, refl, subst}
 use Rattle.std.specs.Prelude.{IsTrue, Some}
 use Rattle.std.proofs.lemmas.List.Elements.{All-contains}
 use Rattle.std.proofs.lemmas.Option.{same_Some}

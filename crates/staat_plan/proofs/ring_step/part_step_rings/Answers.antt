@@ -1,11 +1,9 @@
 use Rattle.staat_ring.specs.Rings.{unlinked_of}
-use Rattle.std.proofs.Common.{◌≡◌, ℕ, ◌+◌, ◌*◌, ◌-◌, ◌<◌, ◌≤◌, min, arith, sym, subst, refl, List, length, ⊎_elim}
-use Rattle.std.specs.Prelude.{Option, None, Some, false}
-use Rattle.staat_plan.specs.declared.ring_step.Serving.{Serving}
+use Rattle.std.proofs.Common.{◌≡◌, ℕ, ◌+◌, ◌*◌, ◌<◌, ◌≤◌, min, arith, sym, subst, refl, List, length, ⊎_elim}
+use Rattle.std.specs.Prelude.{None, Some}
 use Rattle.std.proofs.lemmas.List.{length-map}
 use Rattle.std.proofs.Math.Nat.{mul-le-mul_right}
-use Rattle.staat_model.specs.Outcomes.{IsStep, try_vertex}
-use Rattle.staat_ring.specs.Rings.{Ring, linked_of}
+use Rattle.staat_ring.specs.Rings.{linked_of}
 use Rattle.staat_ring.specs.Stepping.{count_below}
 use Rattle.staat_ring.proofs.SignAll.{count_all}
 use Rattle.staat_plan.specs.RingSearches.{lengths_below}

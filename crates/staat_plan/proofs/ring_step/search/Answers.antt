@@ -1,4 +1,4 @@
-use Rattle.std.proofs.Common.{◌≡◌, ℕ, ◌+◌, ◌*◌, ◌≤◌, min, arith, sym, subst, ◌∙◌, refl, Contains, length}
+use Rattle.std.proofs.Common.{◌≡◌, ℕ, ◌+◌, ◌*◌, ◌≤◌, min, arith, sym, subst, ◌∙◌, Contains, length}
 use Rattle.std.proofs.Math.Nat.{mul-le-mul_right}
 use Rattle.staat_vec.proofs.ListLaws.{Contains-from_map}
 use Rattle.staat_vec.proofs.Options.{none_some}

@@ -11,70 +11,49 @@ use Rattle.staat_plan.proofs.planner.Planner.robust_step.Goals as goal
 
 pub first_open_step-requires-clause-few : goal.first_open_step-requires-clause-few
 first_open_step-requires-clause-few g c =
-    let planner = c.requires.planner in
-    let all = planner.all in
-    omega (arith, all.few, planner.cells c.requires.robust)
+    omega (arith, c.requires.planner.all.few, c.requires.planner.cells c.requires.robust)
 
 pub returns-in-Some : goal.returns-in-Some
 returns-in-Some g c =
-    let planner = c.requires.planner in
-    let all = planner.all in
-    let table = all.table in
-    rw c.in-Some.is at c.in_ok-found.ensures c.args.self.now.sound.now table.made
+    rw c.in-Some.is at c.in_ok-found.ensures c.args.self.now.sound.now c.requires.planner.all.table.made
 
 pub returns-in_default-step_of : goal.returns-in_default-step_of
 returns-in_default-step_of g c =
-    let planner = c.requires.planner in
-    let all = planner.all in
-    let table = all.table in
-    let made = table.made in
+    let made = c.requires.planner.all.table.made in
     let parts = c.args.self.now.sound.now in
     stuck_step parts c.args.self.now.table.now c.args.w made c.requires.within
-    (omega (arith, all.few, planner.cells c.requires.robust)) c.requires.two
+    (omega (arith, c.requires.planner.all.few, c.requires.planner.cells c.requires.robust)) c.requires.two
     ((none_if_stuck parts c.args.w c.step_of.result made.assembly c.requires.two (c.step_of.ensures.step parts made)).0
     c.in_default-step_of.is)
 
 pub lone_step-requires-clause-few : goal.lone_step-requires-clause-few
 lone_step-requires-clause-few g c =
-    let planner = c.requires.planner in
-    let all = planner.all in
-    omega (arith, all.few, planner.cells c.requires.robust)
+    omega (arith, c.requires.planner.all.few, c.requires.planner.cells c.requires.robust)
 
 pub lone_step-requires-clause-nonzero : goal.lone_step-requires-clause-nonzero
 lone_step-requires-clause-nonzero g c =
-    let planner = c.requires.planner in
-    let all = planner.all in
-    let table = all.table in
     let first = c.in-Some-step_of.first in
     let serves = step_serves false c.args.self.now.sound.now c.args.w (try_vertex first.d) first.moved
-    (c.in-Some-step_of.ensures.step c.args.self.now.sound.now table.made) in
+    (c.in-Some-step_of.ensures.step c.args.self.now.sound.now c.requires.planner.all.table.made) in
     let free = serves.free in
     free.moves
 
 pub returns-in-Some-2 : goal.returns-in-Some-2
 returns-in-Some-2 g c =
-    let planner = c.requires.planner in
-    let all = planner.all in
-    let table = all.table in
-    rw c.in-Some-2.is at c.in_ok-found-2.ensures c.args.self.now.sound.now table.made
+    rw c.in-Some-2.is at c.in_ok-found-2.ensures c.args.self.now.sound.now c.requires.planner.all.table.made
 
 pub cell_step-requires : goal.cell_step-requires
 cell_step-requires g c =
-    let planner = c.requires.planner in
-    let all = planner.all in
-    omega (arith, all.few, planner.cells c.requires.robust)
+    omega (arith, c.requires.planner.all.few, c.requires.planner.cells c.requires.robust)
 
 pub returns-then-within : goal.returns-then-within
 returns-then-within g c =
-    let planner = c.requires.planner in
-    let all = planner.all in
-    let table = all.table in
     let t = c.args.self.now.table.now in
     let over : IsSubset t.of c.args.w = λ p h.
     c.within.ensures.0 c.if-within.true p (subst (λ (s : PartSet). Has s p) (sym c.set.ensures.is) h) in
     subst (λ (u : PartSet). IsStepOf true c.args.self.now.sound.now u c.in_ok-cell_step.field-0)
     (same_members t.of c.args.w over c.requires.within)
-    (c.in_ok-cell_step.ensures c.args.self.now.sound.now table.made)
+    (c.in_ok-cell_step.ensures c.args.self.now.sound.now c.requires.planner.all.table.made)
 
 -- an error for want of memory
 pub returns-in_err-found : goal.returns-in_err-found
