@@ -1,5 +1,5 @@
 -- The first step along representatives of cells, list by list.
-use Rattle.std.proofs.Common.{◌≡◌, ◌≢◌, inl, inr, ℕ, zero, suc, ◌<◌, ◌≤◌, true, if◌then◌else◌}
+use Rattle.std.proofs.Common.{◌≡◌, ◌≢◌, inl, inr, ℕ, zero, suc, ◌<◌, ◌≤◌, false, true, if◌then◌else◌}
 use Rattle.std.proofs.Common.{refl, sym, ap, subst, ◌∙◌, arith, List, [], ◌∷◌, ◌++◌, length}
 use Rattle.std.proofs.Common.{get_or, map, take, All}
 use Rattle.std.specs.Prelude.{Option, Some}
@@ -25,7 +25,7 @@ use Rattle.staat_model.proofs.SomePlanes.{some_planes}
 use Rattle.staat_pairs.specs.Tables.{AreTablePlanes, Table, WasMadeFrom}
 use Rattle.staat_cells.specs.declared.cell.Cell.{Cell}
 use Rattle.staat_cells.specs.declared.skeleton.Skeleton.{Skeleton}
-use Rattle.staat_cells.specs.Compositions.{composed_at, composed_up_to, entry_of}
+use Rattle.staat_cells.specs.Compositions.{begins_cell, composed_at, composed_up_to, entry_of}
 use Rattle.staat_cells.specs.FirstCell.{first_entry}
 use Rattle.staat_cells.specs.Skeletons.{IsComposedAt, IsSkeleton, opens_at, opens_before}
 use Rattle.staat_cells.proofs.LeastCell.{first_listed}
@@ -126,7 +126,10 @@ first_open_at parts w s n i m lt none is = record {
   moved = is.moved;
 }
 
--- the open cell at a place
+-- the open cell at a place, if one begins there
+pub no_open : (s : Skeleton) (i : ℕ) → begins_cell s.incidences.items i ≡ false → opens_at s i ≡ []
+no_open s i e = ap (λ j. if j then composed_at Open (map entry_of s.edges.items) s.incidences.items i ∷ [] else []) e
+
 pub one_open : (s : Skeleton) (i : ℕ) (c : Cell)
     → IsComposedAt Open (map entry_of s.edges.items) s.incidences.items i c
     → opens_at s i ≡ entry_of c ∷ []

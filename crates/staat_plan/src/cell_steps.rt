@@ -3,7 +3,7 @@ ghost use Rattle.std.specs.Prelude.{◌≤◌, ◌<◌, [], ◌∷◌, All, IfOk
 ghost use Rattle.staat_model.specs.Sets.{IsNonempty, IsSubset};
 ghost use Rattle.staat_cells.specs.CellGraphs.{HasArcsOf};
 ghost use Rattle.staat_cells.specs.Compositions.{entry_of};
-ghost use Rattle.staat_cells.specs.Skeletons.{IsSkeleton, opens_at, opens_before};
+ghost use Rattle.staat_cells.specs.Skeletons.{IsSkeleton, opens_before};
 ghost use Rattle.staat_pairs.specs.Tables.{AreTablePlanes};
 ghost use Rattle.staat_plan.specs.CellSteps.{IsStepAmong, IsTableCell};
 ghost use Rattle.staat_plan.specs.Planning.{IsSetStep};
@@ -72,26 +72,6 @@ fn step_among(table: &PlaneTable, graphs: &CellGraphs, cells: &[Cell]) -> Option
     None
 }
 
-// the step in the open cell that begins at a place, if one does
-fn open_step_at(
-    alloc: Global,
-    table: &PlaneTable,
-    graphs: &CellGraphs,
-    skeleton: &Skeleton,
-    i: usize,
-) -> Result<Option<Marked>, OutOfMemory>
-    requires graphs { HasArcsOf table.now graphs.now }
-    requires planes { AreTablePlanes table.now.planes }
-    requires skeleton { IsSkeleton table.now.planes skeleton.now }
-    requires place { i < length skeleton.now.incidences.items }
-    ensures { IfOk result (IsStepAmong table.now (opens_at skeleton.now i)) }
-{
-    match skeleton.open_at(alloc, i)? {
-        None => Ok(None),
-        Some(cell) => Ok(step_in(table, graphs, &cell)),
-    }
-}
-
 // The first step along representatives of open cells. They are composed one at a time, up to the first that serves.
 fn open_step(
     alloc: Global,
@@ -105,8 +85,10 @@ fn open_step(
     ensures { IfOk result (IsStepAmong table.now (opens_before skeleton.now (length skeleton.now.incidences.items))) }
 {
     for i in 0..skeleton.places() {
-        if let Some(found) = open_step_at(alloc, table, graphs, skeleton, i)? {
-            return Ok(Some(found));
+        if let Some(cell) = skeleton.open_at(alloc, i)? {
+            if let Some(found) = step_in(table, graphs, &cell) {
+                return Ok(Some(found));
+            }
         }
     }
     Ok(None)
