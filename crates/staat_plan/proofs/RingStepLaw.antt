@@ -1,6 +1,6 @@
 -- The first vertex that serves, from what is found on the circles.
 use Rattle.std.proofs.Common.{◌≡◌, ◌↔◌, ⊎_elim, ℕ, ◌+◌, ◌*◌, ◌<◌, ◌≤◌, false, arith, ap, sym, subst, ◌∙◌, refl, List, length, Contains}
-use Rattle.std.specs.Prelude.{IfSome, MatchOption, Option, Some, None, if◌then◌else◌, map, slice_get}
+use Rattle.std.specs.Prelude.{MatchOption, Option, Some, None, if◌then◌else◌, map, slice_get}
 use Rattle.std.specs.FinSet as set
 use Rattle.std.proofs.lemmas.List.Elements.{All-contains}
 use Rattle.std.proofs.lemmas.Option.{slice_get-get_or, slice_get_within, same_Some}
@@ -103,18 +103,14 @@ module _ (parts : List Part) (t : Table) (w : PartSet) (rules : IsTable t) (ring
       (lt_one_more_cases h i lt)
 
   -- what is found on the circle of i
-  pub some_serves : (i : ℕ) (r : Ring) (best : Option Serving) → Contains rings r → r.plane ≡ i
-      → IsBest parts t.planes w i r.stops (length r.stops) best
-      → IfSome best (λ f. HasServing parts t.planes w rings i)
-  some_serves i r None cr plane is = tt
-  some_serves i r (Some f) cr plane is = has_serving i r f cr plane is
-
   pub step_or_none : (i : ℕ) (r : Ring) (best : Option Serving) → Contains rings r → r.plane ≡ i
       → IsBest parts t.planes w i r.stops (length r.stops) best → Contains ks i → NoneServes parts t.planes w ks i
       → MatchOption best (NoneServes parts t.planes w ks (i + 1))
-      (λ f. IsStep false parts w (try_vertex (crossing t.planes i f.entry)) f.moved)
+      (λ f. HasServing parts t.planes w rings i
+      × IsStep false parts w (try_vertex (crossing t.planes i f.entry)) f.moved)
   step_or_none i r None cr plane is ci none = none_more i r cr plane is none
-  step_or_none i r (Some f) cr plane is ci none = found_step i r f cr plane is ci none
+  step_or_none i r (Some f) cr plane is ci none =
+      (has_serving i r f cr plane is, found_step i r f cr plane is ci none)
 
 pub none_skip : (parts : List Part) (planes : List V3) (w : PartSet) (ks : List ℕ) (i : ℕ) → (Contains ks i → ⊥) → NoneServes parts planes w ks i → NoneServes parts planes w ks (i + 1)
 none_skip parts planes w ks i out none h e ch ce lt later serves = ⊎_elim {C = ⊥} (λ before. none h e ch ce before later serves) (λ q. out (subst (Contains ks) q ch)) (lt_one_more_cases h i lt)

@@ -126,12 +126,11 @@ fn search<L: Ledger>(
     ensures crossed { (start : ℕ) → min (start + lengths_below i rings.now.rings) (2 ^ 64 - 1) ≤ walk.old.crossed
         → min (start + lengths_below (i + 1) rings.now.rings) (2 ^ 64 - 1) ≤ walk.new.crossed }
     ensures placed { (f : Serving) → result ≡ Some f → IsLater i (length table.now.planes) f }
-    ensures some { (parts : List PartValue) → WasMadeFrom parts table.now
-        → IfSome result (λ f. HasServing parts table.now.planes w rings.now.rings i) }
     ensures step { (parts : List PartValue) → WasMadeFrom parts table.now
         → NoneServes parts table.now.planes w (linked_of rings.now.rings) i
         → MatchOption result (NoneServes parts table.now.planes w (linked_of rings.now.rings) (i + 1))
-        (λ f. IsStep false parts w (try_vertex (crossing table.now.planes i f.entry)) f.moved) }
+        (λ f. HasServing parts table.now.planes w rings.now.rings i
+        × IsStep false parts w (try_vertex (crossing table.now.planes i f.entry)) f.moved) }
 {
     let _len = table.len();
     if !rings.is_linked(i) {

@@ -47,7 +47,7 @@ returns-in-Some-clause-steps g c =
 pub returns-in-Some-clause-crossed : goal.returns-in-Some-clause-crossed
 returns-in-Some-clause-crossed g c parts k made lt none =
     let rings = c.args.rings.now.rings in
-    let serving = c.in-Some.ensures.some parts made in
+    let serving = (c.in-Some.ensures.step parts made (c.loop-i.invariant.none parts made)).0 in
     ⊎_elim
     (λ before. absurd (none serving.ring serving.stop serving.listed (subst (λ j. j < k) (sym serving.plane) before)
     serving.on serving.serves))
@@ -59,7 +59,7 @@ returns-in-Some-clause-crossed g c parts k made lt none =
 pub returns-in-Some-clause-step : goal.returns-in-Some-clause-step
 returns-in-Some-clause-step g c parts made =
     rw (c.step_of.ensures.moved, c.step_of.ensures.d)
-    (c.in-Some.ensures.step parts made (c.loop-i.invariant.none parts made))
+    (c.in-Some.ensures.step parts made (c.loop-i.invariant.none parts made)).1
 
 pub loop-i-preserved : goal.loop-i-preserved
 loop-i-preserved g c = record {

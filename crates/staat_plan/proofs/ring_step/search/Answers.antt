@@ -7,9 +7,9 @@ use Rattle.staat_ring.specs.Rings.{Ring, linked_of, unlinked_of}
 use Rattle.staat_ring.specs.Stepping.{count_below}
 use Rattle.staat_ring.proofs.SignAll.{count_more, count_same}
 use Rattle.staat_plan.specs.RingSearches.{IsBest, length_at}
-use Rattle.staat_plan.proofs.RingGoing.{at_end, goes_on, is_zero, length_has, not_zero, nothing_yet, place_small, stop_in}
+use Rattle.staat_plan.proofs.RingGoing.{at_end, goes_on, length_has, nothing_yet, place_small, stop_in}
 use Rattle.staat_plan.proofs.RingLengths.{lengths_with, lengths_without}
-use Rattle.staat_plan.proofs.RingStepLaw.{none_skip, some_serves, step_or_none}
+use Rattle.staat_plan.proofs.RingStepLaw.{none_skip, step_or_none}
 use Rattle.staat_plan.proofs.ring_step.search.Goals as goal
 
 -- ---- the plane is not linked
@@ -63,37 +63,22 @@ returns-then-not-cross-clause-crossed g c start h =
     let rings = c.args.rings.now.rings in
     let (r, cr, plane) = Contains-from_map (λ (r : Ring). r.plane) rings c.args.i
     (c.is_linked.ensures.0 c.if-not-is_linked.false) in
-    let z = is_zero c.cross.new.self.place c.cross.result c.if-not-cross.true c.cross.ensures.back.1 in
     let e = at_end rings c.requires.rings.now.ascending c.args.table.now.planes c.stops.walk c.args.i
-    c.stops.invariant.circle c.stops.invariant.entered r cr plane c.cross.new.self.place c.cross.ensures.place z in
+    c.stops.invariant.circle c.stops.invariant.entered r cr plane c.cross.new.self.place c.cross.ensures.place
+    c.cross.result c.if-not-cross.true c.cross.ensures.back.1 in
     let with = lengths_with c.args.i rings r c.requires.rings.now.ascending cr plane in
     let now = counts c.stops.walk.crossed c.cross.new.self.crossed c.args.walk.now.crossed c.stops.walk.place
     (length r.stops) c.stops.invariant.crossed c.cross.ensures.crossed e in
     omega (arith, h, with, now)
-
-pub returns-then-not-cross-clause-some : goal.returns-then-not-cross-clause-some
-returns-then-not-cross-clause-some g c parts made =
-    let rings = c.args.rings.now.rings in
-    let (r, cr, plane) = Contains-from_map (λ (r : Ring). r.plane) rings c.args.i
-    (c.is_linked.ensures.0 c.if-not-is_linked.false) in
-    let z = is_zero c.cross.new.self.place c.cross.result c.if-not-cross.true c.cross.ensures.back.1 in
-    let e = at_end rings c.requires.rings.now.ascending c.args.table.now.planes c.stops.walk c.args.i
-    c.stops.invariant.circle c.stops.invariant.entered r cr plane c.cross.new.self.place c.cross.ensures.place z in
-    some_serves parts c.args.table.now c.args.w c.len-len.ensures.rules rings (unlinked_of c.args.rings.now.unlinked)
-    c.requires.rings.now made c.requires.set (c.requires.linked parts made) c.args.i r c.look-best.result cr plane
-    (subst (λ m. IsBest parts c.args.table.now.planes c.args.w c.args.i r.stops m c.look-best.result) e
-    (c.look-best.ensures.best parts made c.stops.invariant.entered.stop (stop_in rings c.requires.rings.now.ascending
-    c.args.table.now.planes c.stops.walk c.args.i c.stops.invariant.circle c.stops.invariant.entered r cr plane)
-    c.stops.invariant.entered.node (c.stops.invariant.best parts made r cr plane)))
 
 pub returns-then-not-cross-clause-step : goal.returns-then-not-cross-clause-step
 returns-then-not-cross-clause-step g c parts made none =
     let rings = c.args.rings.now.rings in
     let linked = c.is_linked.ensures.0 c.if-not-is_linked.false in
     let (r, cr, plane) = Contains-from_map (λ (r : Ring). r.plane) rings c.args.i linked in
-    let z = is_zero c.cross.new.self.place c.cross.result c.if-not-cross.true c.cross.ensures.back.1 in
     let e = at_end rings c.requires.rings.now.ascending c.args.table.now.planes c.stops.walk c.args.i
-    c.stops.invariant.circle c.stops.invariant.entered r cr plane c.cross.new.self.place c.cross.ensures.place z in
+    c.stops.invariant.circle c.stops.invariant.entered r cr plane c.cross.new.self.place c.cross.ensures.place
+    c.cross.result c.if-not-cross.true c.cross.ensures.back.1 in
     step_or_none parts c.args.table.now c.args.w c.len-len.ensures.rules rings (unlinked_of c.args.rings.now.unlinked)
     c.requires.rings.now made c.requires.set (c.requires.linked parts made) c.args.i r c.look-best.result cr plane
     (subst (λ m. IsBest parts c.args.table.now.planes c.args.w c.args.i r.stops m c.look-best.result) e
@@ -104,9 +89,9 @@ returns-then-not-cross-clause-step g c parts made none =
 pub stops-smaller : goal.stops-smaller
 stops-smaller g c =
     let rings = c.args.rings.now.rings in
-    let ne = not_zero c.cross.new.self.place c.cross.result c.if-not-cross.false c.cross.ensures.back.0 in
     let (r, cr, plane) = Contains-from_map (λ (r : Ring). r.plane) rings c.args.i (c.is_linked.ensures.0 c.if-not-is_linked.false) in
-    let e = goes_on rings c.requires.rings.now.ascending c.args.table.now.planes c.stops.walk c.args.i c.stops.invariant.circle c.stops.invariant.entered r cr plane c.cross.new.self.place c.cross.ensures.place ne in
+    let e = goes_on rings c.requires.rings.now.ascending c.args.table.now.planes c.stops.walk c.args.i c.stops.invariant.circle c.stops.invariant.entered r cr plane c.cross.new.self.place c.cross.ensures.place
+    c.cross.result c.if-not-cross.false c.cross.ensures.back.0 in
     let lt = place_small rings c.requires.rings.now.ascending c.args.table.now.planes c.stops.walk c.args.i c.stops.invariant.circle c.stops.invariant.entered r cr plane in
     let le = subst (λ k. length r.stops ≤ Rattle.staat_plan.specs.RingSearches.length_at k rings) plane (length_has rings r cr) in
     omega (arith, e, lt, le)
@@ -114,8 +99,8 @@ stops-smaller g c =
 pub stops-preserved : goal.stops-preserved
 stops-preserved g c =
     let rings = c.args.rings.now.rings in
-    let ne = not_zero c.cross.new.self.place c.cross.result c.if-not-cross.false c.cross.ensures.back.0 in
-    let goes : (r : Ring) → Contains rings r → r.plane ≡ c.args.i → c.cross.new.self.place ≡ c.stops.walk.place + 1 = λ r cr plane. goes_on rings c.requires.rings.now.ascending c.args.table.now.planes c.stops.walk c.args.i c.stops.invariant.circle c.stops.invariant.entered r cr plane c.cross.new.self.place c.cross.ensures.place ne in
+    let goes : (r : Ring) → Contains rings r → r.plane ≡ c.args.i → c.cross.new.self.place ≡ c.stops.walk.place + 1 = λ r cr plane. goes_on rings c.requires.rings.now.ascending c.args.table.now.planes c.stops.walk c.args.i c.stops.invariant.circle c.stops.invariant.entered r cr plane c.cross.new.self.place c.cross.ensures.place
+    c.cross.result c.if-not-cross.false c.cross.ensures.back.0 in
     let f = Contains-from_map (λ (r : Ring). r.plane) rings c.args.i (c.is_linked.ensures.0 c.if-not-is_linked.false) in
     record {
       made = c.cross.ensures.made;
