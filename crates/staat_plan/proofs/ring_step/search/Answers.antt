@@ -90,7 +90,8 @@ pub stops-smaller : goal.stops-smaller
 stops-smaller g c =
     let rings = c.args.rings.now.rings in
     let (r, cr, plane) = Contains-from_map (λ (r : Ring). r.plane) rings c.args.i (c.is_linked.ensures.0 c.if-not-is_linked.false) in
-    let e = goes_on rings c.requires.rings.now.ascending c.args.table.now.planes c.stops.walk c.args.i c.stops.invariant.circle c.stops.invariant.entered r cr plane c.cross.new.self.place c.cross.ensures.place
+    let e = goes_on rings c.requires.rings.now.ascending c.args.table.now.planes c.stops.walk c.args.i
+    c.stops.invariant.circle c.stops.invariant.entered r cr plane c.cross.new.self.place c.cross.ensures.place
     c.cross.result c.if-not-cross.false c.cross.ensures.back.0 in
     let lt = place_small rings c.requires.rings.now.ascending c.args.table.now.planes c.stops.walk c.args.i c.stops.invariant.circle c.stops.invariant.entered r cr plane in
     let le = subst (λ k. length r.stops ≤ Rattle.staat_plan.specs.RingSearches.length_at k rings) plane (length_has rings r cr) in
@@ -99,7 +100,9 @@ stops-smaller g c =
 pub stops-preserved : goal.stops-preserved
 stops-preserved g c =
     let rings = c.args.rings.now.rings in
-    let goes : (r : Ring) → Contains rings r → r.plane ≡ c.args.i → c.cross.new.self.place ≡ c.stops.walk.place + 1 = λ r cr plane. goes_on rings c.requires.rings.now.ascending c.args.table.now.planes c.stops.walk c.args.i c.stops.invariant.circle c.stops.invariant.entered r cr plane c.cross.new.self.place c.cross.ensures.place
+    let goes : (r : Ring) → Contains rings r → r.plane ≡ c.args.i → c.cross.new.self.place ≡ c.stops.walk.place + 1 =
+    λ r cr plane. goes_on rings c.requires.rings.now.ascending c.args.table.now.planes c.stops.walk c.args.i
+    c.stops.invariant.circle c.stops.invariant.entered r cr plane c.cross.new.self.place c.cross.ensures.place
     c.cross.result c.if-not-cross.false c.cross.ensures.back.0 in
     let f = Contains-from_map (λ (r : Ring). r.plane) rings c.args.i (c.is_linked.ensures.0 c.if-not-is_linked.false) in
     record {
@@ -107,8 +110,11 @@ stops-preserved g c =
       entered = c.cross.ensures.entered;
       circle = c.cross.ensures.circle ∙ c.stops.invariant.circle;
       placed = c.look-best.ensures.placed;
-      crossed = counts c.stops.walk.crossed c.cross.new.self.crossed c.args.walk.now.crossed c.stops.walk.place c.cross.new.self.place c.stops.invariant.crossed c.cross.ensures.crossed (sym (goes f.0 f.1 f.2));
+      crossed = counts c.stops.walk.crossed c.cross.new.self.crossed c.args.walk.now.crossed c.stops.walk.place
+          c.cross.new.self.place c.stops.invariant.crossed c.cross.ensures.crossed (sym (goes f.0 f.1 f.2));
       best = λ parts made r cr plane.
           subst (λ m. IsBest parts c.args.table.now.planes c.args.w c.args.i r.stops m c.look-best.result) (sym (goes r cr plane))
-          (c.look-best.ensures.best parts made c.stops.invariant.entered.stop (stop_in rings c.requires.rings.now.ascending c.args.table.now.planes c.stops.walk c.args.i c.stops.invariant.circle c.stops.invariant.entered r cr plane) c.stops.invariant.entered.node (c.stops.invariant.best parts made r cr plane));
+          (c.look-best.ensures.best parts made c.stops.invariant.entered.stop (stop_in rings c.requires.rings.now.ascending
+          c.args.table.now.planes c.stops.walk c.args.i c.stops.invariant.circle c.stops.invariant.entered r cr plane)
+          c.stops.invariant.entered.node (c.stops.invariant.best parts made r cr plane));
     }
