@@ -1,6 +1,7 @@
 -- The chosen order: its steps, and that it is good or names a set that is locked.
 use Rattle.std.proofs.Common.{◌≡◌, ℕ, ◌<◌, ◌≤◌, refl, sym, subst, ap, ◌∙◌, List, [], ◌∷◌, ◌++◌}
 use Rattle.std.proofs.lemmas.List.Elements.{All-contains}
+use Rattle.std.specs.Prelude.{◌↔◌, MatchOption, None, Option, Some}
 use Rattle.std.specs.FinSet as set
 use Rattle.staat_vec.specs.declared.vector.V3.{V3}
 use Rattle.staat_model.specs.declared.assembly.Part.{Part}
@@ -24,7 +25,7 @@ use Rattle.staat_linear.specs.Orders.{HasNoLeave, IsChosen, IsLeave, IsLocked, L
 -- ---- one step
 
 -- a part that is free along some direction is free along a vertex
-pub locked_at_vertices : (parts : List Part) (w : PartSet) → IsAssembly parts → 2 ≤ set.len w → HasNoLeave parts w → IsLocked parts w
+locked_at_vertices : (parts : List Part) (w : PartSet) → IsAssembly parts → 2 ≤ set.len w → HasNoLeave parts w → IsLocked parts w
 locked_at_vertices parts w is two none = record {
   two = two;
   held = λ p d has free.
@@ -32,9 +33,12 @@ locked_at_vertices parts w is two none = record {
       All-contains (λ v. LetsLeave parts w v → ⊥) (vertices none.planes) at.v none.none at.vertex (p, record { member = has; free = at.free });
 }
 
--- a set with a step is not locked
-pub leave_unlocks : (parts : List Part) (w : PartSet) (leave : Leave) → IsLeave parts w leave → IsLocked parts w → ⊥
-leave_unlocks parts w leave is locked = locked.held leave.part leave.d is.leaves.member is.leaves.free
+-- a set has no step exactly where it is locked
+pub locked_if_none : (parts : List Part) (w : PartSet) (found : Option Leave) → IsAssembly parts → 2 ≤ set.len w
+    → MatchOption found (HasNoLeave parts w) (IsLeave parts w) → (found ≡ None) ↔ IsLocked parts w
+locked_if_none parts w None is two none = (λ e. locked_at_vertices parts w is two none, λ locked. refl)
+locked_if_none parts w (Some leave) is two step =
+    (λ e. absurd cc, λ locked. absurd (locked.held leave.part leave.d step.leaves.member step.leaves.free))
 
 -- what a search has found is the step
 pub served_is_leave : (parts : List Part) (w : PartSet) (planes : List V3) (s : Served ℕ) → ArePlanes parts w planes → IsFirstServed (LetsLeave parts w) (IsLeastLeaving parts w) (vertices planes) s → IsLeave parts w (record { part = s.found; d = s.d })

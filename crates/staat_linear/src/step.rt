@@ -137,8 +137,6 @@ fn searched_step(table: &PlaneTable, w: PartSet) -> Option<Leave>
     ensures size { IfSome result (λ leave. IsWithin DIRECTION leave.d) }
     ensures step { (parts : List PartValue) → WasMadeFrom parts table.now
         → MatchOption result (HasNoLeave parts w) (IsLeave parts w) }
-    ensures locked { (parts : List PartValue) → WasMadeFrom parts table.now
-        → (result ≡ None) ↔ IsLocked parts w }
 {
     let mut taking = Taking {
         core: SetCore::none(),

@@ -1,42 +1,35 @@
 -- The marks of a robust plan hold.
-use Rattle.std.proofs.Common.{◌≡◌, ◌≢◌, ◌⊎◌, inl, inr, refl, sym, ap, subst, ◌∙◌, true, pos, ℕ, Bool, Ok, Err}
-use Rattle.std.proofs.Common.{◌+◌, List, [], ◌∷◌, ◌++◌, All, Contains, map}
-use Rattle.std.specs.Prelude.{cond, IfOk, MatchResult, Result}
-use Rattle.std.proofs.lemmas.List.{map-append}
-use Rattle.std.proofs.lemmas.List.Elements.{All-contains}
+use Rattle.std.proofs.Common.{◌≡◌, ◌≢◌, ◌⊎◌, inl, inr, refl, sym, ap, subst, ◌∙◌, true, pos}
+use Rattle.std.proofs.Common.{List, [], ◌∷◌, ◌++◌, All, Contains, map}
+use Rattle.std.proofs.lemmas.List.Elements.{All-contains, Contains-append_left, Contains-append_right}
+use Rattle.staat_cells.proofs.Zeros.{none_zero, open_kind}
 use Rattle.std.specs.FinSet as set
 use Rattle.staat_vec.specs.declared.vector.V3.{V3}
 use Rattle.staat_vec.specs.Lists.{IsFirst}
 use Rattle.staat_vec.specs.Primitives.{IsPrimitiveOf, primitive}
 use Rattle.staat_vec.specs.Vectors.{dot, sign}
 use Rattle.staat_vec.proofs.Primitives.{primitive-is}
-use Rattle.staat_vec.proofs.Unique.{Contains-cases, Contains-front, Contains-later, Contains-nothing, IsFirst-in}
+use Rattle.staat_vec.proofs.Unique.{Contains-cases, Contains-nothing, IsFirst-in}
 use Rattle.staat_model.specs.declared.assembly.Part.{Part}
 use Rattle.staat_model.specs.declared.set.PartSet.{PartSet}
 use Rattle.staat_model.specs.declared.tree.Kind.{Kind}
 use Rattle.staat_model.specs.declared.tree.Kind.TheVariants.{Edge, Open, Point}
-use Rattle.staat_model.specs.declared.tree.Outcome.{Outcome}
 use Rattle.staat_model.specs.Assemblies.{IsAssembly}
-use Rattle.staat_model.specs.Cells.{AreCellsOf, CellEntry, IsEntry, kind_by_count, kind_of, signs_of}
+use Rattle.staat_model.specs.Cells.{AreCellsOf, CellEntry, IsEntry, kind_of, signs_of}
 use Rattle.staat_model.specs.Outcomes.{AreCellTries, Finding, IsOutcome, IsStep, Serves, Try, both_planned, one_part, planned}
-use Rattle.staat_model.specs.Outcomes.{finding_of, stuck, try_cell}
+use Rattle.staat_model.specs.Outcomes.{stuck, try_cell}
 use Rattle.staat_model.specs.Planes.{ArePlanes, vertices}
 use Rattle.staat_model.specs.Plans.{Plan, parts_of, split}
-use Rattle.staat_model.proofs.CellLemmas.{off_all, zeros, zeros-cons, not_zero, open_no_zero}
-use Rattle.staat_model.proofs.Differences.{from_map}
+use Rattle.staat_model.proofs.CellLemmas.{off_all, zeros, open_no_zero}
 use Rattle.staat_model.proofs.OneTable.{ArePlanes-unique}
 use Rattle.staat_model.proofs.Members.{All-from_members}
 use Rattle.staat_model.proofs.PointLemmas.{point_is_vertex_lemma, representative_lemma}
-use Rattle.staat_planes.specs.declared.refusal.PlanesRefusal.{PlanesRefusal}
-use Rattle.staat_planes.specs.Refusals.{IsPlanesRefusal}
-use Rattle.staat_plan.specs.Planning.{IsOutcomeOf}
 use Rattle.staat_plan.specs.Marks.{AreMarksRight, HasOneMark, IsOffPlanes, MarkHolds, MarksHold, OnlyPlanesServe}
 use Rattle.staat_plan.specs.Marks.{OnlyVerticesServe, at_leaf}
 use Rattle.staat_plan.specs.Marks.{at_split}
 use Rattle.staat_plan.proofs.Right.{right}
 use Rattle.staat_plan.proofs.Tries.{cell_serves, in_kind}
 use Rattle.staat_vec.proofs.Signs.{zero_sign}
-use Rattle.staat_vec.proofs.ListLaws.{Contains-map}
 
 -- ---- the first, in one list after another
 
@@ -56,20 +49,18 @@ first_in P (y ∷ xs) ys x (inr h) = elim (first_in P xs ys x h.1) [
   )
 ]
 
+first_from_map : {X Y : Type 0} (f : X → Y) (P : Y → Type 0) (xs : List X) (y : Y) → IsFirst P (map f xs) y
+    → (x : X) × IsFirst (λ x. P (f x)) xs x × (y ≡ f x)
+first_from_map f P [] y h = absurd h
+first_from_map f P (x ∷ xs) y (inl h) = (x, inl (refl, h.1), h.0)
+first_from_map f P (x ∷ xs) y (inr h) =
+    let (z, first, e) = first_from_map f P xs y h.1 in (z, inr (h.0, first), e)
+
 -- ---- directions off all planes
 
-no_zeros : (planes : List V3) (d : V3) → ((n : V3) → Contains planes n → dot n d ≢ pos 0)
-    → zeros (signs_of planes d) ≡ 0
-no_zeros [] d off = refl
-no_zeros (n ∷ planes) d off =
-    let s = not_zero (sign (dot n d)) (λ z. off n (Contains-front n planes) (zero_sign (dot n d) z)) in
-    let rest = no_zeros planes d (λ m c. off m (Contains-later n planes m c)) in
-    zeros-cons (sign (dot n d)) (signs_of planes d) ∙ (λ i. cond (s i) 1 0 + rest i)
-
-open_off : (planes : List V3) (d : V3) → All (λ n. dot n d ≢ pos 0) planes
-    → kind_of (signs_of planes d) ≡ Open
-open_off planes d off =
-    ap kind_by_count (no_zeros planes d (λ n c. All-contains (λ m. dot m d ≢ pos 0) planes n off c))
+open_off : (planes : List V3) (d : V3) → All (λ n. dot n d ≢ pos 0) planes → kind_of (signs_of planes d) ≡ Open
+open_off planes d off = open_kind (signs_of planes d) (none_zero (λ n. sign (dot n d)) planes
+    (λ n c z. All-contains (λ m. dot m d ≢ pos 0) planes n off c (zero_sign (dot n d) z)))
 
 -- ---- the mark of a step
 
@@ -119,22 +110,16 @@ module _ (parts : List Part) (is : IsAssembly parts) (w : PartSet) (planes : Lis
       (All-from_members (λ n. dot n c.d ≢ pos 0) planes
       (λ n n_in z. off_all planes c.d none n n_in (ap sign z)))
 
-  none_tried : (cells : List CellEntry) →
-      ((t : Try) → Contains (map try_cell cells) t → Serves parts w t.d → ⊥) → NoneServes cells
-  none_tried cells none c c_in = none (try_cell c) (Contains-map try_cell cells c c_in)
-
-  marked : (kind : Kind) (cells : List CellEntry) (try : Try) → AreCellsOf planes kind cells
-      → IsFirst (λ t. Serves parts w t.d) (map try_cell cells) try
-      → ((c : CellEntry) → IsEntry planes kind c → MarkHolds parts w c.d kind)
-      → HasOneMark parts w try
-  marked kind cells try of first holds =
-      let found = IsFirst-in (λ (t : Try). Serves parts w t.d) (map try_cell cells) try first in
-      let (c, c_in, e) = from_map try_cell cells try found.0 in
-      let entry = All-contains (IsEntry planes kind) cells c of.each c_in in
+  marked : (kind : Kind) (cells : List CellEntry) (c : CellEntry) (try : Try) → AreCellsOf planes kind cells
+      → IsFirst (λ x. Serves parts w x.d) cells c → try ≡ try_cell c
+      → (IsEntry planes kind c → MarkHolds parts w c.d kind) → HasOneMark parts w try
+  marked kind cells c try of first e holds =
+      let found = IsFirst-in (λ (x : CellEntry). Serves parts w x.d) cells c first in
+      let entry = All-contains (IsEntry planes kind) cells c of.each found.0 in
       record {
         mark = kind;
         is = ap (λ (t : Try). t.mark) e ∙ ap (λ k. k ∷ []) entry.kind_is;
-        holds = subst (λ (t : Try). MarkHolds parts w t.d kind) (sym e) (holds c entry);
+        holds = subst (λ (t : Try). MarkHolds parts w t.d kind) (sym e) (holds entry);
       }
 
 pub mark_holds_lemma : (parts : List Part) → IsAssembly parts → (w : PartSet) (try : Try) (side : PartSet)
@@ -142,33 +127,28 @@ pub mark_holds_lemma : (parts : List Part) → IsAssembly parts → (w : PartSet
     → HasOneMark parts w try
 mark_holds_lemma parts is w try side step = go step.tries_are
   where
-    P : Try → Type 0
-    P t = Serves parts w t.d
+    P : CellEntry → Type 0
+    P c = Serves parts w c.d
 
     go : AreCellTries parts w step.tries → HasOneMark parts w try
     go are =
-        let o = map try_cell are.opens in
-        let e = map try_cell are.edges in
-        let p = map try_cell are.points in
-        let lists : step.tries ≡ o ++ e ++ p = are.is ∙ map-append try_cell (are.opens ++ are.edges) are.points
-        ∙ ap (λ l. l ++ p) (map-append try_cell are.opens are.edges) in
-        let first : IsFirst (λ (t : Try). Serves parts w t.d) (o ++ e ++ p) try = subst
-        (λ l. IsFirst (λ (t : Try). Serves parts w t.d) l try) lists step.first in
         let planes_are = are.planes_are in
-        elim (first_in (λ (t : Try). Serves parts w t.d) (o ++ e) p try first) [
-          | inl early ↦ (elim (first_in (λ (t : Try). Serves parts w t.d) o e try early) [
-            | inl a ↦ marked parts is w are.planes planes_are Open are.opens try are.opens_are a
-                (off_planes parts is w are.planes planes_are)
-            | inr b ↦ marked parts is w are.planes planes_are Edge are.edges try are.edges_are b.1 (λ x entry.
-                only_planes parts is w are.planes planes_are are.opens are.opens_are
-                (none_tried parts is w are.planes planes_are are.opens b.0))
+        let (c, first, e) = first_from_map try_cell (λ (t : Try). Serves parts w t.d)
+        (are.opens ++ are.edges ++ are.points) try
+        (subst (λ l. IsFirst (λ (t : Try). Serves parts w t.d) l try) are.is step.first) in
+        elim (first_in P (are.opens ++ are.edges) are.points c first) [
+          | inl early ↦ (elim (first_in P are.opens are.edges c early) [
+            | inl a ↦ marked parts is w are.planes planes_are Open are.opens c try are.opens_are a e
+                (off_planes parts is w are.planes planes_are c)
+            | inr b ↦ marked parts is w are.planes planes_are Edge are.edges c try are.edges_are b.1 e
+                (λ entry. only_planes parts is w are.planes planes_are are.opens are.opens_are b.0)
           ])
-          | inr c ↦ (
-              let no_open = none_tried parts is w are.planes planes_are are.opens
-              (λ t t_in. c.0 t (Rattle.std.proofs.lemmas.List.Elements.Contains-append_left o e t t_in)) in
-              let no_edge = none_tried parts is w are.planes planes_are are.edges
-              (λ t t_in. c.0 t (Rattle.std.proofs.lemmas.List.Elements.Contains-append_right o e t t_in)) in
-              marked parts is w are.planes planes_are Point are.points try are.points_are c.1 (λ x entry. (
+          | inr b ↦ (
+              let no_open = λ (x : CellEntry) (x_in : Contains are.opens x).
+              b.0 x (Contains-append_left are.opens are.edges x x_in) in
+              let no_edge = λ (x : CellEntry) (x_in : Contains are.edges x).
+              b.0 x (Contains-append_right are.opens are.edges x x_in) in
+              marked parts is w are.planes planes_are Point are.points c try are.points_are b.1 e (λ entry. (
                 only_planes parts is w are.planes planes_are are.opens are.opens_are no_open,
                 only_vertices parts is w are.planes planes_are are.opens are.opens_are no_open are.edges are.edges_are
                     no_edge,
@@ -191,13 +171,6 @@ module _ (parts : List Part) (is : IsAssembly parts) where
       (marks_hold_lemma side moved ms one) (marks_hold_lemma (set.difference w side) rest rs sub)
       (marks_are ∙ ap (λ l. l ++ ms ++ rs) own.is)
 
-  marks_right : (w : PartSet) (f : Finding) → IsOutcome true parts w f → AreMarksRight parts f
+  pub marks_right : (w : PartSet) (f : Finding) → IsOutcome true parts w f → AreMarksRight parts f
   marks_right w (planned plan marks) outcome = marks_hold_lemma w plan marks outcome
   marks_right w (stuck a) outcome = tt
-
-  pub marks_found : (robust : Bool) (w : PartSet) (limit : ℕ) (result : Result Outcome PlanesRefusal)
-      → MatchResult result (IsOutcomeOf robust parts w limit) (IsPlanesRefusal parts w limit)
-      → IfOk result (λ o. robust ≡ true → AreMarksRight parts (finding_of o))
-  marks_found robust w limit (Ok o) of = λ yes.
-      marks_right w (finding_of o) (subst (λ r. IsOutcome r parts w (finding_of o)) yes of.is)
-  marks_found robust w limit (Err x) of = tt

@@ -1,7 +1,7 @@
 -- The directions of a plan that is found are within the bound, so that its certificate is never too long.
-use Rattle.std.proofs.Common.{inl, inr, ℕ, ◌≤◌, lit≤, sym, subst, Bool, true, false, List, ◌++◌, length, All, Contains}
+use Rattle.std.proofs.Common.{inl, inr, ℕ, ◌≤◌, lit≤, sym, subst, Bool, true, false, List, ◌++◌, length, All, Contains, get_or}
 use Rattle.std.specs.FinSet as set
-use Rattle.std.proofs.lemmas.List.Elements.{All-contains, Contains-append_cases}
+use Rattle.std.proofs.lemmas.List.Elements.{All-append, All-contains, All-map, Contains-append_cases}
 use Rattle.staat_vec.specs.declared.vector.V3.{V3}
 use Rattle.staat_vec.specs.declared.vector.TheConstants.{DIRECTION, NORMAL, VERTEX}
 use Rattle.staat_vec.specs.Vectors.{IsWithin}
@@ -17,15 +17,14 @@ use Rattle.staat_model.specs.declared.set.PartSet.{PartSet}
 use Rattle.staat_model.specs.declared.tree.Kind.{Kind}
 use Rattle.staat_model.specs.declared.tree.Kind.TheVariants.{Edge, Open, Point}
 use Rattle.staat_model.specs.Assemblies.{IsAssembly}
-use Rattle.staat_model.specs.Cells.{CellEntry, IsEntry}
+use Rattle.staat_model.specs.Cells.{AreCellsOf, CellEntry}
 use Rattle.staat_model.specs.Certify.{IsCertificateOf}
-use Rattle.staat_model.specs.Outcomes.{AreCellTries, AreTries, IsOutcome, Serves, Try, both_planned, one_part, planned}
+use Rattle.staat_model.specs.Outcomes.{AreTries, IsOutcome, Serves, Try, both_planned, one_part, planned}
 use Rattle.staat_model.specs.Outcomes.{try_cell, try_vertex}
 use Rattle.staat_model.specs.Planes.{ArePlanes, axes, vertices}
 use Rattle.staat_model.specs.Plans.{IsGood, Plan}
 use Rattle.staat_model.specs.Sets.{below}
 use Rattle.staat_model.specs.Texts.{text_of}
-use Rattle.staat_model.proofs.Differences.{from_map}
 use Rattle.staat_model.proofs.GraphLemmas.{piece_is}
 use Rattle.staat_model.proofs.Members.{All-from_members}
 use Rattle.staat_model.proofs.PlaneLemmas.{IsNormal, plane_normal, planes_apart}
@@ -54,7 +53,7 @@ module _ (parts : List Part) (is : IsAssembly parts) where
             (piece_is parts plane.arc.b plane.arc.j holds.q is holds.q_is) holds.holds)))
       ]
 
-  table_planes : (w : PartSet) (planes : List V3) → ArePlanes parts w planes → AreTablePlanes planes
+  pub table_planes : (w : PartSet) (planes : List V3) → ArePlanes parts w planes → AreTablePlanes planes
   table_planes w planes are = record {
     others = are.others;
     is = are.is;
@@ -71,37 +70,23 @@ module _ (parts : List Part) (is : IsAssembly parts) where
 
   -- ---- the directions that are tried
 
-  cell_try : (w : PartSet) (tries : List Try) (are : AreCellTries parts w tries) (try : Try) → Contains tries try
-      → IsWithin DIRECTION try.d
-  cell_try w tries are try c =
-      let (cell, cell_in, e) = from_map try_cell (are.opens ++ are.edges ++ are.points) try
-      (subst (λ l. Contains l try) are.is c) in
-      subst (λ (t : Try). IsWithin DIRECTION t.d) (sym e) (one cell cell_in)
+  abbrev Small : Try → Type 0
+  Small try = IsWithin DIRECTION try.d
+
+  tries_small : (robust : Bool) (w : PartSet) (tries : List Try) → AreTries robust parts w tries → All Small tries
+  tries_small false w tries are = subst (All Small) (sym are.is) (All-map Small try_vertex (vertices are.planes)
+      (All-from_members (IsWithin DIRECTION) (vertices are.planes) (λ v v_in. IsWithin-wider VERTEX DIRECTION v (lit≤ tt)
+      (vertex_small are.planes v (table_planes w are.planes are.planes_are) v_in))))
+  tries_small true w tries are = subst (All Small) (sym are.is) (All-map Small try_cell (are.opens ++ are.edges ++ are.points)
+      (All-append P (are.opens ++ are.edges) are.points (All-append P are.opens are.edges (small Open are.opens are.opens_are)
+      (small Edge are.edges are.edges_are)) (small Point are.points are.points_are)))
     where
-      small : (kind : Kind) (cells : List CellEntry) → All (IsEntry are.planes kind) cells → (x : CellEntry)
-          → Contains cells x
-          → IsWithin DIRECTION x.d
-      small kind cells all x x_in =
-          cell_small are.planes (table_planes w are.planes are.planes_are) kind x
-          (All-contains (IsEntry are.planes kind) cells x all x_in)
+      P : CellEntry → Type 0
+      P c = IsWithin DIRECTION c.d
 
-      one : (x : CellEntry) → Contains (are.opens ++ are.edges ++ are.points) x → IsWithin DIRECTION x.d
-      one x x_in = elim (Contains-append_cases (are.opens ++ are.edges) are.points x x_in) [
-        | inl early ↦ (elim (Contains-append_cases are.opens are.edges x early) [
-          | inl open_in ↦ small Open are.opens are.opens_are.each x open_in
-          | inr edge_in ↦ small Edge are.edges are.edges_are.each x edge_in
-        ])
-        | inr point_in ↦ small Point are.points are.points_are.each x point_in
-      ]
-
-  try_small : (robust : Bool) (w : PartSet) (tries : List Try) → AreTries robust parts w tries → (try : Try)
-      → Contains tries try
-      → IsWithin DIRECTION try.d
-  try_small false w tries are try c =
-      let (v, v_in, e) = from_map try_vertex (vertices are.planes) try (subst (λ l. Contains l try) are.is c) in
-      subst (λ (t : Try). IsWithin DIRECTION t.d) (sym e) (IsWithin-wider VERTEX DIRECTION v (lit≤ tt)
-      (vertex_small are.planes v (table_planes w are.planes are.planes_are) v_in))
-  try_small true w tries are try c = cell_try w tries are try c
+      small : (kind : Kind) (cells : List CellEntry) → AreCellsOf are.planes kind cells → All P cells
+      small kind cells of k d lt =
+          cell_small are.planes (table_planes w are.planes are.planes_are) kind (get_or cells k d) (of.each k d lt)
 
   -- ---- the plan that is found
 
@@ -110,7 +95,7 @@ module _ (parts : List Part) (is : IsAssembly parts) where
       → AreWithin DIRECTION plan
   outcome_sized robust w plan marks (one_part e) = tt
   outcome_sized robust w plan marks (both_planned {side} {try} {moved} {rest} {d} {ms} {rs} two step one sub e marks_are) = (
-    subst (IsWithin DIRECTION) (sym e) (try_small robust w step.tries step.tries_are try
+    subst (IsWithin DIRECTION) (sym e) (All-contains Small step.tries try (tries_small robust w step.tries step.tries_are)
         (IsFirst-in (λ (t : Try). Serves parts w t.d) step.tries try step.first).0),
     outcome_sized robust side moved ms one,
     outcome_sized robust (set.difference w side) rest rs sub,

@@ -46,17 +46,14 @@ module _ (rings : List Ring) (sorted : Rattle.std.specs.List.Sorted.IsStrictlySo
       next_is : place ≡ (now.place + 1) % length r.stops
       next_is = next entered.stop entered.at entered.node ∙ ap (λ (q : Ring). (now.place + 1) % length q.stops) ring_is
 
-      pub at_end : place ≡ 0 → now.place + 1 ≡ length r.stops
-      at_end z = ⊎_elim {C = now.place + 1 ≡ length r.stops} (λ h. h.0) (λ h. absurd (let e = sym next_is ∙ z in let f = h.1 in omega (arith, e, f))) (around now.place (length r.stops) place_small)
+      pub at_end : (on : Bool) → on ≡ false → (place ≢ 0 → IsTrue on) → now.place + 1 ≡ length r.stops
+      at_end on e back = ⊎_elim {C = now.place + 1 ≡ length r.stops} (λ h. h.0)
+          (λ h. absurd (false_test_clash on e (back (λ z. let m = sym next_is ∙ z in let f = h.1 in omega (arith, m, f)))))
+          (around now.place (length r.stops) place_small)
 
-      pub goes_on : place ≢ 0 → (place ≡ now.place + 1)
-      goes_on ne = ⊎_elim {C = place ≡ now.place + 1} (λ h. absurd (ne (next_is ∙ h.1))) (λ h. next_is ∙ h.1) (around now.place (length r.stops) place_small)
-
-pub is_zero : (p : ℕ) (b : Bool) → b ≡ false → (p ≢ 0 → IsTrue b) → p ≡ 0
-is_zero p b e h = ⊎_elim {C = p ≡ 0} (λ z. z) (λ ne. absurd (false_test_clash b e (h ne))) (same_or p 0)
-
-pub not_zero : (p : ℕ) (b : Bool) → b ≡ true → (IsTrue b → p ≢ 0) → p ≢ 0
-not_zero p b e h = h e
+      pub goes_on : (on : Bool) → on ≡ true → (IsTrue on → place ≢ 0) → place ≡ now.place + 1
+      goes_on on e onward = ⊎_elim {C = place ≡ now.place + 1} (λ h. absurd (onward e (next_is ∙ h.1)))
+          (λ h. next_is ∙ h.1) (around now.place (length r.stops) place_small)
 
 pub nothing_yet : (parts : List Part) (planes : List V3) (w : PartSet) (i : ℕ) (stops : List RingStop) (m : ℕ) → m ≡ 0 → IsBest parts planes w i stops m None
 nothing_yet parts planes w i stops m z = record {

@@ -3,7 +3,7 @@ use Rattle.std.proofs.Common.{◌≡◌, ⊎_elim, ℕ, ◌+◌, ◌<◌, ◌≤
 use Rattle.std.specs.Prelude.{nat_lt}
 use Rattle.std.specs.Ordering.{nat_cmp}
 use Rattle.std.specs.List.Sorted.{IsStrictlySortedBy}
-use Rattle.std.proofs.lemmas.List.Sums.{sum_by-cons}
+use Rattle.std.proofs.lemmas.List.Sums.{sum_by-cons, sum_by-le-sum_by}
 use Rattle.staat_vec.proofs.Unique.{Contains-cases, Contains-front, Contains-later, Contains-nothing}
 use Rattle.staat_ring.specs.Rings.{Ring, linked_of}
 use Rattle.staat_plan.specs.RingSearches.{lengths_below}
@@ -61,8 +61,6 @@ lengths_without k (q ∷ rings) none =
 
 pub lengths_rise : (j k : ℕ) (rings : List Ring) → j ≤ k → lengths_below j rings ≤ lengths_below k rings
 unfolding lengths_below
-lengths_rise j k [] le = omega arith
-lengths_rise j k (q ∷ rings) le =
-    let rest = lengths_rise j k rings le in
-    let one : share j q ≤ share k q = ⊎_elim {C = share j q ≤ share k q} (λ lt. let a = share_in j q lt in let b = share_in k q (omega (arith, lt, le)) in omega (arith, a, b)) (λ ge. let a = share_out j q ge in omega (arith, a)) (lt_or_le q.plane j) in
-    omega (arith, rest, one, sum_by-cons (share j) q rings, sum_by-cons (share k) q rings)
+lengths_rise j k rings le = sum_by-le-sum_by (share j) (share k) rings (λ q. ⊎_elim {C = share j q ≤ share k q}
+    (λ lt. let a = share_in j q lt in let b = share_in k q (omega (arith, lt, le)) in omega (arith, a, b))
+    (λ ge. let a = share_out j q ge in omega (arith, a)) (lt_or_le q.plane j))

@@ -14,6 +14,13 @@ use Rattle.staat_ring.specs.Rings.{facet_by}
 use Rattle.staat_vec.proofs.Comparisons.{head_less, tail_sorted}
 use Rattle.staat_vec.proofs.ListLaws.{first_right, first_left}
 
+-- a crossing with a lesser plane comes before
+pub order_less : (k j : ℕ) (c b : Bool) → k < j → 2 * j + (if b then 1 else 0) ≤ 2 * k + (if c then 1 else 0) → ⊥
+order_less k j true true lt le = absurd (omega arith)
+order_less k j true false lt le = absurd (omega arith)
+order_less k j false true lt le = absurd (omega arith)
+order_less k j false false lt le = absurd (omega arith)
+
 module _ (f : ℕ → V3) (P : V3 → Type 0) where
   -- the crossing of two planes, or its negative
   abbrev pub at : ℕ → ℕ → Bool → V3
@@ -39,19 +46,13 @@ module _ (f : ℕ → V3) (P : V3 → Type 0) where
         inl ((λ t. at i (e t) (sym q t)), subst (λ v. P v) (λ t. at i (e t) (sym q t)) p),
       )
 
-      small : (d c : Bool) → k < j → 2 * j + (if d then 1 else 0) ≤ 2 * k + (if c then 1 else 0) → ⊥
-      small true true lt le = absurd (omega arith)
-      small true false lt le = absurd (omega arith)
-      small false true lt le = absurd (omega arith)
-      small false false lt le = absurd (omega arith)
-
       later : Contains ks j → IsFirst P (crossings (f i) (map f ks)) (at i j b) → IsFirst P (at i k false ∷ at i k true ∷ crossings (f i) (map f ks)) (at i j b)
       later cj rest =
           let lt = head_less k ks j s cj in
           inr (
-            (λ h. small b false lt (least k false (Contains-front k ks) h)),
+            (λ h. order_less k j false b lt (least k false (Contains-front k ks) h)),
             inr (
-              (λ h. small b true lt (least k true (Contains-front k ks) h)),
+              (λ h. order_less k j true b lt (least k true (Contains-front k ks) h)),
               rest,
             ),
           )

@@ -1,19 +1,17 @@
 -- The first vertex that serves, from what is found on the circles.
-use Rattle.std.proofs.Common.{◌≡◌, ◌↔◌, ⊎_elim, ℕ, ◌+◌, ◌*◌, ◌<◌, ◌≤◌, false, arith, ap, sym, subst, ◌∙◌, refl, List, length, Contains, All}
-use Rattle.std.specs.Prelude.{Option, Some, None, if◌then◌else◌, map, slice_get}
+use Rattle.std.proofs.Common.{◌≡◌, ◌↔◌, ⊎_elim, ℕ, ◌+◌, ◌*◌, ◌<◌, ◌≤◌, false, arith, ap, sym, subst, ◌∙◌, refl, List, length, Contains}
+use Rattle.std.specs.Prelude.{MatchOption, Option, Some, None, if◌then◌else◌, map, slice_get}
 use Rattle.std.specs.FinSet as set
-use Rattle.std.proofs.lemmas.List.Elements.{All-contains, All-map}
+use Rattle.std.proofs.lemmas.List.Elements.{All-contains}
 use Rattle.std.proofs.lemmas.Option.{slice_get-get_or, slice_get_within, same_Some}
 use Rattle.staat_vec.specs.declared.vector.V3.{V3}
 use Rattle.staat_vec.specs.Vectors.{origin}
 use Rattle.staat_model.specs.declared.assembly.Part.{Part}
 use Rattle.staat_model.specs.declared.set.PartSet.{PartSet}
 use Rattle.staat_model.specs.Circles.{IsLinked}
-use Rattle.staat_model.specs.Outcomes.{HasNoStep, IsMovedSide, IsStep, Serves, Try, try_vertex}
-use Rattle.staat_model.specs.Planes.{ArePlanes, vertices}
-use Rattle.staat_model.specs.Plans.{IsStuck}
+use Rattle.staat_model.specs.Outcomes.{HasNoStep, IsMovedSide, IsStep, Serves, try_vertex}
+use Rattle.staat_model.specs.Planes.{ArePlanes}
 use Rattle.staat_model.specs.Sets.{IsSubset}
-use Rattle.staat_model.proofs.VertexLemmas.{stuck_at_vertices_lemma}
 use Rattle.staat_pairs.specs.Tables.{IsTable, Table, WasMadeFrom}
 use Rattle.staat_planes.specs.Tables.{IsPlaneOf}
 use Rattle.staat_ring.specs.declared.entry.Entry.{Entry}
@@ -28,7 +26,7 @@ use Rattle.staat_planes.proofs.UsedPlanes.{numbered_planes}
 use Rattle.staat_plan.proofs.RingPairs.{first_pair, no_pairs}
 use Rattle.staat_vec.proofs.Naturals.{lt_one_more_cases}
 use Rattle.staat_vec.proofs.Options.{none_some}
-use Rattle.staat_plan.proofs.StepLemmas.{map_first}
+use Rattle.staat_plan.proofs.StepLemmas.{no_step, step_is}
 use Rattle.staat_vec.proofs.ListLaws.{Contains-from_map, Contains-map}
 
 module _ (parts : List Part) (t : Table) (w : PartSet) (rules : IsTable t) (rings : List Ring) (out : List ℕ) (are : AreRings t.planes rings out) (made : WasMadeFrom parts t) (within : IsSubset w t.of)
@@ -78,35 +76,24 @@ module _ (parts : List Part) (t : Table) (w : PartSet) (rules : IsTable t) (ring
         let pass = All-contains (λ s. Rattle.staat_vec.specs.Lists.Lists Rattle.std.specs.Ordering.nat_cmp (Rattle.staat_model.specs.Circles.PassesThrough t.planes ks r.plane s.vertex) s.through) (map (Rattle.staat_ring.specs.Rings.stop_of t.planes r.plane) r.stops) (Rattle.staat_ring.specs.Rings.stop_of t.planes r.plane right.0) (rings_of r cr).circle.through (Contains-map (Rattle.staat_ring.specs.Rings.stop_of t.planes r.plane) r.stops right.0 right.1) in
         (pass.each f.entry.plane (Contains-map (λ e. e.plane) right.0.entries f.entry right.2.listed)).linked_is.listed
 
-    pub found_step : Contains ks i → NoneServes parts t.planes w ks i → IsStep false parts w (try_vertex (crossing t.planes i f.entry)) f.moved
-    found_step ci none = record {
-      tries = map try_vertex (vertices (map (plane_at t.planes) ks));
-      tries_are = record { planes = map (plane_at t.planes) ks; planes_are = planes_of_w; is = refl };
-      first = map_first (λ v. Serves parts w v) (vertices (map (plane_at t.planes) ks)) (crossing t.planes i f.entry)
-          (first_pair (plane_at t.planes) (λ v. Serves parts w v) ks i f.entry.plane f.entry.turned are.ascending ci found_linked right.2.later
-          (subst (λ v. Serves parts w v) vertex right.2.serves)
-          (λ h k c ch ck lt later s. none h (record { plane = k; turned = c }) ch ck lt later s)
-          (λ k c ck later s.
-          let found = looked i r (Some f) (record { plane = k; turned = c }) cr plane is ck later s in
-          let q : f ≡ found.0 = same_Some f found.0 found.1 in
-          subst (λ (x : Serving). pair_key x.entry ≤ 2 * k + (if c then 1 else 0)) (sym q) found.2));
-      moved = subst (λ v. IsMovedSide parts w v f.moved) vertex right.2.moved;
-    }
+    pub found_step : Contains ks i → NoneServes parts t.planes w ks i
+        → IsStep false parts w (try_vertex (crossing t.planes i f.entry)) f.moved
+    found_step ci none = step_is parts w (map (plane_at t.planes) ks) planes_of_w (crossing t.planes i f.entry) f.moved
+        (first_pair (plane_at t.planes) (λ v. Serves parts w v) ks i f.entry.plane f.entry.turned are.ascending ci
+        found_linked right.2.later
+        (subst (λ v. Serves parts w v) vertex right.2.serves)
+        (λ h k c ch ck lt later s. none h (record { plane = k; turned = c }) ch ck lt later s)
+        (λ k c ck later s.
+        let found = looked i r (Some f) (record { plane = k; turned = c }) cr plane is ck later s in
+        let q : f ≡ found.0 = same_Some f found.0 found.1 in
+        subst (λ (x : Serving). pair_key x.entry ≤ 2 * k + (if c then 1 else 0)) (sym q) found.2))
+        (subst (λ v. IsMovedSide parts w v f.moved) vertex right.2.moved)
 
   -- no circle has a vertex that serves
-  pub no_step : NoneServes parts t.planes w ks (length t.planes) → All (λ v. Serves parts w v → ⊥) (vertices (map (plane_at t.planes) ks))
-  no_step none = no_pairs (plane_at t.planes) (λ v. Serves parts w v) ks are.ascending (λ i j b ci cj lt s. none i (record { plane = j; turned = b }) ci cj (small i ci) lt s)
-
   pub has_no_step : NoneServes parts t.planes w ks (length t.planes) → HasNoStep false parts w
-  has_no_step none = record {
-    tries = map try_vertex (vertices (map (plane_at t.planes) ks));
-    tries_are = record { planes = map (plane_at t.planes) ks; planes_are = planes_of_w; is = refl };
-    none = All-map (λ (x : Try). Serves parts w x.d → ⊥) try_vertex (vertices (map (plane_at t.planes) ks)) (no_step none);
-  }
-
-  pub is_stuck : NoneServes parts t.planes w ks (length t.planes) → 2 ≤ set.len w → IsStuck parts w
-  is_stuck none two = stuck_at_vertices_lemma parts w (map (plane_at t.planes) ks) made.assembly planes_of_w two
-      (λ v s cv side free. All-contains (λ v. Serves parts w v → ⊥) (vertices (map (plane_at t.planes) ks)) v (no_step none) cv (record { side = s; is_side = side; free = free }))
+  has_no_step none = no_step parts w (map (plane_at t.planes) ks) planes_of_w
+      (no_pairs (plane_at t.planes) (λ v. Serves parts w v) ks are.ascending
+      (λ i j b ci cj lt s. none i (record { plane = j; turned = b }) ci cj (small i ci) lt s))
 
   -- one circle more
   pub none_more : (i : ℕ) (r : Ring) → Contains rings r → r.plane ≡ i → IsBest parts t.planes w i r.stops (length r.stops) None → NoneServes parts t.planes w ks i → NoneServes parts t.planes w ks (i + 1)
@@ -114,6 +101,16 @@ module _ (parts : List Part) (t : Table) (w : PartSet) (rules : IsTable t) (ring
       (λ before. none h e ch ce before later serves)
       (λ q. let found = looked i r None e cr plane is ce (omega (arith, q, later)) (subst (λ k. Serves parts w (crossing t.planes k e)) q serves) in none_some found.0 found.1)
       (lt_one_more_cases h i lt)
+
+  -- what is found on the circle of i
+  pub step_or_none : (i : ℕ) (r : Ring) (best : Option Serving) → Contains rings r → r.plane ≡ i
+      → IsBest parts t.planes w i r.stops (length r.stops) best → Contains ks i → NoneServes parts t.planes w ks i
+      → MatchOption best (NoneServes parts t.planes w ks (i + 1))
+      (λ f. HasServing parts t.planes w rings i
+      × IsStep false parts w (try_vertex (crossing t.planes i f.entry)) f.moved)
+  step_or_none i r None cr plane is ci none = none_more i r cr plane is none
+  step_or_none i r (Some f) cr plane is ci none =
+      (has_serving i r f cr plane is, found_step i r f cr plane is ci none)
 
 pub none_skip : (parts : List Part) (planes : List V3) (w : PartSet) (ks : List ℕ) (i : ℕ) → (Contains ks i → ⊥) → NoneServes parts planes w ks i → NoneServes parts planes w ks (i + 1)
 none_skip parts planes w ks i out none h e ch ce lt later serves = ⊎_elim {C = ⊥} (λ before. none h e ch ce before later serves) (λ q. out (subst (Contains ks) q ch)) (lt_one_more_cases h i lt)

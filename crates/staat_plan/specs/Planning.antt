@@ -1,26 +1,32 @@
 -- What the planner finds for a set of parts.
-use Rattle.std.specs.Prelude.{◌≡◌, ◌≤◌, ◌++◌, ℕ, List, Option, Bool}
-use Rattle.std.specs.Prelude.{MatchOption, IfSome, length, true}
+use Rattle.std.specs.Prelude.{◌≡◌, ◌≤◌, ◌++◌, ℕ, List, Option, Bool, All}
+use Rattle.std.specs.Prelude.{MatchOption, false, length, true, ⊤}
 use Rattle.std.specs.Option.{option_to_list}
 use Rattle.staat_vec.specs.declared.vector.TheConstants.{DIRECTION}
-use Rattle.staat_vec.specs.Vectors.{IsWithin}
+use Rattle.staat_vec.specs.declared.vector.V3.{V3}
+use Rattle.staat_vec.specs.Lists.{IsFirst}
 use Rattle.staat_model.specs.declared.assembly.Part.{Part}
 use Rattle.staat_model.specs.declared.set.PartSet.{PartSet}
 use Rattle.staat_model.specs.declared.tree.Outcome.{Outcome}
+use Rattle.staat_model.specs.declared.tree.Step.{Step}
 use Rattle.staat_limits.specs.declared.limits.TheConstants.{LEAST_PLANES, MOST_CELL_PLANES, MOST_PLANES}
-use Rattle.staat_model.specs.Outcomes.{Finding, HasNoStep, IsOutcome, IsStep, Try, finding_of, planned, stuck}
+use Rattle.staat_model.specs.Outcomes.{Finding, HasNoStep, IsMovedSide, IsOutcome, IsStep, Serves, Try, finding_of}
+use Rattle.staat_model.specs.Outcomes.{planned, stuck, try_vertex}
+use Rattle.staat_model.specs.Planes.{ArePlanes, vertices}
 use Rattle.staat_model.specs.Plans.{IsGood, IsStuck, split}
-use Rattle.staat_model.specs.Sets.{IsSide, IsSubset}
+use Rattle.staat_model.specs.Sets.{IsSubset, below}
 use Rattle.staat_pairs.specs.Tables.{Table, WasMadeFrom}
+use Rattle.staat_planes.specs.declared.search.Search.{Search}
+use Rattle.staat_planes.specs.Refusals.{IsTableWithin}
+use Rattle.staat_planes.specs.VertexSearch.{IsFirstUnless}
 use Rattle.staat_certify.specs.Certifying.{HasFewPlanes}
 use Rattle.staat_certify.specs.Plans.{AreWithin}
 use Rattle.staat_plan.specs.declared.marked.Marked.{Marked}
 use Rattle.staat_plan.specs.declared.planner.Options.{Options}
 
--- the table was made from the parts and has no more planes than are allowed, and so many are within the limits
+-- the table is that of all parts and has no more planes than are allowed, and so many are within the limits
 pub record IsPlanner (parts : List Part) (t : Table) (options : Options) : Type 0 where
-  pub made : WasMadeFrom parts t
-  pub few : length t.planes ≤ options.planes
+  pub all : IsTableWithin parts (below (length parts)) options.planes t
   pub least : LEAST_PLANES ≤ options.planes
   pub most : options.planes ≤ MOST_PLANES
   pub cells : options.robust ≡ true → options.planes ≤ MOST_CELL_PLANES
@@ -41,19 +47,37 @@ joined_finding m (planned moved ms) (stuck b) = stuck b
 joined_finding m (planned moved ms) (planned rest rs) =
     planned (split m.step.d moved rest) (option_to_list m.mark ++ ms ++ rs)
 
--- the step of w, if it has one; its planes are no more than the limit
-pub record IsStepOf (robust : Bool) (parts : List Part) (w : PartSet) (limit : ℕ) (found : Option Marked)
-    : Type 0 where
-  pub few : HasFewPlanes parts w limit
-  pub side : IfSome found (λ m. IsSide w m.step.moved)
-  pub size : IfSome found (λ m. IsWithin DIRECTION m.step.d)
-  pub step_is : MatchOption found (HasNoStep robust parts w) (λ m. IsStep robust parts w (try_of m) m.step.moved)
+-- the first of these directions that serves w is that of the step, which has its mark, and the side moves along it
+pub record IsFirstOf {X : Type 0} (try : X → Try) (parts : List Part) (w : PartSet) (xs : List X) (m : Marked) : Type 0
+  where
+    pub at : X
+    pub first : IsFirst (λ x. Serves parts w (try x).d) xs at
+    pub is : try_of m ≡ try at
+    pub moved : IsMovedSide parts w (try at).d m.step.moved
 
--- the step of a set w of parts of a table, if it has one
-pub record IsSetStep (robust : Bool) (t : Table) (w : PartSet) (found : Option Marked) : Type 0 where
-  pub size : IfSome found (λ m. IsWithin DIRECTION m.step.d)
-  pub step : (parts : List Part) → WasMadeFrom parts t
-      → MatchOption found (HasNoStep robust parts w) (λ m. IsStep robust parts w (try_of m) m.step.moved)
+-- such a step, if one of them serves
+abbrev pub IsFoundAmong : {X : Type 0} → (X → Try) → List Part → PartSet → List X → Option Marked → Type 0
+IsFoundAmong try parts w xs found =
+    MatchOption found (All (λ x. Serves parts w (try x).d → ⊥) xs) (IsFirstOf try parts w xs)
+
+-- the step of w, if it has one
+abbrev pub IsStepOf : Bool → List Part → PartSet → Option Marked → Type 0
+IsStepOf robust parts w found =
+    MatchOption found (HasNoStep robust parts w) (λ m. IsStep robust parts w (try_of m) m.step.moved)
+
+-- so of a set w of parts of a table
+abbrev pub IsSetStep : Bool → Table → PartSet → Option Marked → Type 0
+IsSetStep robust t w found = (parts : List Part) → WasMadeFrom parts t → IsStepOf robust parts w found
+
+-- so of a plan that is not robust, whose steps have no marks
+abbrev pub IsVertexStep : Table → PartSet → Option Step → Type 0
+IsVertexStep t w found = (parts : List Part) → WasMadeFrom parts t
+    → MatchOption found (HasNoStep false parts w) (λ s. IsStep false parts w (try_vertex s.d) s.moved)
+
+-- the first of the vertices of the planes of w that serves, and the side that moves, unless the search ends undecided
+abbrev pub IsSideSearch : Table → PartSet → Search PartSet → Type 0
+IsSideSearch t w found = (parts : List Part) (planes : List V3) → WasMadeFrom parts t → ArePlanes parts w planes
+    → IsFirstUnless ⊤ (Serves parts w) (IsMovedSide parts w) (vertices planes) found
 
 -- the outcome of w, whose planes are no more than the limit
 pub record IsOutcomeOf (robust : Bool) (parts : List Part) (w : PartSet) (limit : ℕ) (o : Outcome) : Type 0 where

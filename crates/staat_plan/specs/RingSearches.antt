@@ -1,7 +1,6 @@
 -- What a walk along a circle finds: the first of the vertices that serve, in the order of pairs of planes.
 use Rattle.std.specs.Prelude.{
   ◌≡◌,
-  ◌⊎◌,
   ℕ,
   ◌+◌,
   ◌*◌,
@@ -35,22 +34,18 @@ pub record IsServing (parts : List Part) (planes : List V3) (w : PartSet) (i : �
   pub serves : Serves parts w (vertex_of planes i s.entries)
   pub moved : IsMovedSide parts w (vertex_of planes i s.entries) f.moved
 
+-- what was found comes no later than the entry
+abbrev pub IsNoLater : Option Serving → Entry → Type 0
+IsNoLater best e = (f : Serving) × (best ≡ Some f) × (pair_key f.entry ≤ pair_key e)
+
 -- of the first m stops the best entry, if there is one
 pub record IsBest (parts : List Part) (planes : List V3) (w : PartSet) (i : ℕ) (stops : List RingStop) (m : ℕ)
     (best : Option Serving) : Type 0 where
   pub right : (f : Serving) → best ≡ Some f → (s : RingStop) × Contains stops s
       × IsServing parts planes w i s f
   pub least : (k : ℕ) (s : RingStop) (e : Entry) → k < m → slice_get stops k ≡ Some s
-      → Serves parts w (vertex_of planes i s.entries) → Contains s.entries e → i < e.plane → (f : Serving)
-      × (best ≡ Some f) × (pair_key f.entry ≤ pair_key e)
-
--- the better of two
-pub record IsBetter (best : Option Serving) (f : Serving) (result : Option Serving) : Type 0 where
-  pub one : Serving
-  pub is : result ≡ Some one
-  pub least : pair_key one.entry ≤ pair_key f.entry
-  pub which : (one ≡ f) ⊎ (best ≡ Some one)
-  pub before : (h : Serving) → best ≡ Some h → pair_key one.entry ≤ pair_key h.entry
+      → Serves parts w (vertex_of planes i s.entries) → Contains s.entries e → i < e.plane
+      → IsNoLater best e
 
 -- the length of the circle of plane c
 unfoldable pub length_at : ℕ → List Ring → ℕ

@@ -1,36 +1,14 @@
 -- Rings of a table from which the planes that are none of a set of parts are taken out in their turn.
-use Rattle.std.specs.Prelude.{
-  ◌≡◌,
-  ◌↔◌,
-  ℕ,
-  ◌<◌,
-  ◌≤◌,
-  List,
-  [],
-  Contains,
-  Option,
-  Some,
-  IfSome,
-  length,
-}
-use Rattle.std.specs.Prelude.{slice_get}
-use Rattle.staat_vec.specs.declared.vector.V3.{V3}
-use Rattle.staat_model.specs.declared.assembly.Part.{Part}
-use Rattle.staat_model.specs.declared.set.PartSet.{PartSet}
+use Rattle.std.specs.Prelude.{◌≡◌, ◌⊎◌, ◌↔◌, ℕ, ◌<◌, ◌≤◌, Bool, List, [], Contains, Option, IfSome}
 use Rattle.staat_pairs.specs.Tables.{Table}
-use Rattle.staat_planes.specs.Tables.{IsPlaneOf}
+use Rattle.staat_planes.specs.MarkedPlanes.{IsPlaneMarked}
 use Rattle.staat_plan.specs.declared.walker.Walker.{Walker}
 use Rattle.staat_ring.specs.Rings.{Arrangement, WereMadeFrom}
 use Rattle.staat_ring.specs.Walked.{WalkWasMadeFrom, Walked}
 
--- from k on all planes are linked
-abbrev pub AreAllLinkedFrom : List V3 → List ℕ → ℕ → Type 0
-AreAllLinkedFrom planes linked k = (j : ℕ) → k ≤ j → j < length planes → Contains linked j
-
--- of the planes before k those of w are linked, and no others
-abbrev pub AreThoseLinked : List Part → List V3 → PartSet → List ℕ → ℕ → Type 0
-AreThoseLinked parts planes w linked k = (j : ℕ) (n : V3) → slice_get planes j ≡ Some n → j < k
-    → Contains linked j ↔ IsPlaneOf parts w n
+-- of so many planes those from k on are linked and those that are marked, and no others
+abbrev pub AreLinkedOrPast : ℕ → List Bool → List ℕ → ℕ → Type 0
+AreLinkedOrPast n marks linked k = (j : ℕ) → j < n → Contains linked j ↔ ((k ≤ j) ⊎ IsPlaneMarked marks j)
 
 -- rings with all planes of the table, and a walk that was made from it
 pub record AreForTable (t : Table) (rings : Arrangement) (walk : Walked) : Type 0 where

@@ -1,15 +1,15 @@
 // The step of a set of parts in a robust plan.
-ghost use Rattle.std.specs.Prelude.{◌≡◌, ◌≤◌, ◌<◌, [], ◌∷◌, All, IfOk, length, map, true};
+ghost use Rattle.std.specs.Prelude.{◌≤◌, ◌<◌, [], ◌∷◌, All, IfOk, IfSome, Some, length, map, true};
 ghost use Rattle.staat_model.specs.Sets.{IsNonempty, IsSubset};
-ghost use Rattle.staat_pairs.specs.Tables.{AreTablePlanes};
 ghost use Rattle.staat_cells.specs.CellGraphs.{HasArcsOf};
 ghost use Rattle.staat_cells.specs.Compositions.{entry_of};
-ghost use Rattle.staat_cells.specs.Skeletons.{IsSkeleton, opens_at, opens_before};
-ghost use Rattle.staat_plan.specs.CellSteps.{IsFirstOpenStep, IsStepAmong, IsTableCell, IsTableStep};
+ghost use Rattle.staat_cells.specs.Skeletons.{IsSkeleton, opens_before};
+ghost use Rattle.staat_pairs.specs.Tables.{AreTablePlanes};
+ghost use Rattle.staat_plan.specs.CellSteps.{IsStepAmong, IsTableCell};
+ghost use Rattle.staat_plan.specs.Planning.{IsSetStep};
 
-use crate::marked::Marked;
+use crate::marked::{Marked, side_of};
 use staat_cells::{Cell, CellGraphs, Skeleton, first_open};
-use staat_graph::{is_strong, sink_of};
 use staat_limits::MOST_CELL_PLANES;
 use staat_model::{Kind, PartSet, Step};
 use staat_planes::PlaneTable;
@@ -17,10 +17,10 @@ use staat_vec::OutOfMemory;
 use std::alloc::Global;
 
 /// The step of the set `w` of parts along the representative of the first open cell of its planes, if a side moves
-/// along it.
+/// along it: then it is the step of `w` in a robust plan.
 ///
-/// `w` is not empty, and lies in the table's set. Its planes are picked from the table, and no other cell is made. It
-/// fails for want of memory alone.
+/// `w` is not empty, and lies in the table's set, which has at most [`MOST_CELL_PLANES`] planes. Its planes are picked
+/// from the table, and no other cell is made. It fails for want of memory alone.
 pub(crate) fn first_open_step(
     alloc: Global,
     table: &PlaneTable,
@@ -28,20 +28,16 @@ pub(crate) fn first_open_step(
 ) -> Result<Option<Marked>, OutOfMemory>
     requires some { IsNonempty w }
     requires within { IsSubset w table.now.of }
-    ensures { IfOk result (IsFirstOpenStep table.now w) }
+    requires few { length table.now.planes ≤ MOST_CELL_PLANES }
+    ensures { IfOk result (λ found. IfSome found (λ m. IsSetStep true table.now w (Some m))) }
 {
     let planes = table.planes_of(alloc, w)?;
     let d = first_open(planes.as_slice());
-    let graph = table.graph_in(w, d);
-    if is_strong(&graph, w) {
+    let Some(moved) = side_of(&table.graph_in(w, d), w) else {
         return Ok(None);
-    }
-    let step = Step {
-        moved: sink_of(&graph, w),
-        d,
     };
     Ok(Some(Marked {
-        step,
+        step: Step { moved, d },
         mark: Some(Kind::Open),
     }))
 }
@@ -52,17 +48,12 @@ fn step_in(table: &PlaneTable, graphs: &CellGraphs, cell: &Cell) -> Option<Marke
     requires cell { IsTableCell table.now (entry_of cell.now) }
     ensures { IsStepAmong table.now (entry_of cell.now ∷ []) result }
 {
-    let w = table.set();
     let graph = graphs.graph_of(cell.signs.as_slice());
-    if is_strong(&graph, w) {
+    let Some(moved) = side_of(&graph, table.set()) else {
         return None;
-    }
-    let step = Step {
-        moved: sink_of(&graph, w),
-        d: cell.d,
     };
     Some(Marked {
-        step,
+        step: Step { moved, d: cell.d },
         mark: Some(cell.kind),
     })
 }
@@ -81,26 +72,6 @@ fn step_among(table: &PlaneTable, graphs: &CellGraphs, cells: &[Cell]) -> Option
     None
 }
 
-// the step in the open cell that begins at a place, if one does
-fn open_step_at(
-    alloc: Global,
-    table: &PlaneTable,
-    graphs: &CellGraphs,
-    skeleton: &Skeleton,
-    i: usize,
-) -> Result<Option<Marked>, OutOfMemory>
-    requires graphs { HasArcsOf table.now graphs.now }
-    requires planes { AreTablePlanes table.now.planes }
-    requires skeleton { IsSkeleton table.now.planes skeleton.now }
-    requires place { i < length skeleton.now.incidences.items }
-    ensures { IfOk result (IsStepAmong table.now (opens_at skeleton.now i)) }
-{
-    match skeleton.open_at(alloc, i)? {
-        None => Ok(None),
-        Some(cell) => Ok(step_in(table, graphs, &cell)),
-    }
-}
-
 // The first step along representatives of open cells. They are composed one at a time, up to the first that serves.
 fn open_step(
     alloc: Global,
@@ -114,49 +85,33 @@ fn open_step(
     ensures { IfOk result (IsStepAmong table.now (opens_before skeleton.now (length skeleton.now.incidences.items))) }
 {
     for i in 0..skeleton.places() {
-        if let Some(found) = open_step_at(alloc, table, graphs, skeleton, i)? {
-            return Ok(Some(found));
+        if let Some(cell) = skeleton.open_at(alloc, i)? {
+            if let Some(found) = step_in(table, graphs, &cell) {
+                return Ok(Some(found));
+            }
         }
     }
     Ok(None)
 }
 
-// The first step along representatives of all cells. The points and edges stand in the skeleton already, since the
-// open cells are composed of them.
-fn first_step(
-    alloc: Global,
-    table: &PlaneTable,
-    graphs: &CellGraphs,
-    skeleton: &Skeleton,
-) -> Result<Option<Marked>, OutOfMemory>
-    requires graphs { HasArcsOf table.now graphs.now }
-    requires planes { AreTablePlanes table.now.planes }
-    requires skeleton { IsSkeleton table.now.planes skeleton.now }
-    ensures { IfOk result (IsTableStep true table.now) }
-{
-    if let Some(first) = open_step(alloc, table, graphs, skeleton)? {
-        return Ok(Some(first));
-    }
-    let edges = skeleton.edges();
-    let points = skeleton.points();
-    if let Some(found) = step_among(table, graphs, edges) {
-        return Ok(Some(found));
-    }
-    Ok(step_among(table, graphs, points))
-}
-
 /// The step of the table's set of parts in a robust plan: that along the representative of the first cell that serves,
 /// of the open cells, then the edges, then the points, each kind ascending by signs. None where the set is stuck.
 ///
-/// The table has at most [`MOST_CELL_PLANES`] planes. The points and the edges are made once, and the open cells one at
-/// a time, up to the first that serves.
+/// The table has at most [`MOST_CELL_PLANES`] planes. The points and the edges are made once, since the open cells are
+/// composed of them, and the open cells one at a time, up to the first that serves.
 pub(crate) fn cell_step(alloc: Global, table: &PlaneTable) -> Result<Option<Marked>, OutOfMemory>
     requires { length table.now.planes ≤ MOST_CELL_PLANES }
-    ensures { IfOk result (IsTableStep true table.now) }
+    ensures { IfOk result (IsSetStep true table.now table.now.of) }
 {
     // the planes of a table keep its rules
     let _planes = table.planes();
     let graphs = CellGraphs::of(alloc, table)?;
     let skeleton = Skeleton::of(alloc, table)?;
-    first_step(alloc, table, &graphs, &skeleton)
+    if let Some(first) = open_step(alloc, table, &graphs, &skeleton)? {
+        return Ok(Some(first));
+    }
+    if let Some(found) = step_among(table, &graphs, skeleton.edges()) {
+        return Ok(Some(found));
+    }
+    Ok(step_among(table, &graphs, skeleton.points()))
 }

@@ -24,6 +24,7 @@ ghost use Rattle.staat_plan.specs.Marks.{HasOneMark, MarksHold};
 ghost use Rattle.staat_plan.specs.Planning.{Settles};
 
 /// Some side of a set is free of the rest along a direction exactly where one is along the opposite direction.
+#[tactic(auto, using(crate::proofs::Opposites::serves_both))]
 pub fn opposite_serves()
     ensures { (parts : List PartValue) (w : PartSetValue) (d : Vector)
         → Serves parts w (negative d) ↔ Serves parts w d }
@@ -37,6 +38,7 @@ pub fn fewer_planes()
 
 /// The plan of an outcome takes the set apart, and the set that an outcome names as stuck is stuck; of robust plans,
 /// too.
+#[tactic(auto, using(crate::proofs::Right::right_lemma))]
 pub fn outcomes_are_right()
     ensures { (robust : Bool) (parts : List PartValue) (w : PartSetValue) (f : Finding)
         → IsAssembly parts → IsOutcome robust parts w f → Settles parts w f }
@@ -45,6 +47,7 @@ pub fn outcomes_are_right()
 /// The directions that are tried decide, in a plan that is not robust and in a robust one: a set of at least two parts
 /// is stuck exactly where none of them serves it. So where no vertex serves a set, no representative of a cell does,
 /// and the other way.
+#[tactic(auto, using(crate::proofs::Tries::tries_decide_lemma))]
 pub fn tries_decide()
     ensures { (robust : Bool) (parts : List PartValue) (w : PartSetValue) (tries : List Try)
         → IsAssembly parts → 2 ≤ set.len w → AreTries robust parts w tries
@@ -69,12 +72,14 @@ pub fn mark_holds()
 
 /// A robust plan has one mark for each split, in preorder, and each of them says of the set that is split what the
 /// mark of its step says.
+#[tactic(auto, using(crate::proofs::MarkLemmas::marks_hold_lemma))]
 pub fn marks_hold()
     ensures { (parts : List PartValue) (w : PartSetValue) (plan : Plan) (marks : List KindValue)
         → IsAssembly parts → IsOutcome true parts w (planned plan marks) → MarksHold parts plan marks }
 {}
 
 /// The directions of a plan that is found are within their bound, in a robust plan too.
+#[tactic(auto, using(crate::proofs::OutcomeSizes::outcome_sized))]
 pub fn outcome_is_sized()
     ensures { (robust : Bool) (parts : List PartValue) (w : PartSetValue) (plan : Plan) (marks : List KindValue) →
         IsAssembly parts → IsOutcome robust parts w (planned plan marks) → AreWithin DIRECTION plan }

@@ -8,9 +8,8 @@ ghost use Rattle.staat_pairs.specs.Tables.{WasMadeFrom};
 ghost use Rattle.staat_plan.specs.LoneLines.{OnlyPlanesThroughServe};
 ghost use Rattle.staat_plan.specs.Planning.{IsSetStep};
 
-use crate::marked::Marked;
+use crate::marked::{Marked, side_of};
 use crate::side_trial::SideTrial;
-use staat_graph::sink_of;
 use staat_limits::MOST_CELL_PLANES;
 use staat_model::{Kind, PartSet, Step};
 use staat_planes::{PlaneTable, Trial};
@@ -65,12 +64,11 @@ pub(crate) fn lone_step(
     }
     let d = neg(canon(first.d));
     let graph = table.graph_in(w, d);
-    let step = Step {
-        moved: sink_of(&graph, w),
-        d,
+    let Some(moved) = side_of(&graph, w) else {
+        return Ok(None);
     };
     Ok(Some(Marked {
-        step,
+        step: Step { moved, d },
         mark: Some(Kind::Point),
     }))
 }

@@ -1,30 +1,30 @@
 // The outcome of an assembly.
-ghost use Rattle.std.specs.Prelude.{◌≡◌, ℕ, ◌<◌, ◌≤◌, ◌++◌, []};
-ghost use Rattle.std.specs.Prelude.{IfOk, MatchOption, MatchResult, None, Some, false, length, true};
+ghost use Rattle.std.specs.Prelude.{◌≡◌, ◌≤◌, ◌++◌, []};
+ghost use Rattle.std.specs.Prelude.{IfOk, MatchResult, length, true};
 ghost use Rattle.std.specs.FinSet as set;
 ghost use Rattle.std.specs.Option.{option_to_list};
 ghost use Rattle.staat_model.specs.Outcomes.{IsOutcome, finding_of, planned};
 ghost use Rattle.staat_model.specs.Plans.{leaf, plan_of, split};
-ghost use Rattle.staat_model.specs.Sets.{Has, IsNonempty, IsSubset, below};
-ghost use Rattle.staat_pairs.specs.Tables.{IsTableOf, WasMadeFrom};
+ghost use Rattle.staat_model.specs.Sets.{IsNonempty, IsSubset, below};
+ghost use Rattle.staat_pairs.specs.Tables.{IsTableOf};
 ghost use Rattle.staat_planes.specs.declared.refusal.PlanesRefusal.TheVariants.{OutOfMemory as NoMemory};
 ghost use Rattle.staat_planes.specs.Refusals.{IsPlanesRefusal};
 ghost use Rattle.staat_certify.specs.Certifying.{CanBeCertified, HasFewPlanes};
 ghost use Rattle.staat_plan.specs.Marks.{AreMarksRight};
-ghost use Rattle.staat_plan.specs.Planning.{IsOutcomeOf, IsPlanner, IsSetStep, IsSized, IsStepOf};
+ghost use Rattle.staat_plan.specs.Planning.{IsOutcomeOf, IsPlanner, IsSized, IsStepOf, IsVertexStep};
 ghost use Rattle.staat_plan.specs.Planning.{Settles, joined_finding};
 ghost use Rattle.staat_plan.specs.RingSets.{IsReadyFor};
 
 use crate::cell_steps::{cell_step, first_open_step};
 use crate::lone_step::lone_step;
 use crate::marked::Marked;
-use crate::step::{early_step, step_of};
+use crate::step::{early_search, step_of};
 use crate::tabulated::Tabulated;
 use crate::walker::Walker;
 use staat_cone::FacetSource;
 use staat_limits::{LEAST_PLANES, MOST_CELL_PLANES, MOST_PLANES};
 use staat_model::{Kind, Marks, Outcome, PartSet, Sound, Step, Tree};
-use staat_planes::{PlaneTable, PlanesRefusal, tabulate};
+use staat_planes::{PlaneTable, PlanesRefusal, Search, tabulate};
 use staat_vec::{OutOfMemory, V3};
 use std::alloc::Global;
 
@@ -39,58 +39,37 @@ pub struct Options {
     pub robust: bool,
 }
 
-// a step without a mark
-fn unmarked(step: Option<Step>) -> Option<Marked>
-    ensures { MatchOption result (step ≡ None) (λ m. (step ≡ Some m.step) × (m.mark ≡ None)) }
-{
-    match step {
-        None => None,
-        Some(step) => Some(Marked { step, mark: None }),
-    }
-}
-
-// the step of a set of parts of the table, by a walk along rings, which are made if they are not there yet
-fn walked_step(
-    alloc: Global,
-    table: &PlaneTable,
-    w: PartSet,
-    walker: &mut Option<Walker>,
-) -> Result<Option<Marked>, OutOfMemory>
-    requires ready { IsReadyFor table.now walker.old }
-    requires within { IsSubset w table.now.of }
-    requires two { 2 ≤ set.len w }
-    ensures ready { IsReadyFor table.now walker.new }
-    ensures step { IfOk result (IsSetStep false table.now w) }
-{
-    match walker {
-        Some(own) => Ok(unmarked(own.step(table, w))),
-        None => {
-            let mut own = Walker::new(alloc, table)?;
-            let step = own.step(table, w);
-            *walker = Some(own);
-            Ok(unmarked(step))
-        }
-    }
-}
-
 // The step of a set of parts of the table in a plan that is not robust. The first vertices decide nearly every set
 // that comes apart, and a core nearly every one that does not; only where neither does are all vertices gone through,
-// by a walk.
+// by a walk along rings, which are made if they are not there yet.
 fn vertex_step(
     alloc: Global,
     table: &PlaneTable,
     w: PartSet,
     walker: &mut Option<Walker>,
-) -> Result<Option<Marked>, OutOfMemory>
+) -> Result<Option<Step>, OutOfMemory>
     requires ready { IsReadyFor table.now walker.old }
     requires within { IsSubset w table.now.of }
+    requires some { IsNonempty w }
     requires two { 2 ≤ set.len w }
     ensures ready { IsReadyFor table.now walker.new }
-    ensures step { IfOk result (IsSetStep false table.now w) }
+    ensures step { IfOk result (IsVertexStep table.now w) }
 {
-    match early_step(table, w) {
-        Some(found) => Ok(found),
-        None => walked_step(alloc, table, w, walker),
+    match early_search(table, w) {
+        Search::First(served) => Ok(Some(Step {
+            moved: served.found,
+            d: served.d,
+        })),
+        Search::Nothing => Ok(None),
+        Search::Undecided => match walker {
+            Some(own) => Ok(own.step(table, w)),
+            None => {
+                let mut own = Walker::new(alloc, table)?;
+                let step = own.step(table, w);
+                *walker = Some(own);
+                Ok(step)
+            }
+        },
     }
 }
 
@@ -201,9 +180,8 @@ impl<'a, F: FacetSource> Planner<'a, F> {
         requires planner { IsPlanner self.now.sound.now self.now.table.now self.now.options }
         requires robust { self.now.options.robust ≡ true }
         requires some { IsNonempty w }
-        requires parts { (p : ℕ) → Has w p → p < length self.now.sound.now }
-        ensures { MatchResult result (IsStepOf true self.now.sound.now w self.now.options.planes)
-            (IsPlanesRefusal self.now.sound.now w self.now.options.planes) }
+        requires within { IsSubset w self.now.table.now.of }
+        ensures { MatchResult result (IsStepOf true self.now.sound.now w) (λ e. e ≡ NoMemory) }
     {
         let source = Tabulated::of(self.source, self.sound, self.table);
         let own = tabulate(self.alloc, &source, self.sound, w, self.options.planes)?;
@@ -217,11 +195,10 @@ impl<'a, F: FacetSource> Planner<'a, F> {
     fn robust_step(&self, w: PartSet) -> Result<Option<Marked>, PlanRefusal>
         requires planner { IsPlanner self.now.sound.now self.now.table.now self.now.options }
         requires robust { self.now.options.robust ≡ true }
+        requires some { IsNonempty w }
         requires two { 2 ≤ set.len w }
-        requires parts { (p : ℕ) → Has w p → p < length self.now.sound.now }
         requires within { IsSubset w self.now.table.now.of }
-        ensures { MatchResult result (IsStepOf true self.now.sound.now w self.now.options.planes)
-            (IsPlanesRefusal self.now.sound.now w self.now.options.planes) }
+        ensures { MatchResult result (IsStepOf true self.now.sound.now w) (λ e. e ≡ NoMemory) }
     {
         if let Some(found) = first_open_step(self.alloc, self.table, w)? {
             return Ok(Some(found));
@@ -246,18 +223,18 @@ impl<'a, F: FacetSource> Planner<'a, F> {
     ) -> Result<Option<Marked>, PlanRefusal>
         requires planner { IsPlanner self.now.sound.now self.now.table.now self.now.options }
         requires ready { IsReadyFor self.now.table.now walker.old }
+        requires some { IsNonempty w }
         requires two { 2 ≤ set.len w }
-        requires parts { (p : ℕ) → Has w p → p < length self.now.sound.now }
         requires within { IsSubset w self.now.table.now.of }
         ensures ready { IsReadyFor self.now.table.now walker.new }
-        ensures step { MatchResult result
-            (IsStepOf self.now.options.robust self.now.sound.now w self.now.options.planes)
-            (IsPlanesRefusal self.now.sound.now w self.now.options.planes) }
+        ensures step { MatchResult result (IsStepOf self.now.options.robust self.now.sound.now w) (λ e. e ≡ NoMemory) }
     {
         if self.options.robust {
-            self.robust_step(w)
-        } else {
-            Ok(vertex_step(self.alloc, self.table, w, walker)?)
+            return self.robust_step(w);
+        }
+        match vertex_step(self.alloc, self.table, w, walker)? {
+            None => Ok(None),
+            Some(step) => Ok(Some(Marked { step, mark: None })),
         }
     }
 
@@ -270,12 +247,10 @@ impl<'a, F: FacetSource> Planner<'a, F> {
         requires planner { IsPlanner self.now.sound.now self.now.table.now self.now.options }
         requires ready { IsReadyFor self.now.table.now walker.old }
         requires some { IsNonempty w }
-        requires parts { (p : ℕ) → Has w p → p < length self.now.sound.now }
         requires within { IsSubset w self.now.table.now.of }
         ensures ready { IsReadyFor self.now.table.now walker.new }
         ensures outcome { MatchResult result
-            (IsOutcomeOf self.now.options.robust self.now.sound.now w self.now.options.planes)
-            (IsPlanesRefusal self.now.sound.now w self.now.options.planes) }
+            (λ o. IsOutcome self.now.options.robust self.now.sound.now w (finding_of o)) (λ e. e ≡ NoMemory) }
     {
         if w.count() == 1 {
             return Ok(leaf(self.alloc, w.least()));

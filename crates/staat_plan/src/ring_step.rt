@@ -12,7 +12,7 @@ ghost use Rattle.std.specs.Prelude.{
   List,
   Contains,
 };
-ghost use Rattle.std.specs.Prelude.{IfSome, MatchOption, None, Some, false, length, min, slice_get};
+ghost use Rattle.std.specs.Prelude.{IfSome, IsTrue, MatchOption, None, Some, false, length, min, slice_get};
 ghost use Rattle.std.specs.FinSet as set;
 ghost use Rattle.staat_vec.specs.declared.vector.V3.{V3 as Vector};
 ghost use Rattle.staat_vec.specs.Vectors.{IsWithin};
@@ -22,11 +22,11 @@ ghost use Rattle.staat_model.specs.Plans.{IsStuck};
 ghost use Rattle.staat_model.specs.Sets.{IsNonempty, IsSubset};
 ghost use Rattle.staat_pairs.specs.Tables.{WasMadeFrom};
 ghost use Rattle.staat_planes.specs.Tables.{IsPlaneOf};
-ghost use Rattle.staat_plan.specs.RingSearches.{HasServing, IsBest, IsBetter, IsLater, NoStopServes, NoneServes};
+ghost use Rattle.staat_plan.specs.RingSearches.{HasServing, IsBest, IsLater, IsNoLater, NoStopServes, NoneServes};
 ghost use Rattle.staat_plan.specs.RingSearches.{lengths_below, pair_key};
 ghost use Rattle.staat_ring.specs.Belonging.{HasAll};
 ghost use Rattle.staat_ring.specs.Places.{IsStopAt};
-ghost use Rattle.staat_ring.specs.Rings.{Ring, RingStop, WereMadeFrom, crossing, linked_of};
+ghost use Rattle.staat_ring.specs.Rings.{RingStop, WereMadeFrom, crossing, linked_of};
 ghost use Rattle.staat_ring.specs.Stepping.{count_below};
 ghost use Rattle.staat_ring.specs.Walked.{IsEntered, WalkWasMadeFrom};
 
@@ -52,21 +52,16 @@ fn pair_key(e: Entry) -> u32
     2 * e.plane + e.turned as u32
 }
 
-// the one that comes first in the order of pairs
-fn better(best: Option<Serving>, f: Serving) -> Option<Serving>
-    requires small { f.entry.plane < 1024 }
-    requires best { (h : Serving) → best ≡ Some h → h.entry.plane < 1024 }
-    ensures { IsBetter best f result }
+// whether what was found before comes no later than an entry
+fn is_before(best: &Option<Serving>, entry: &Entry) -> bool
+    requires small { entry.now.plane < 1024 }
+    requires best { (h : Serving) → best.now ≡ Some h → h.entry.plane < 1024 }
+    ensures yes { IsTrue result → IsNoLater best.now entry.now }
+    ensures no { result ≡ false → (h : Serving) → best.now ≡ Some h → pair_key entry.now ≤ pair_key h.entry }
 {
     match best {
-        None => Some(f),
-        Some(h) => {
-            if pair_key(h.entry) < pair_key(f.entry) {
-                Some(h)
-            } else {
-                Some(f)
-            }
-        }
+        None => false,
+        Some(h) => pair_key(h.entry) <= pair_key(*entry),
     }
 }
 
@@ -95,55 +90,21 @@ fn look(
         → IsBest parts table.now.planes w i at.ring.stops (walk.now.place + 1) result }
 {
     let _len = table.len();
-    match walk.entry_after(table, rings, i) {
-        None => best,
-        Some(entry) => {
-            let graph = walk.graph();
-            if walk.is_strong(w) {
-                return best;
-            }
-            let moved = sink_of(&graph, w);
-            better(best, Serving { entry, moved })
-        }
+    let Some(entry) = walk.entry_after(table, rings, i) else {
+        return best;
+    };
+    if is_before(&best, &entry) {
+        return best;
     }
+    let graph = walk.graph();
+    if walk.is_strong(w) {
+        return best;
+    }
+    let moved = sink_of(&graph, w);
+    Some(Serving { entry, moved })
 }
 
-// the best of what the walk finds on the circle i
-fn search_circle<L: Ledger>(
-    table: &PlaneTable,
-    rings: &Rings,
-    walk: &mut Walk,
-    w: PartSet,
-    i: u32,
-    steps: &mut Steps<L>,
-) -> Option<Serving>
-    requires made { WalkWasMadeFrom table.now walk.old }
-    requires rings { WereMadeFrom table.now.planes rings.now }
-    requires circle { Contains (linked_of rings.now.rings) i }
-    requires set { IsSubset w table.now.of }
-    requires some { IsNonempty w }
-    requires linked { (parts : List PartValue) → WasMadeFrom parts table.now
-        → HasAll parts w table.now.planes (linked_of rings.now.rings) }
-    ensures made { WalkWasMadeFrom table.now walk.new }
-    ensures steps { steps.new ≤ steps.old + length rings.now.rings }
-    ensures crossed { (r : Ring) → Contains rings.now.rings r → r.plane ≡ i
-        → walk.new.crossed ≡ min (walk.old.crossed + length r.stops) (2 ^ 64 - 1) }
-    ensures placed { (h : Serving) → result ≡ Some h → IsLater i (length table.now.planes) h }
-    ensures best { (parts : List PartValue) → WasMadeFrom parts table.now → (r : Ring)
-        → Contains rings.now.rings r → r.plane ≡ i
-        → IsBest parts table.now.planes w i r.stops (length r.stops) result }
-{
-    walk.enter(table, rings, i, steps);
-    let mut best = None;
-    'stops: loop {
-        best = look(table, rings, walk, w, i, best);
-        if !walk.cross(table, rings) {
-            return best;
-        }
-    }
-}
-
-// the same, and nothing where the plane i is not linked
+// The best of what the walk finds on the circle i, and nothing where the plane i is not linked.
 fn search<L: Ledger>(
     table: &PlaneTable,
     rings: &Rings,
@@ -152,7 +113,6 @@ fn search<L: Ledger>(
     i: u32,
     steps: &mut Steps<L>,
 ) -> Option<Serving>
-    requires plane { i < length table.now.planes }
     requires made { WalkWasMadeFrom table.now walk.old }
     requires rings { WereMadeFrom table.now.planes rings.now }
     requires set { IsSubset w table.now.of }
@@ -161,26 +121,29 @@ fn search<L: Ledger>(
         → slice_get table.now.planes k ≡ Some n → Contains (linked_of rings.now.rings) k
         ↔ IsPlaneOf parts w n }
     ensures made { WalkWasMadeFrom table.now walk.new }
-    ensures steps { steps.new + count_below i (linked_of rings.now.rings) * length rings.now.rings
-        ≤ steps.old + count_below (i + 1) (linked_of rings.now.rings) * length rings.now.rings }
-    ensures crossed { (more : ℕ)
-        → lengths_below (i + 1) rings.now.rings ≡ lengths_below i rings.now.rings + more
-        → min (walk.old.crossed + more) (2 ^ 64 - 1) ≤ walk.new.crossed }
+    ensures steps { (start : ℕ) → steps.old ≤ start + count_below i (linked_of rings.now.rings) * length rings.now.rings
+        → steps.new ≤ start + count_below (i + 1) (linked_of rings.now.rings) * length rings.now.rings }
+    ensures crossed { (start : ℕ) → min (start + lengths_below i rings.now.rings) (2 ^ 64 - 1) ≤ walk.old.crossed
+        → min (start + lengths_below (i + 1) rings.now.rings) (2 ^ 64 - 1) ≤ walk.new.crossed }
     ensures placed { (f : Serving) → result ≡ Some f → IsLater i (length table.now.planes) f }
-    ensures some { (parts : List PartValue) (f : Serving) → WasMadeFrom parts table.now → result ≡ Some f
-        → HasServing parts table.now.planes w rings.now.rings i }
-    ensures step { (parts : List PartValue) (f : Serving) → WasMadeFrom parts table.now → result ≡ Some f
+    ensures step { (parts : List PartValue) → WasMadeFrom parts table.now
         → NoneServes parts table.now.planes w (linked_of rings.now.rings) i
-        → IsStep false parts w (try_vertex (crossing table.now.planes i f.entry)) f.moved }
-    ensures none { (parts : List PartValue) → WasMadeFrom parts table.now → result ≡ None
-        → NoneServes parts table.now.planes w (linked_of rings.now.rings) i
-        → NoneServes parts table.now.planes w (linked_of rings.now.rings) (i + 1) }
+        → MatchOption result (NoneServes parts table.now.planes w (linked_of rings.now.rings) (i + 1))
+        (λ f. HasServing parts table.now.planes w rings.now.rings i
+        × IsStep false parts w (try_vertex (crossing table.now.planes i f.entry)) f.moved) }
 {
     let _len = table.len();
     if !rings.is_linked(i) {
         return None;
     }
-    search_circle(table, rings, walk, w, i, steps)
+    walk.enter(table, rings, i, steps);
+    let mut best = None;
+    'stops: loop {
+        best = look(table, rings, walk, w, i, best);
+        if !walk.cross(table, rings) {
+            return best;
+        }
+    }
 }
 
 // the step along the vertex that was found on the circle i

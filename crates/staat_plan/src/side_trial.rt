@@ -8,8 +8,8 @@ ghost use Rattle.staat_pairs.specs.Tables.{Table, WasMadeFrom};
 ghost use Rattle.staat_planes.specs.VertexSearch.{IfFound, IsFirstOfTwo};
 ghost use Rattle.staat_core.specs.TableCores.{IsSetCore};
 
+use crate::marked::side_of;
 use staat_core::{Moving, SetCore};
-use staat_graph::{is_strong, sink_of};
 use staat_model::PartSet;
 use staat_planes::{PlaneTable, Trial, Tried};
 use staat_vec::{DIRECTION, V3};
@@ -25,11 +25,9 @@ fn side_along(table: &PlaneTable, w: PartSet, d: V3) -> Tried<PartSet>
     ensures tried { (parts : List PartValue) → WasMadeFrom parts table.now
         → IsFirstOfTwo (Serves parts w) (IsMovedSide parts w) d result }
 {
-    let graph = table.graph_in(w, d);
-    if is_strong(&graph, w) {
-        Tried::Neither
-    } else {
-        Tried::Ahead(sink_of(&graph, w))
+    match side_of(&table.graph_in(w, d), w) {
+        None => Tried::Neither,
+        Some(side) => Tried::Ahead(side),
     }
 }
 

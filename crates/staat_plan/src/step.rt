@@ -6,11 +6,10 @@ ghost use Rattle.staat_vec.specs.Vectors.{IsWithin};
 ghost use Rattle.staat_model.specs.declared.assembly.Part.{Part as PartValue};
 ghost use Rattle.staat_model.specs.Outcomes.{HasNoStep, IsStep, try_vertex};
 ghost use Rattle.staat_model.specs.Plans.{IsStuck};
-ghost use Rattle.staat_model.specs.Sets.{IsSide, IsSubset};
+ghost use Rattle.staat_model.specs.Sets.{IsNonempty, IsSide, IsSubset};
 ghost use Rattle.staat_pairs.specs.Tables.{WasMadeFrom};
-ghost use Rattle.staat_plan.specs.Planning.{IsSetStep};
+ghost use Rattle.staat_plan.specs.Planning.{IsSideSearch};
 
-use crate::marked::Marked;
 use crate::side_trial::{SideLook, SideTrial};
 use staat_core::served_on_axis;
 use staat_model::{PartSet, Step};
@@ -19,8 +18,8 @@ use staat_planes::{
 };
 use staat_vec::DIRECTION;
 
-/// The step of a set of at least two parts that lies in the table's set: the first of the vertices of its planes along
-/// which some side of the set is free of the rest, and the side that moves. None exactly where the set is stuck.
+/// The step of a set of parts that is not empty and lies in the table's set: the first of the vertices of its planes
+/// along which some side of the set is free of the rest, and the side that moves.
 ///
 /// The vertices are taken in the order of the pairs of planes. Of a vertex and its negative only the first is looked
 /// at: by [`opposite_serves`](crate::laws::opposite_serves) the one serves exactly where the other does. It takes no
@@ -29,13 +28,11 @@ use staat_vec::DIRECTION;
 #[inline(never)]
 pub(crate) fn step_of(table: &PlaneTable, w: PartSet) -> Option<Step>
     requires within { IsSubset w table.now.of }
-    requires two { 2 ≤ set.len w }
+    requires some { IsNonempty w }
     ensures side { IfSome result (λ s. IsSide w s.moved) }
     ensures size { IfSome result (λ s. IsWithin DIRECTION s.d) }
     ensures step { (parts : List PartValue) → WasMadeFrom parts table.now
         → MatchOption result (HasNoStep false parts w) (λ s. IsStep false parts w (try_vertex s.d) s.moved) }
-    ensures stuck { (parts : List PartValue) → WasMadeFrom parts table.now
-        → (result ≡ None) ↔ IsStuck parts w }
 {
     let mut trial = SideTrial::new();
     match first_vertex(table, w, &mut trial) {
@@ -50,59 +47,37 @@ pub(crate) fn step_of(table: &PlaneTable, w: PartSet) -> Option<Step>
 /// How many pairs of planes are tried, at most, where a core passes over planes.
 const LATE_PAIRS: u32 = 4096;
 
-// The step of the set, if a core decides it: none where it shows that there is none, or the first where it passes over
-// planes. What a core keeps on the stack is large, and is not to be part of the callers' frames.
+// The first vertex that serves, if a core decides it: none where it shows that there is none, or the first where it
+// passes over planes. What a core keeps on the stack is large, and is not to be part of the callers' frames.
 #[inline(never)]
-fn late_step(table: &PlaneTable, w: PartSet) -> Option<Option<Marked>>
+fn late_search(table: &PlaneTable, w: PartSet) -> Search<PartSet>
     requires within { IsSubset w table.now.of }
-    requires two { 2 ≤ set.len w }
-    ensures { IfSome result (IsSetStep false table.now w) }
+    requires some { IsNonempty w }
+    ensures { IsSideSearch table.now w result }
 {
     let mut trial = SideTrial::new();
     if trial.rules_out_all(table, w) {
-        return Some(None);
+        return Search::Nothing;
     }
-    match first_passing(table, w, &mut trial, LATE_PAIRS) {
-        Search::Undecided => None,
-        Search::Nothing => Some(None),
-        Search::First(served) => Some(Some(Marked {
-            step: Step {
-                moved: served.found,
-                d: served.d,
-            },
-            mark: None,
-        })),
-    }
+    first_passing(table, w, &mut trial, LATE_PAIRS)
 }
 
-/// The step of a set of at least two parts that lies in the table's set, if the first vertices of its planes or a core
-/// decide it: the step along one of them, or none where there is none. It takes no memory.
-pub(crate) fn early_step(table: &PlaneTable, w: PartSet) -> Option<Option<Marked>>
+/// The first of the vertices of the planes of a set of parts along which a side of it moves, if the first vertices or a
+/// core decide it. The set is not empty, and lies in the table's set. It takes no memory.
+pub(crate) fn early_search(table: &PlaneTable, w: PartSet) -> Search<PartSet>
     requires within { IsSubset w table.now.of }
-    requires two { 2 ≤ set.len w }
-    ensures { IfSome result (IsSetStep false table.now w) }
+    requires some { IsNonempty w }
+    ensures { IsSideSearch table.now w result }
 {
     let mut look = SideLook;
     if let Some(served) = served_on_axis(table, w, &mut look) {
-        return Some(Some(Marked {
-            step: Step {
-                moved: served.found,
-                d: served.d,
-            },
-            mark: None,
-        }));
+        return Search::First(served);
     }
     let mut pairs = PlanePairs::of(table, w);
     match first_few(&mut pairs, table, w, &mut look, FEW_PAIRS) {
-        Search::Undecided => late_step(table, w),
-        Search::Nothing => Some(None),
-        Search::First(served) => Some(Some(Marked {
-            step: Step {
-                moved: served.found,
-                d: served.d,
-            },
-            mark: None,
-        })),
+        Search::Undecided => late_search(table, w),
+        Search::Nothing => Search::Nothing,
+        Search::First(served) => Search::First(served),
     }
 }
 

@@ -1,14 +1,10 @@
 // The step of a set of parts by a walk along rings that are made once, for all parts.
-ghost use Rattle.std.specs.Prelude.{◌≡◌, ◌↔◌, ℕ, ◌<◌, ◌≤◌};
-ghost use Rattle.std.specs.Prelude.{List, IfOk, IfSome, MatchOption, false, length};
+ghost use Rattle.std.specs.Prelude.{◌≡◌, ◌<◌, ◌≤◌, IfOk, length};
 ghost use Rattle.std.specs.FinSet as set;
-ghost use Rattle.staat_vec.specs.Vectors.{IsWithin};
-ghost use Rattle.staat_model.specs.declared.assembly.Part.{Part as PartValue};
-ghost use Rattle.staat_model.specs.Outcomes.{HasNoStep, IsStep, try_vertex};
 ghost use Rattle.staat_model.specs.Sets.{IsSubset};
-ghost use Rattle.staat_pairs.specs.Tables.{WasMadeFrom};
 ghost use Rattle.staat_planes.specs.MarkedPlanes.{AreUsedMarks};
-ghost use Rattle.staat_plan.specs.RingSets.{AreAllLinkedFrom, AreForTable, AreThoseLinked};
+ghost use Rattle.staat_plan.specs.Planning.{IsVertexStep};
+ghost use Rattle.staat_plan.specs.RingSets.{AreForTable, AreLinkedOrPast};
 ghost use Rattle.staat_ring.specs.Rings.{WereMadeFrom, linked_of};
 ghost use Rattle.staat_ring.specs.Walked.{WalkWasMadeFrom};
 
@@ -17,7 +13,7 @@ use staat_limits::LEAST_PLANES;
 use staat_model::{PartSet, Step};
 use staat_planes::{PlaneTable, Steps};
 use staat_ring::{Rings, Walk};
-use staat_vec::{DIRECTION, OutOfMemory};
+use staat_vec::OutOfMemory;
 use std::alloc::Global;
 use std::marker::Brand;
 use std::sync::ledger::{Blank, Ledger};
@@ -47,14 +43,10 @@ fn step_past<L: Ledger>(
     requires two { 2 ≤ set.len w }
     requires axes { LEAST_PLANES ≤ k }
     requires place { k ≤ length table.now.planes }
-    requires past { AreAllLinkedFrom table.now.planes (linked_of rings.old.rings) k }
-    requires before { (parts : List PartValue) → WasMadeFrom parts table.now
-        → AreThoseLinked parts table.now.planes w (linked_of rings.old.rings) k }
+    requires linked { AreLinkedOrPast (length table.now.planes) marks.now (linked_of rings.old.rings) k }
     ensures rings { rings.new ≡ rings.old }
     ensures made { WalkWasMadeFrom table.now walk.new }
-    ensures size { IfSome result (λ s. IsWithin DIRECTION s.d) }
-    ensures step { (parts : List PartValue) → WasMadeFrom parts table.now
-        → MatchOption result (HasNoStep false parts w) (λ s. IsStep false parts w (try_vertex s.d) s.moved) }
+    ensures step { IsVertexStep table.now w result }
 {
     if k >= table.len() {
         return part_step_rings(table, rings, walk, w, steps);
@@ -83,14 +75,10 @@ fn counted_step<L: Ledger>(
     requires within { IsSubset w table.now.of }
     requires two { 2 ≤ set.len w }
     ensures ready { AreForTable table.now rings.new walk.new }
-    ensures size { IfSome result (λ s. IsWithin DIRECTION s.d) }
-    ensures step { (parts : List PartValue) → WasMadeFrom parts table.now
-        → MatchOption result (HasNoStep false parts w) (λ s. IsStep false parts w (try_vertex s.d) s.moved) }
+    ensures step { IsVertexStep table.now w result }
 {
+    let _len = table.len();
     let mut steps = Steps::<L>::new(blank);
-    if table.set().within(w) {
-        return part_step_rings(table, rings, walk, w, &mut steps);
-    }
     let marks = table.used_marks(w);
     step_past(table, rings, walk, w, &marks, LEAST_PLANES, &mut steps)
 }
@@ -114,9 +102,7 @@ impl Walker {
         requires within { IsSubset w table.now.of }
         requires two { 2 ≤ set.len w }
         ensures ready { AreForTable table.now self.new.rings self.new.walk }
-        ensures size { IfSome result (λ s. IsWithin DIRECTION s.d) }
-        ensures step { (parts : List PartValue) → WasMadeFrom parts table.now
-            → MatchOption result (HasNoStep false parts w) (λ s. IsStep false parts w (try_vertex s.d) s.moved) }
+        ensures step { IsVertexStep table.now w result }
     {
         counted_step::<Brand>(table, &mut self.rings, &mut self.walk, w, Blank::new(1))
     }

@@ -1,10 +1,9 @@
-use Rattle.std.proofs.Common.{refl, subst, sym, true≢false}
+use Rattle.std.proofs.Common.{◌≤◌, arith, length, subst, sym}
 use Rattle.staat_model.specs.declared.tree.Kind.TheVariants.{Open}
-use Rattle.staat_graph.specs.Graphs.{HasArc, IsStrong}
 use Rattle.staat_planes.specs.SetPlanes.{ArePlanesIn}
 use Rattle.staat_cells.specs.FirstCell.{first_entry}
-use Rattle.staat_plan.proofs.CellStepLemmas.{cell_some}
-use Rattle.staat_plan.proofs.StepLemmas.{moves_along, serves_not}
+use Rattle.staat_cells.proofs.SomeCells.{some_cells}
+use Rattle.staat_plan.proofs.CellStepLemmas.{cell_some, first_step_is}
 use Rattle.staat_plan.proofs.cell_steps.first_open_step.Goals as goal
 
 pub first_open-d-requires : goal.first_open-d-requires
@@ -13,44 +12,16 @@ first_open-d-requires c =
     subst (ArePlanesIn c.args.table.now c.args.w) (sym c.as_slice.ensures.value) c.in_ok-planes.ensures in
     are.rules
 
-pub returns-then-is_strong : goal.returns-then-is_strong
-returns-then-is_strong c =
-    let t = c.args.table.now in
-    let planes = c.as_slice.result.now in
-    let d = c.first_open-d.result in
-    let entry = c.first_open-d.ensures.entry in
-    let are : ArePlanesIn t c.args.w planes =
-    subst (ArePlanesIn t c.args.w) (sym c.as_slice.ensures.value) c.in_ok-planes.ensures in
-    record {
-      planes = planes;
-      planes_are = are;
-      d = d;
-      entry = entry;
-      step = serves_not t c.args.w d c.graph_in-graph.result.rows
-          (cell_some planes are.rules Open (first_entry planes d) entry) c.graph_in-graph.ensures.shows
-          (c.if-is_strong.ensures.0 refl);
-    }
-
 pub returns : goal.returns
-returns c =
-    let t = c.args.table.now in
+returns c parts made =
+    let w = c.args.w in
     let planes = c.as_slice.result.now in
     let d = c.first_open-d.result in
-    let rows = c.graph_in-graph.result.rows in
     let entry = c.first_open-d.ensures.entry in
-    let are : ArePlanesIn t c.args.w planes =
-    subst (ArePlanesIn t c.args.w) (sym c.as_slice.ensures.value) c.in_ok-planes.ensures in
-    let weak : IsStrong (HasArc rows) c.args.w → ⊥ = λ strong. true≢false (sym (c.if-is_strong.ensures.1 strong)) in
-    record {
-      planes = planes;
-      planes_are = are;
-      d = d;
-      entry = entry;
-      step = record {
-        moves = moves_along t c.args.w d c.sink_of.result rows
-            (cell_some planes are.rules Open (first_entry planes d) entry) c.graph_in-graph.ensures.shows weak
-            c.sink_of.ensures;
-        d_is = refl;
-        mark_is = refl;
-      };
-    }
+    let are : ArePlanesIn c.args.table.now w planes =
+    subst (ArePlanesIn c.args.table.now w) (sym c.as_slice.ensures.value) c.in_ok-planes.ensures in
+    let few : length planes ≤ 256 = (let le = are.few in let most = c.requires.few in omega (arith, le, most)) in
+    let (cells, all) = some_cells planes are.rules few in
+    let moves = c.in-Some.ensures.moves parts d (cell_some planes are.rules Open (first_entry planes d) entry)
+    (c.graph_in.ensures.shows parts made) in
+    first_step_is parts w planes (are.are parts made) cells all are.rules d c.in-Some.moved entry moves.0 moves.1

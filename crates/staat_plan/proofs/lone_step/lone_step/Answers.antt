@@ -1,48 +1,42 @@
-use Rattle.std.proofs.Common.{◌≡◌, ◌∙◌, List, ap, refl, subst, sym}
-use Rattle.std.specs.Prelude.{Some}
+use Rattle.std.proofs.Common.{[], ◌∷◌, true, pos, ◌<ℤ◌, ◌≡◌, ◌≢◌, ◌∙◌, ◌≤◌, ap, arith, length, subst, sym}
 use Rattle.staat_vec.specs.declared.vector.TheConstants.{DIRECTION}
-use Rattle.staat_vec.specs.Primitives.{canon}
-use Rattle.staat_vec.specs.Vectors.{negative}
+use Rattle.std.proofs.lemmas.Int.{ints}
+use Rattle.staat_vec.specs.declared.vector.V3.{V3}
+use Rattle.staat_vec.specs.Primitives.{IsCanon, canon}
+use Rattle.staat_vec.proofs.Canons.{IsCanon-canon}
+use Rattle.staat_vec.specs.Vectors.{negative, origin}
 use Rattle.staat_model.specs.declared.tree.Kind.TheVariants.{Point}
-use Rattle.staat_model.specs.declared.assembly.Part.{Part}
-use Rattle.staat_model.specs.Outcomes.{Serves}
-use Rattle.staat_graph.proofs.Sides.{moved_of_first}
-use Rattle.staat_pairs.specs.Tables.{WasMadeFrom}
+use Rattle.staat_model.specs.Outcomes.{IsStep}
 use Rattle.staat_planes.specs.SetPlanes.{ArePlanesIn}
+use Rattle.staat_cells.proofs.SomeCells.{some_cells}
+use Rattle.staat_vec.proofs.VectorLaws.{negative_some}
 use Rattle.staat_plan.specs.LoneLines.{OnlyPlanesThroughServe}
-use Rattle.staat_plan.specs.Searches.{MovesAlong}
-use Rattle.staat_plan.proofs.LoneLineLemmas.{line_serves, line_step}
+use Rattle.staat_plan.proofs.LoneLineLemmas.{first_vertex, line_step}
 use Rattle.staat_plan.proofs.lone_step.lone_step.Goals as goal
+
+canon_some : (v : V3) → IsCanon v → v ≢ origin
+canon_some v canonical e =
+    let none : pos 0 <ℤ pos 0 = subst IsCanon e canonical in absurd (omega (arith, ints, none))
 
 pub graph_in-graph-requires-clause-direction : goal.graph_in-graph-requires-clause-direction
 graph_in-graph-requires-clause-direction c =
     c.neg-d.ensures.size DIRECTION (c.canon.ensures.size DIRECTION c.requires.size)
 
 pub returns : goal.returns
-returns c =
-    let t = c.args.table.now in
+returns c parts made =
     let w = c.args.w in
     let v = c.args.first.d in
     let planes = c.in_ok-planes.planes.items in
-    let d = c.neg-d.result in
-    let rows = c.graph_in-graph.result.rows in
-    let s = c.sink_of.result in
-    let are : ArePlanesIn t w planes = c.in_ok-planes.ensures in
-    let lone : (parts : List Part) → WasMadeFrom parts t → OnlyPlanesThroughServe parts w planes v =
-    λ parts made. subst (λ ps. OnlyPlanesThroughServe parts w ps v) c.as_slice.ensures.value
+    let in_table : ArePlanesIn c.args.table.now w planes = c.in_ok-planes.ensures in
+    let are = in_table.are parts made in
+    let few : length planes ≤ 256 = (let le = in_table.few in let most = c.requires.few in omega (arith, le, most)) in
+    let (cells, all) = some_cells planes in_table.rules few in
+    let step = c.requires.step parts made in
+    let d_is : c.neg-d.result ≡ negative (canon v) = c.neg-d.ensures.value ∙ ap negative c.canon.ensures.value in
+    let moves = rw d_is at (c.in-Some.ensures.moves parts c.neg-d.result (subst (λ d. d ≢ origin) (sym d_is)
+    (negative_some (canon v) (canon_some (canon v) (IsCanon-canon v c.requires.nonzero)))) (c.graph_in-graph.ensures.shows parts made)) in
+    let lone = subst (λ ps. OnlyPlanesThroughServe parts w ps v) c.as_slice.ensures.value
     (c.is_lone.ensures c.if-not-is_lone.false parts made) in
-    let d_is : d ≡ negative (canon v) = c.neg-d.ensures.value ∙ ap negative c.canon.ensures.value in
-    let serves : (parts : List Part) → WasMadeFrom parts t → Serves parts w d =
-    λ parts made. subst (Serves parts w) (sym d_is)
-    (line_serves t w c.args.first.moved planes v are c.requires.few c.requires.nonzero c.requires.step lone parts made) in
-    let moves : MovesAlong t w d s = λ parts made.
-    let serves_here = serves parts made in
-    let free = serves_here.free in
-    let shows = c.graph_in-graph.ensures.shows parts made in (
-      serves_here,
-      moved_of_first parts d w rows free.moves shows s c.sink_of.ensures,
-    ) in
-    line_step t w c.args.first.moved planes v are c.requires.few c.requires.nonzero c.requires.step lone
-    (record { step = record { moved = s; d = d }; mark = Some Point })
-    (c.neg-d.ensures.size DIRECTION (c.canon.ensures.size DIRECTION c.requires.size)) d_is refl
-    (subst (λ u. MovesAlong t w u s) d_is moves)
+    subst (λ d. IsStep true parts w (record { d = d; mark = Point ∷ [] }) c.in-Some.moved) (sym d_is)
+    (line_step parts made.assembly w planes are v c.requires.nonzero lone
+    (first_vertex parts w c.args.first.moved planes v are step) moves.0 cells all c.in-Some.moved moves.1)

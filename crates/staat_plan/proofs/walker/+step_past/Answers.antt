@@ -1,18 +1,28 @@
-use Rattle.std.proofs.Common.{◌<◌, ◌-◌, ◌+◌, ◌∙◌, ap, arith, length, subst, sym, true≢false}
+use Rattle.std.proofs.Common.{inl, inr, ◌<◌, ◌-◌, ◌+◌, ◌∙◌, ap, arith, length, subst, sym, true≢false}
+use Rattle.std.proofs.lemmas.Option.{slice_get_within}
 use Rattle.staat_ring.specs.Rings.{Arrangement, linked_of}
 use Rattle.staat_ring.specs.Without.{IsRelinked}
 use Rattle.staat_ring.proofs.Made.{relinked_back}
-use Rattle.staat_plan.proofs.RingSetLemmas.{all_past, past_next, unlinked_before, unlinked_past, used_before}
+use Rattle.staat_plan.proofs.RingSetLemmas.{marked_past, unlinked_past}
 use Rattle.staat_plan.proofs.walker.+step_past.Goals as goal
 
 pub part_step_rings-requires-clause-linked : goal.part_step_rings-requires-clause-linked
-part_step_rings-requires-clause-linked g t c parts made =
-    all_past parts c.args.table.now.planes c.args.w (linked_of c.args.rings.now.rings) c.args.k (c.requires.before parts made) (omega (arith, c.if-k-len.true, c.len.ensures.is))
+part_step_rings-requires-clause-linked g t c parts made k n at =
+    let lt = slice_get_within c.args.table.now.planes k n at in
+    let marked = c.requires.marks.each parts k n made at in
+    let is = c.requires.linked k lt in (
+      λ h. marked.0 (elim (is.0 h) [
+        | inl past ↦ absurd (omega (arith, past, lt, c.if-k-len.true, c.len.ensures.is))
+        | inr m ↦ m
+      ]),
+      λ p. is.1 (inr (marked.1 p)),
+    )
 
 pub step_past-requires : goal.step_past-requires
 step_past-requires g t c κs within =
-    let lt : c.args.k < length c.args.table.now.planes = omega (arith, c.if-k-len.false, c.len.ensures.is) in
-    let less : length c.args.table.now.planes - (c.args.k + 1) < length c.args.table.now.planes - c.args.k = omega (arith, lt) in
+    let n = length c.args.table.now.planes in
+    let lt : c.args.k < n = omega (arith, c.if-k-len.false, c.len.ensures.is) in
+    let less : n - (c.args.k + 1) < n - c.args.k = omega (arith, lt) in
     let axes = c.requires.axes in (
       omega (arith, less, c.decreases),
       (
@@ -31,10 +41,7 @@ step_past-requires g t c κs within =
                     omega (arith, axes),
                     (
                       omega (arith, lt),
-                      (
-                        past_next c.args.table.now.planes (linked_of c.args.rings.now.rings) c.args.k c.requires.past,
-                        λ parts made. used_before parts c.args.table.now.planes c.args.w (linked_of c.args.rings.now.rings) c.args.k c.requires.past (c.requires.before parts made) (λ n at. (c.requires.marks.each parts c.args.k n made at).0 c.if-marks-k.true),
-                      ),
+                      marked_past n c.args.marks.now (linked_of c.args.rings.now.rings) c.args.k c.if-marks-k.true c.requires.linked,
                     ),
                   ),
                 ),
@@ -46,12 +53,13 @@ step_past-requires g t c κs within =
     )
 
 pub unlink-requires-clause-linked : goal.unlink-requires-clause-linked
-unlink-requires-clause-linked g t c = c.requires.past c.args.k (omega arith) (omega (arith, c.if-k-len.false, c.len.ensures.is))
+unlink-requires-clause-linked g t c = (c.requires.linked c.args.k (omega (arith, c.if-k-len.false, c.len.ensures.is))).1 (inl (omega arith))
 
 pub step_past-step-requires : goal.step_past-step-requires
 step_past-step-requires g t c κs within =
-    let lt : c.args.k < length c.args.table.now.planes = omega (arith, c.if-k-len.false, c.len.ensures.is) in
-    let less : length c.args.table.now.planes - (c.args.k + 1) < length c.args.table.now.planes - c.args.k = omega (arith, lt) in
+    let n = length c.args.table.now.planes in
+    let lt : c.args.k < n = omega (arith, c.if-k-len.false, c.len.ensures.is) in
+    let less : n - (c.args.k + 1) < n - c.args.k = omega (arith, lt) in
     let axes = c.requires.axes in (
       omega (arith, less, c.decreases),
       (
@@ -70,10 +78,8 @@ step_past-step-requires g t c κs within =
                     omega (arith, axes),
                     (
                       omega (arith, lt),
-                      (
-                        unlinked_past c.args.k c.args.rings.now c.unlink.new.self c.unlink.ensures.is c.args.table.now.planes c.requires.past,
-                        λ parts made. unlinked_before c.args.k c.args.rings.now c.unlink.new.self c.unlink.ensures.is parts c.args.table.now.planes c.args.w (c.requires.before parts made) (λ n at p. true≢false (sym ((c.requires.marks.each parts c.args.k n made at).1 p) ∙ c.if-marks-k.false)),
-                      ),
+                      unlinked_past n c.args.marks.now c.args.k c.args.rings.now c.unlink.new.self c.unlink.ensures.is
+                          (λ m. true≢false (sym m ∙ c.if-marks-k.false)) c.requires.linked,
                     ),
                   ),
                 ),

@@ -6,7 +6,7 @@ use Rattle.staat_ring.specs.Rings.{Ring}
 use Rattle.staat_ring.specs.Walked.{IsEntered, WalkWasMadeFrom}
 use Rattle.staat_plan.specs.declared.ring_step.Serving.{Serving}
 use Rattle.staat_plan.specs.RingSearches.{IsBest, IsLater, length_at}
-use Rattle.staat_plan.proofs.ring_step.search_circle.Given as goal
+use Rattle.staat_plan.proofs.ring_step.search.Given as goal
 
 abbrev pub invariant-stops : goal.invariant-stops
 invariant-stops g l = record {
@@ -15,7 +15,6 @@ invariant-stops g l = record {
   circle : l.walk.circle ≡ l.i;
   placed : (h : Serving) → l.best ≡ Some h → IsLater l.i (length l.table.planes) h;
   crossed : l.walk.crossed ≡ min (l.fn.walk.crossed + l.walk.place) (2 ^ 64 - 1);
-  steps : l.steps ≡ l.initial.steps;
   best : (parts : List Part) → WasMadeFrom parts l.table → (r : Ring) → Contains l.rings.rings r → r.plane ≡ l.i → IsBest parts l.table.planes l.w l.i r.stops l.walk.place l.best;
 }
 

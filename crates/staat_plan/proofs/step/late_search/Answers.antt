@@ -1,0 +1,16 @@
+use Rattle.staat_vec.specs.declared.vector.V3.{V3}
+use Rattle.staat_model.specs.Outcomes.{Serves}
+use Rattle.staat_model.specs.Planes.{vertices}
+use Rattle.staat_model.proofs.Members.{All-from_members}
+use Rattle.staat_plan.proofs.step.late_search.Goals as goal
+
+pub rules_out_all-requires-clause-fits : goal.rules_out_all-requires-clause-fits
+rules_out_all-requires-clause-fits c = (c.requires.some, c.new-trial.ensures c.args.table.now)
+
+pub returns-then-rules_out_all : goal.returns-then-rules_out_all
+returns-then-rules_out_all c parts planes made are =
+    All-from_members (λ (v : V3). Serves parts c.args.w v → ⊥) (vertices planes)
+    (λ v listed. c.rules_out_all.ensures.none c.if-rules_out_all.true parts v made tt)
+
+pub returns : goal.returns
+returns c parts planes made are = c.first_passing.ensures.first parts planes made tt are
