@@ -116,7 +116,7 @@ module _ (parts : List Part) (most : sum_by (λ part. length part.pieces) parts 
   few_arcs : (xs : List Arc) → All (HasPiecesOf parts) xs → IsStrictlySortedBy arc_cmp xs → length xs ≤ 4096
   few_arcs xs all sorted =
       let few = length-le_from_distinct_below (map code xs) 4096 (codes_distinct xs all sorted)
-          (λ q any. let (x, x_in, is) = Contains-from_map code xs q (Contains-from_any (λ x y e. (Decides-eqb x y).0 e) q (map code xs) any) in subst (λ n. n < 4096) is (code_small x (All-contains (HasPiecesOf parts) xs x all x_in))) in
+      (λ q any. let (x, x_in, is) = Contains-from_map code xs q (Contains-from_any (λ x y e. (Decides-eqb x y).0 e) q (map code xs) any) in subst (λ n. n < 4096) is (code_small x (All-contains (HasPiecesOf parts) xs x all x_in))) in
       omega (arith, few, length-map xs code)
 
 few_walls : (parts : List Part) (s r : PartSet) (d : V3) (seps : List Sep) → IsAssembly parts → AreLeastWalls parts s r d seps → length seps ≤ 4096
