@@ -25,8 +25,8 @@ pub record StandsAmong (parts : List Part) (t : Table) (s : Signed) (d : V3) : T
 abbrev pub AreEndsAhead : Table → V3 → ℕ × ℕ → Type 0
 AreEndsAhead t d ends = IsAhead t d ends.0 ends.1
 
--- the trees are those, from the least part, of a graph that shows who blocks whom along d, and so d leads ahead for each
--- of their pairs
+-- the trees are those, from the least part, of a graph that shows who blocks whom along d, and so d leads ahead for
+-- each of their pairs
 pub record AreTreesAlong (parts : List Part) (t : Table) (d : V3) (trees : Trees) : Type 0 where
   pub root : ℕ
   pub root_is : IsLeastOf t.of root
