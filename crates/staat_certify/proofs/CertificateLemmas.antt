@@ -98,15 +98,15 @@ counted parts (walled_split d seps moved rest) w s u good within own apart =
     let r = walled_parts rest in
     let one = counted parts moved m s (set.union s m) good.3 (λ q h. (has-union s m q).1 (inl h)) (λ q h. (has-union s m q).1 (inr h)) (λ q a b. apart q a ((has-union m r q).1 (inl b))) in
     let two = counted parts rest r (set.union s m) u good.4
-        (λ q h. ⊎_elim (within q) (λ in_m. own q ((has-union m r q).1 (inl in_m))) ((has-union s m q).0 h))
-        (λ q h. own q ((has-union m r q).1 (inr h)))
-        (λ q a b. ⊎_elim (λ in_s. apart q in_s ((has-union m r q).1 (inr b))) (λ in_m. good.1 q in_m b) ((has-union s m q).0 a)) in
+    (λ q h. ⊎_elim (within q) (λ in_m. own q ((has-union m r q).1 (inl in_m))) ((has-union s m q).0 h))
+    (λ q h. own q ((has-union m r q).1 (inr h)))
+    (λ q a b. ⊎_elim (λ in_s. apart q in_s ((has-union m r q).1 (inr b))) (λ in_m. good.1 q in_m b) ((has-union s m q).0 a)) in
     omega (arith, one, two)
 
 few_nodes : (parts : List Part) (n : ℕ) (t : WalledPlan) → IsGood parts (below n) (unwalled t) → length (nodes_of t) + 1 ≤ 2 * n
 few_nodes parts n t good =
     let leaves = counted parts t (below n) set.empty (below n) good (λ q none. absurd (has-empty q none))
-        (λ q h. subst (λ (s : PartSet). Has s q) (sym (good_parts parts (below n) (unwalled t) good)) h) (λ q none b. has-empty q none) in
+    (λ q h. subst (λ (s : PartSet). Has s q) (sym (good_parts parts (below n) (unwalled t) good)) h) (λ q none b. has-empty q none) in
     let most : set.len (below n) ≤ n = len_below n (below n) (λ q h. (has-below n q).0 h) in
     omega (arith, leaves, most, node_count t)
 

@@ -116,7 +116,8 @@ module _ (parts : List Part) (most : sum_by (λ part. length part.pieces) parts 
   few_arcs : (xs : List Arc) → All (HasPiecesOf parts) xs → IsStrictlySortedBy arc_cmp xs → length xs ≤ 4096
   few_arcs xs all sorted =
       let few = length-le_from_distinct_below (map code xs) 4096 (codes_distinct xs all sorted)
-          (λ q any. let (x, x_in, is) = Contains-from_map code xs q (Contains-from_any (λ x y e. (Decides-eqb x y).0 e) q (map code xs) any) in subst (λ n. n < 4096) is (code_small x (All-contains (HasPiecesOf parts) xs x all x_in))) in
+      (λ q any. let (x, x_in, is) = Contains-from_map code xs q (Contains-from_any (λ x y e. (Decides-eqb x y).0 e) q (map code xs) any) in
+      subst (λ n. n < 4096) is (code_small x (All-contains (HasPiecesOf parts) xs x all x_in))) in
       omega (arith, few, length-map xs code)
 
 few_walls : (parts : List Part) (s r : PartSet) (d : V3) (seps : List Sep) → IsAssembly parts → AreLeastWalls parts s r d seps → length seps ≤ 4096
@@ -139,21 +140,20 @@ node_lines parts is (walled_split d seps moved rest) walls =
 
 -- ---- the text
 
-text_long : (ls : List Line) → All IsInBounds ls → length (flat_map line_text ls) ≤ 128 * length ls
-text_long ls within = flat_long line_text 128 ls (λ l c. omega (arith, line_length l (All-contains IsInBounds ls l within c), ap length (line_is l), length-append (line_front l) (10 ∷ [])))
-
 pub plan_text_short : (parts : List Part) → IsAssembly parts → (version : ℕ) → IsVersion version → (plan : Plan) → IsGood parts (below (length parts)) plan → AreWithin DIRECTION plan
     → (marks : List Kind) (c : Certificate) → IsCertificateOf parts version (planned plan marks) c → length (text_of c) ≤ TEXT_LIMIT
 plan_text_short parts is version versions plan good sized marks c of =
     subst (λ (x : Certificate). length (text_of x) ≤ TEXT_LIMIT) (λ i. record { version = sym of.version_is i; parts = c.parts; body = c.body })
     (go c.body of.body (formed parts version c.parts is versions of.count (planned plan marks) c.body (good, sized) of.body))
   where
-    go : (b : Body) → IsBodyOf parts version (planned plan marks) b → IsWellFormed (record { version = version; parts = c.parts; body = b }) → length (text_of (record { version = version; parts = c.parts; body = b })) ≤ TEXT_LIMIT
+    go : (b : Body) → IsBodyOf parts version (planned plan marks) b → IsWellFormed (record { version = version; parts = c.parts; body = b })
+        → length (text_of (record { version = version; parts = c.parts; body = b })) ≤ TEXT_LIMIT
     go (body.Plan nodes) are form =
         let few : All IsFewLines nodes = subst (All IsFewLines) (sym are.nodes_are) (node_lines parts is are.tree are.walls) in
         let inner : List Line = flat_map lines_of_node nodes in
         let lines : List Line = lines_of (record { version = version; parts = c.parts; body = body.Plan nodes }) in
-        let text = text_long lines form.lines in
+        let text : length (flat_map line_text lines) ≤ 128 * length lines = flat_long line_text 128 lines
+        (λ l c. omega (arith, line_length l (All-contains IsInBounds lines l form.lines c), ap length (line_is l), length-append (line_front l) (10 ∷ []))) in
         let long : length lines ≡ 4 + length inner = omega (arith, length-append inner (line.End ∷ [])) in
         let many : length inner ≤ 4097 * length nodes = flat_long lines_of_node 4097 nodes (λ node n_in. All-contains IsFewLines nodes node few n_in) in
         omega (arith, text, long, many, form.body.most, of.count, is.at_most)

@@ -230,7 +230,7 @@ module _ (parts : List Part) (is : IsAssembly parts) (d : V3) where
         let (root, root_is) = some_least w p p_in in
         let (outs, out_tree, outs_least) = arcs_along (Blocks parts d) outward (λ x h. some_least_arc x.0 x.1 h) blocks_or root root_is (λ q h. reaches root root_is.has q h) in
         let (ins, in_tree, ins_least) = arcs_along (Back (Blocks parts d)) inward (λ x h. let (arc, ends, least) = some_least_arc x.1 x.0 h in (arc, ap swapped ends, least)) (λ a b. blocks_or b a) root root_is
-            (λ q h. turned (reaches q h root root_is.has)) in (
+        (λ q h. turned (reaches q h root root_is.has)) in (
           record { outs = outs; ins = ins },
           record { root = root; root_is = root_is; outs = out_tree; ins = in_tree; outs_least = outs_least; ins_least = ins_least },
         )

@@ -25,14 +25,13 @@ use Rattle.staat_vec.proofs.VecRing.{cross_self, cross_turned}
 use Rattle.staat_model.specs.declared.assembly.Part.{Part}
 use Rattle.staat_model.specs.declared.certificate.Witness.{Witness}
 use Rattle.staat_model.specs.declared.set.PartSet.{PartSet}
-use Rattle.staat_model.specs.Certify.{IsDirection, IsWitnessAt}
+use Rattle.staat_model.specs.Certify.{IsDirection}
 use Rattle.staat_model.proofs.EndLemmas.{from_vertices}
 use Rattle.staat_model.proofs.Members.{All-from_members}
 use Rattle.staat_model.proofs.PlaneLemmas.{NoneParallel}
 use Rattle.staat_pairs.specs.Tables.{AreTablePlanes}
-use Rattle.staat_certify.specs.WitnessListings.{AreKeys, IsNumberOf}
 use Rattle.staat_certify.specs.declared.visits.Visit.{Visit}
-use Rattle.staat_certify.specs.Visits.{AreStillVisited, AreVisitedBelow, AreVisitedOn, IsNamed, IsNumberHere, IsVisitedDirection, SortsVisits, visited_directions}
+use Rattle.staat_certify.specs.Visits.{AreStillVisited, AreVisitedBelow, AreVisitedOn, IsNamed, IsVisitedDirection, SortsVisits, visited_directions}
 use Rattle.staat_certify.proofs.ListedLemmas.{kept}
 use Rattle.staat_ring.specs.declared.entry.Entry.{Entry}
 use Rattle.staat_ring.specs.Rings.{Ring, crossing, facet_by}
@@ -43,13 +42,6 @@ use Rattle.staat_vec.proofs.ListLaws.{Contains-from_map, Contains-map, place_of}
 use Rattle.staat_vec.proofs.Naturals.{lt_one_more_cases}
 
 -- ---- one more visit
-
-pub number_is_here : (parts : List Part) (w : PartSet) (d : V3) (keys : List (List ℕ)) (old new : List Witness) (witness : Witness) (i : ℕ) → AreKeys keys new → IsNumberOf old new witness i → IsWitnessAt parts w d witness → IsNumberHere parts w d keys old new i
-number_is_here parts w d keys old new witness i keys_are of is = record {
-  keys_are = keys_are;
-  kept = kept parts w old new witness i of;
-  names = record { witness = witness; witness_is = of.at; is = is };
-}
 
 module _ (old new : List Visit) (visit : Visit) (is : new ≡ old ++ visit ∷ []) where
   pub all_more : (P : Visit → Type 0) → All P old → P visit → All P new

@@ -38,7 +38,8 @@ not_away d n ahead away = omega (arith, ints)
 pub first_found : (d : V3) (facets : List V3) (k : ℕ) (o : V3) → k < length facets → All (λ m. pos 0 <ℤ dot m d) (take k facets) → IsAway d (get_or facets k o) → IsFirst (IsAway d) facets (get_or facets k o)
 first_found d facets k o lt ahead away =
     subst (λ l. IsFirst (IsAway d) l (get_or facets k o)) (ap (λ l. take k facets ++ l) (sym (drop-cons facets k o lt)) ∙ take-append-drop k facets)
-    (first_right (IsAway d) (take k facets) (get_or facets k o ∷ drop (suc k) facets) (get_or facets k o) (All-weaker (λ m. pos 0 <ℤ dot m d) (λ m. IsAway d m → ⊥) (λ m up. not_away d m up) (take k facets) ahead) (inl (refl, away)))
+    (first_right (IsAway d) (take k facets) (get_or facets k o ∷ drop (suc k) facets) (get_or facets k o)
+    (All-weaker (λ m. pos 0 <ℤ dot m d) (λ m. IsAway d m → ⊥) (λ m up. not_away d m up) (take k facets) ahead) (inl (refl, away)))
 
 -- the first of an ascending list is the least
 first_before : (d : V3) (xs : List V3) (n y : V3) → IsStrictlySortedBy vector_cmp xs → IsFirst (IsAway d) xs n → Contains xs y → IsAway d y → (y ≡ n) ⊎ (vector_cmp n y ≡ Less)
@@ -134,7 +135,8 @@ module _ (parts : List Part) (s r : PartSet) (d : V3) where
   })
 
   -- one wall more
-  pub walls_more : (arc : Arc) (n : V3) (old new : List Sep) → AreWallsBefore parts s r d arc.a arc.i arc.b arc.j old → IsAcross parts s r arc → IsLeast vector_cmp (IsFacetAway parts d arc) n → new ≡ old ++ record { arc = arc; n = n } ∷ []
+  pub walls_more : (arc : Arc) (n : V3) (old new : List Sep) → AreWallsBefore parts s r d arc.a arc.i arc.b arc.j old → IsAcross parts s r arc
+      → IsLeast vector_cmp (IsFacetAway parts d arc) n → new ≡ old ++ record { arc = arc; n = n } ∷ []
       → AreWallsBefore parts s r d arc.a arc.i arc.b (arc.j + 1) new
   walls_more arc n old new before across least is =
       let arcs : List Arc = map (λ sep. sep.arc) old in

@@ -56,7 +56,11 @@ impl<'a, F: FacetSource> Parting<'a, F> {
     {
         // an assembly has few parts
         let _parts = self.assembly.parts();
-        if set.has(part) { self.assembly.pieces(part) } else { 0 }
+        if set.has(part) {
+            self.assembly.pieces(part)
+        } else {
+            0
+        }
     }
 
     // the wall of an arc: the least facet of its pieces that the direction does not lead ahead of

@@ -103,7 +103,6 @@ pub(crate) fn is_witness(at: &Vantage, trees: &Trees, witness: &Witness) -> bool
     requires along { AreTreesAlong at.now.sound.now at.now.table.now at.now.d trees.now }
     ensures { IsTrue result → IsWitnessAt at.now.sound.now at.now.table.now.of at.now.d witness.now }
 {
-    let _set = at.table.set();
     let count = trees.count as usize;
     are_between(at, &trees.outs[..count], witness.outs.as_slice())
         && are_between(at, &trees.ins[..count], witness.ins.as_slice())
@@ -119,7 +118,6 @@ pub(crate) fn witness_here(
     requires along { AreTreesAlong at.now.sound.now at.now.table.now at.now.d trees.now }
     ensures { IfOk result (IsWitnessAt at.now.sound.now at.now.table.now.of at.now.d) }
 {
-    let _set = at.table.set();
     let count = trees.count as usize;
     let outs = arcs_between(alloc, at, &trees.outs[..count])?;
     let ins = arcs_between(alloc, at, &trees.ins[..count])?;

@@ -124,7 +124,8 @@ contact_of_start p q d is_p is_q starts =
     let n = total facets.xs in
     let (top, top_in, most) = farthest_of n p some in
     elim (all_or (λ b. IsNoFarther n top b → ⊥) (λ b. not_or (le_or (dot (minus b top) n) (pos 0))) q) [
-      | inl far ↦ absurd (past_no_start p q n d (dot top n) some (past_where_far p q facets.xs is_p is_q (λ m. (facets.from m, facets.all m)) n top most (λ b b_in. All-contains (λ b. IsNoFarther n top b → ⊥) q b far b_in)) starts)
+      | inl far ↦ absurd (past_no_start p q n d (dot top n) some (past_where_far p q facets.xs is_p is_q (λ m. (facets.from m, facets.all m))
+          n top most (λ b b_in. All-contains (λ b. IsNoFarther n top b → ⊥) q b far b_in)) starts)
       | inr t ↦ (elim (le_or (dot (minus t.1.x top) n) (pos 0)) [
         | inl near ↦ contact_where_near p q facets.xs is_p is_q (λ m. (facets.from m, facets.all m)) top t.1.x top_in (from_place q t.0 t.1.x t.1.at) near
         | inr off ↦ absurd (t.1.fails off)

@@ -15,4 +15,5 @@ returns-in-Plan g c =
     let plan = plan_of c.in-Plan.tree in
     subst (λ (parts : List Part). IfOk c.plan_body.result (IsBodyOf parts c.args.version (finding_of c.args.outcome.now))) c.assembly.ensures.assembly
     (subst (λ (o : Outcome). IfOk c.plan_body.result (IsBodyOf parts c.args.version (finding_of o))) (sym c.in-Plan.is)
-    (IfOk-weaker c.plan_body.result (λ b. (v : ℕ) (ms : List Kind) → IsBodyOf parts v (planned plan ms) b) (IsBodyOf parts c.args.version (planned plan c.in-Plan.marks)) (λ b each. each c.args.version c.in-Plan.marks) c.plan_body.ensures))
+    (IfOk-weaker c.plan_body.result (λ b. (v : ℕ) (ms : List Kind) → IsBodyOf parts v (planned plan ms) b) (IsBodyOf parts c.args.version (planned plan c.in-Plan.marks))
+    (λ b each. each c.args.version c.in-Plan.marks) c.plan_body.ensures))

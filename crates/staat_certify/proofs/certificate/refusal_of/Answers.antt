@@ -35,4 +35,5 @@ pub returns-in_ok-found-in-Ok : goal.returns-in_ok-found-in-Ok
 returns-in_ok-found-in-Ok g c =
     let within : IsTableWithin c.args.sound.now c.args.w 1024 c.in-Ok.table = c.in-Ok.ensures in
     subst (λ v. IfOk c.listing_of.result (IsBodyOf c.args.sound.now c.args.version (stuck v))) within.table.set
-    (listed_end c.args.sound.now c.args.version c.in-Ok.table.of c.in-Ok.table.planes (visited_directions c.in_ok-found-in-Ok.found.visited.items) c.listing_of.result within.table.made.planes c.in_ok-found-in-Ok.ensures.directions c.listing_of.ensures)
+    (listed_end c.args.sound.now c.args.version c.in-Ok.table.of c.in-Ok.table.planes (visited_directions c.in_ok-found-in-Ok.found.visited.items)
+    c.listing_of.result within.table.made.planes c.in_ok-found-in-Ok.ensures.directions c.listing_of.ensures)

@@ -9,12 +9,13 @@ use Rattle.staat_vec.proofs.ListLaws.{place_is, push_end, push_front, set_here}
 use Rattle.staat_vec.proofs.Naturals.{lt_one_more_cases, same_or}
 use Rattle.staat_vec.proofs.Options.{from_some}
 
-set_there : {X : Type 0} (xs : List X) (k m : ℕ) (x : X) → m ≢ k → slice_get (set xs k x) m ≡ slice_get xs m
-set_there [] k m x ne = refl
-set_there (y ∷ xs) zero zero x ne = absurd (ne refl)
-set_there (y ∷ xs) zero (suc m) x ne = refl
-set_there (y ∷ xs) (suc k) zero x ne = refl
-set_there (y ∷ xs) (suc k) (suc m) x ne = set_there xs k m x (λ e. ne (ap suc e))
+-- a name at another place stays
+set_there : (names : List (Option ℕ)) (p q i : ℕ) → q ≢ p → slice_get (set names p (Some i)) q ≡ slice_get names q
+set_there [] p q i ne = refl
+set_there (y ∷ names) zero zero i ne = absurd (ne refl)
+set_there (y ∷ names) zero (suc q) i ne = refl
+set_there (y ∷ names) (suc p) zero i ne = refl
+set_there (y ∷ names) (suc p) (suc q) i ne = set_there names p q i (λ e. ne (ap suc e))
 
 -- the names with that of one witness more
 names_more : (found listed more : List Witness) (names : List (Option ℕ)) (p i : ℕ) (x : Witness)
@@ -27,11 +28,11 @@ names_more found listed more names p i x before at none is last = record {
       let same = sym (set_here names p (Some i) within) ∙ ap (slice_get (set names p (Some i))) (sym e) ∙ named in
       (x, ap (slice_get found) e ∙ at, ap (slice_get more) (sym (from_some (from_some same)) ∙ last) ∙ ap (λ ws. slice_get ws (length listed)) is ∙ push_end listed x))
       (λ ne.
-      let (y, there, listed_at) = before.each q j (sym (set_there names p q (Some i) ne) ∙ named) in
+      let (y, there, listed_at) = before.each q j (sym (set_there names p q i ne) ∙ named) in
       (y, there, ap (λ ws. slice_get ws j) is ∙ push_front listed x y j listed_at))
       (same_or q p);
   all = λ j lt. ⊎_elim {C = (q : ℕ) × (slice_get (set names p (Some i)) q ≡ Some (Some j))}
-      (λ less. let (q, named) = before.all j less in (q, set_there names p q (Some i) (λ e. none j (ap (slice_get names) (sym e) ∙ named)) ∙ named))
+      (λ less. let (q, named) = before.all j less in (q, set_there names p q i (λ e. none j (ap (slice_get names) (sym e) ∙ named)) ∙ named))
       (λ e. (p, set_here names p (Some i) within ∙ ap (λ n. Some (Some n)) (last ∙ sym e)))
       (lt_one_more_cases j (length listed) (let long = ap length is ∙ length-append listed (x ∷ []) in omega (arith, lt, long)));
 }

@@ -22,7 +22,8 @@ returns-in_ok-push_nodes-in-Split g t c =
     let rest_again : c.deref-in-Split-3.result.now ≡ c.in-Split.rest.value = c.deref-in-Split-3.ensures in
     subst (λ (tree : Tree). OnOk c.push_nodes-in-Split.result (AddsNodes parts (plan_of tree) old new)) (sym c.in-Split.is)
     (on_ok_weaker c.push_nodes-in-Split.result
-    (split_nodes parts c.in-Split.d walls.seps (plan_of c.in-Split.moved.value) (plan_of c.in-Split.rest.value) c.leaves_of.result c.leaves_of-in-Split.result old c.push_split.new.nodes.items c.push_nodes.new.nodes.items new
+    (split_nodes parts c.in-Split.d walls.seps (plan_of c.in-Split.moved.value) (plan_of c.in-Split.rest.value) c.leaves_of.result c.leaves_of-in-Split.result
+    old c.push_split.new.nodes.items c.push_nodes.new.nodes.items new
     (c.leaves_of.ensures ∙ ap (λ (tree : Tree). parts_of (plan_of tree)) moved)
     (c.leaves_of-in-Split.ensures ∙ ap (λ (tree : Tree). parts_of (plan_of tree)) rest)
     walls.walls walls.is

@@ -4,19 +4,17 @@ use Rattle.staat_model.specs.declared.set.PartSet.{PartSet}
 use Rattle.staat_model.specs.Sets.{IsLeastOf}
 use Rattle.staat_graph.specs.Blocking.{ShowsBlocking}
 use Rattle.staat_graph.specs.Graphs.{AreTrees, HasArc, IsStrong}
-use Rattle.staat_certify.proofs.WitnessLemmas.{stuck_is_strong}
+use Rattle.staat_certify.proofs.WitnessLemmas.{stuck_is_strong, trees_along}
 use Rattle.std.proofs.lemmas.Slice.Eq.{bytes_eq-Decides}
 
 pub returns-then-eq-clause-along : goal.returns-then-eq-clause-along
 returns-then-eq-clause-along c =
+    let parts = c.args.at.now.sound.now in
+    let t = c.args.at.now.table.now in
+    let d = c.args.at.now.d in
     let same = (bytes_eq-Decides c.args.kept.now.graph.rows c.graph-graph.result.rows).0 (sym c.if-eq.ensures) in
-    record {
-      root = c.least-root.result;
-      root_is = subst (λ (s : PartSet). IsLeastOf s c.least-root.result) c.set-w.ensures.is c.least-root.ensures.least;
-      rows = c.args.kept.now.graph.rows;
-      shows = subst (λ (rows : List ℕ). ShowsBlocking c.args.at.now.sound.now c.args.at.now.d c.args.at.now.table.now.of rows) (sym same) c.graph-graph.ensures;
-      trees_are = c.requires.kept.trees c.if-kept.true;
-    }
+    trees_along parts t d c.args.kept.now.trees c.least-root.result c.args.kept.now.graph.rows c.requires.at.from c.set-w.ensures.rules (subst (λ (s : PartSet). IsLeastOf s c.least-root.result) c.set-w.ensures.is c.least-root.ensures.least)
+    (subst (λ (rows : List ℕ). ShowsBlocking parts d t.of rows) (sym same) c.graph-graph.ensures) (c.requires.kept.trees c.if-kept.true)
 
 pub unreachable-requires : goal.unreachable-requires
 unreachable-requires c =
@@ -28,10 +26,7 @@ pub returns-clause-kept : goal.returns-clause-kept
 returns-clause-kept c = record { trees = λ known. subst (λ (s : PartSet). AreTrees (HasArc c.graph-graph.result.rows) s c.in-Some.trees) c.set-w.ensures.is c.in-Some.ensures.trees }
 
 pub returns-clause-along : goal.returns-clause-along
-returns-clause-along c = record {
-  root = c.least-root.result;
-  root_is = subst (λ (s : PartSet). IsLeastOf s c.least-root.result) c.set-w.ensures.is c.least-root.ensures.least;
-  rows = c.graph-graph.result.rows;
-  shows = c.graph-graph.ensures;
-  trees_are = subst (λ (s : PartSet). AreTrees (HasArc c.graph-graph.result.rows) s c.in-Some.trees) c.set-w.ensures.is c.in-Some.ensures.trees;
-}
+returns-clause-along c =
+    trees_along c.args.at.now.sound.now c.args.at.now.table.now c.args.at.now.d c.in-Some.trees c.least-root.result c.graph-graph.result.rows c.requires.at.from c.set-w.ensures.rules
+    (subst (λ (s : PartSet). IsLeastOf s c.least-root.result) c.set-w.ensures.is c.least-root.ensures.least) c.graph-graph.ensures
+    (subst (λ (s : PartSet). AreTrees (HasArc c.graph-graph.result.rows) s c.in-Some.trees) c.set-w.ensures.is c.in-Some.ensures.trees)

@@ -1,7 +1,7 @@
-use Rattle.std.proofs.Common.{List, arith, subst, sym}
+use Rattle.std.proofs.Common.{List, subst, sym}
 use Rattle.staat_model.specs.declared.certificate.Arc.{Arc}
 use Rattle.staat_model.specs.Certify.{IsWitnessAt}
-use Rattle.staat_certify.proofs.WitnessLemmas.{few_arcs, ins_ahead, outs_ahead, witness_along}
+use Rattle.staat_certify.proofs.WitnessLemmas.{witness_along}
 use Rattle.staat_certify.proofs.witnesses.witness_here.Goals as goal
 
 pub returns : goal.returns
@@ -12,15 +12,3 @@ returns c =
     let is = witness_along parts t d c.args.trees.now c.in_ok-outs.outs.items c.in_ok-ins.ins.items c.requires.along c.in_ok-outs.ensures c.in_ok-ins.ensures in
     subst (λ (ins : List Arc). IsWitnessAt parts t.of d (record { outs = c.from_vec.result; ins = ins })) (sym c.from_vec-2.ensures)
     (subst (λ (outs : List Arc). IsWitnessAt parts t.of d (record { outs = outs; ins = c.in_ok-ins.ins.items })) (sym c.from_vec.ensures) is)
-
-pub shared_ref_as_front-arcs_between : goal.shared_ref_as_front-arcs_between
-shared_ref_as_front-arcs_between c = let few = few_arcs c.args.at.now.sound.now c.args.at.now.table.now c.args.at.now.d c.args.trees.now c.requires.at.from c.requires.along c.set-set.ensures.rules in omega (arith, few)
-
-pub arcs_between-requires-clause-ahead : goal.arcs_between-requires-clause-ahead
-arcs_between-requires-clause-ahead c = outs_ahead c.args.at.now.sound.now c.args.at.now.table.now c.args.at.now.d c.args.trees.now c.requires.at.from c.requires.along
-
-pub shared_ref_as_front-arcs_between-2 : goal.shared_ref_as_front-arcs_between-2
-shared_ref_as_front-arcs_between-2 c = let few = few_arcs c.args.at.now.sound.now c.args.at.now.table.now c.args.at.now.d c.args.trees.now c.requires.at.from c.requires.along c.set-set.ensures.rules in omega (arith, few)
-
-pub arcs_between-requires-2-clause-ahead : goal.arcs_between-requires-2-clause-ahead
-arcs_between-requires-2-clause-ahead c = ins_ahead c.args.at.now.sound.now c.args.at.now.table.now c.args.at.now.d c.args.trees.now c.requires.at.from c.requires.along

@@ -9,12 +9,6 @@ use Rattle.staat_local.specs.Beginnings.{HoldsBetween}
 use Rattle.staat_local.specs.Touching.{IsPairMarked}
 use Rattle.staat_local.proofs.graph.holds_between.Goals as goal
 
-pub loop-i-init : goal.loop-i-init
-loop-i-init c = λ h. omega arith
-
-pub loop-j-init : goal.loop-j-init
-loop-j-init c = record { from = c.loop-i.invariant; here = λ h e. omega arith }
-
 pub loop-j-preserved : goal.loop-j-preserved
 loop-j-preserved c = record {
   from = c.loop-j.invariant.from;

@@ -14,7 +14,8 @@ across_of : (t : Table) (d : V3) (ends : ℕ × ℕ) (i j : ℕ) → AreEndsAhea
 across_of t d ends i j ahead i_is j_is = let across = ahead.across in record { a_in = across.a_in; b_in = across.b_in; different = across.different; i_is = i_is; j_is = j_is }
 
 pub leads_ahead-requires-clause-across : goal.leads_ahead-requires-clause-across
-leads_ahead-requires-clause-across c = across_of c.args.self.now.table.now c.args.self.now.d c.args.ends c.loop-i.i c.loop-j.j c.requires.ahead (omega (arith, c.loop-i-test.true, c.pieces-i-end.ensures.is)) (omega (arith, c.loop-j-test.true, c.pieces-j-end.ensures.is))
+leads_ahead-requires-clause-across c =
+    across_of c.args.self.now.table.now c.args.self.now.d c.args.ends c.loop-i.i c.loop-j.j c.requires.ahead (omega (arith, c.loop-i-test.true, c.pieces-i-end.ensures.is)) (omega (arith, c.loop-j-test.true, c.pieces-j-end.ensures.is))
 
 pub returns-then-leads_ahead-clause-least : goal.returns-then-leads_ahead-clause-least
 returns-then-leads_ahead-clause-least c =
@@ -29,7 +30,8 @@ loop-j-preserved c = record {
   here = λ h e. elim (lt_or_le c.loop-j.j h.j) [
     | inl lt ↦ (let past : c.loop-j.j + 1 ≤ h.j = omega (arith, lt) in past)
     | inr le ↦ (let same : h.j ≡ c.loop-j.j = omega (arith, le, c.loop-j.invariant.here h e) in
-        absurd (false≢true (c.if-leads_ahead.ensures.1 (subst (λ (arc : Arc). All (λ n. pos 0 <ℤ dot n c.args.self.now.d) (facets_of c.args.self.now.table.now arc)) (λ z. arc_of c.args.ends.0 (e z) c.args.ends.1 (same z)) h.ahead))))
+        absurd (false≢true (c.if-leads_ahead.ensures.1 (subst (λ (arc : Arc). All (λ n. pos 0 <ℤ dot n c.args.self.now.d) (facets_of c.args.self.now.table.now arc))
+        (λ z. arc_of c.args.ends.0 (e z) c.args.ends.1 (same z)) h.ahead))))
   ];
 }
 

@@ -27,10 +27,12 @@ number_here-requires-clause-at c = record {
 }
 
 pub number_here-requires-clause-some : goal.number_here-requires-clause-some
-number_here-requires-clause-some c = subst (λ (v : V3). v ≢ origin) (sym (c.direction.ensures.is ∙ c.vertex-vertex.ensures)) (vertex_some c.args.self.now.table.now.planes c.set-set.ensures.rules.planes c.args.circle.now c.requires.circle c.args.k c.requires.place)
+number_here-requires-clause-some c = subst (λ (v : V3). v ≢ origin) (sym (c.direction.ensures.is ∙ c.vertex-vertex.ensures))
+    (vertex_some c.args.self.now.table.now.planes c.set-set.ensures.rules.planes c.args.circle.now c.requires.circle c.args.k c.requires.place)
 
 pub number_here-requires-clause-told : goal.number_here-requires-clause-told
-number_here-requires-clause-told c = subst (λ (v : V3). NamesIfTold c.args.self.now.sound.now c.args.self.now.table.now.of c.args.found.now.witnesses.items v c.args.told) (sym (c.direction.ensures.is ∙ c.vertex-vertex.ensures)) c.requires.told
+number_here-requires-clause-told c = subst (λ (v : V3). NamesIfTold c.args.self.now.sound.now c.args.self.now.table.now.of c.args.found.now.witnesses.items v c.args.told)
+    (sym (c.direction.ensures.is ∙ c.vertex-vertex.ensures)) c.requires.told
 
 pub returns-clause-found : goal.returns-clause-found
 returns-clause-found c =
@@ -55,7 +57,8 @@ returns-clause-found c =
     }
 
 pub returns-clause-told : goal.returns-clause-told
-returns-clause-told c = subst (λ (v : V3). NamesWitness c.args.self.now.sound.now c.args.self.now.table.now.of c.number_here.new.found.witnesses.items (record { d = v; witness = c.in_ok-number.number })) (c.direction.ensures.is ∙ c.vertex-vertex.ensures) c.in_ok-number.ensures.number.names
+returns-clause-told c = subst (λ (v : V3). NamesWitness c.args.self.now.sound.now c.args.self.now.table.now.of c.number_here.new.found.witnesses.items (record { d = v; witness = c.in_ok-number.number }))
+    (c.direction.ensures.is ∙ c.vertex-vertex.ensures) c.in_ok-number.ensures.number.names
 
 pub returns-clause-here : goal.returns-clause-here
 returns-clause-here c canonical =

@@ -16,7 +16,8 @@ wall-requires-clause-pieces g c = record {
 }
 
 pub wall-requires-clause-apart : goal.wall-requires-clause-apart
-wall-requires-clause-apart g c = c.requires.free.clear (arc_of c.loop-a.a c.loop-i.i c.loop-b.b c.loop-j.j) ((c.pieces_in-i-end.ensures c.loop-i.i).0 c.loop-i-test.true).0 ((c.pieces_in-j-end.ensures c.loop-j.j).0 c.loop-j-test.true).0
+wall-requires-clause-apart g c = c.requires.free.clear (arc_of c.loop-a.a c.loop-i.i c.loop-b.b c.loop-j.j)
+    ((c.pieces_in-i-end.ensures c.loop-i.i).0 c.loop-i-test.true).0 ((c.pieces_in-j-end.ensures c.loop-j.j).0 c.loop-j-test.true).0
 
 pub loop-j-preserved : goal.loop-j-preserved
 loop-j-preserved g c =
@@ -29,7 +30,8 @@ loop-j-preserved g c =
 pub loop-b-preserved : goal.loop-b-preserved
 loop-b-preserved g c =
     let self = c.args.self.now in
-    next_b self.assembly.now self.side self.rest self.d c.loop-a.a c.loop-i.i c.loop-b.b c.loop-j.j c.loop-j.seps.items (λ k h. let lt : k < c.pieces_in-j-end.result = (c.pieces_in-j-end.ensures k).1 h in omega (arith, lt, c.loop-j-test.false)) c.loop-j.invariant
+    next_b self.assembly.now self.side self.rest self.d c.loop-a.a c.loop-i.i c.loop-b.b c.loop-j.j c.loop-j.seps.items
+    (λ k h. let lt : k < c.pieces_in-j-end.result = (c.pieces_in-j-end.ensures k).1 h in omega (arith, lt, c.loop-j-test.false)) c.loop-j.invariant
 
 pub loop-i-preserved : goal.loop-i-preserved
 loop-i-preserved g c =
@@ -39,7 +41,8 @@ loop-i-preserved g c =
 pub loop-a-preserved : goal.loop-a-preserved
 loop-a-preserved g c =
     let self = c.args.self.now in
-    next_a self.assembly.now self.side self.rest self.d c.loop-a.a c.loop-i.i c.loop-i.seps.items (λ k h. let lt : k < c.pieces_in-i-end.result = (c.pieces_in-i-end.ensures k).1 h in omega (arith, lt, c.loop-i-test.false)) c.loop-i.invariant
+    next_a self.assembly.now self.side self.rest self.d c.loop-a.a c.loop-i.i c.loop-i.seps.items
+    (λ k h. let lt : k < c.pieces_in-i-end.result = (c.pieces_in-i-end.ensures k).1 h in omega (arith, lt, c.loop-i-test.false)) c.loop-i.invariant
 
 pub returns : goal.returns
 returns g c =

@@ -10,7 +10,13 @@ unreachable-requires g c =
     let p = c.piece-p.result.now in
     let q = c.piece-q.result.now in
     let lists = subst (Lists vector_cmp (IsFacet p q)) (sym c.as_slice.ensures.value) c.in_ok-facets.ensures.facets in
-    c.requires.apart (record { p = p; q = q; p_is = c.piece-p.ensures; q_is = c.piece-q.ensures; holds = some_away p q c.as_slice.result.now c.args.self.now.d c.points-first.ensures.piece c.points-second.ensures.piece lists c.in-None.ensures })
+    c.requires.apart (record {
+      p = p;
+      q = q;
+      p_is = c.piece-p.ensures;
+      q_is = c.piece-q.ensures;
+      holds = some_away p q c.as_slice.result.now c.args.self.now.d c.points-first.ensures.piece c.points-second.ensures.piece lists c.in-None.ensures;
+    })
 
 pub returns : goal.returns
 returns g c =
