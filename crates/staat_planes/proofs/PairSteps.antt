@@ -1,5 +1,5 @@
 -- What a place among the pairs of planes has left.
-use Rattle.std.proofs.Common.{◌≡◌, ◌≢◌, ◌↔◌, inl, inr, ⊎_elim, ℕ, ◌+◌, ◌<◌, ◌≤◌, arith, ap, sym, subst, ◌∙◌, refl, Bool, List, [], ◌∷◌, ◌++◌, length, take, drop, Contains}
+use Rattle.std.proofs.Common.{◌≡◌, ◌≢◌, ◌↔◌, inl, inr, ⊎_elim, ℕ, ◌+◌, ◌*◌, ◌<◌, ◌≤◌, arith, ap, sym, subst, ◌∙◌, refl, Bool, List, [], ◌∷◌, ◌++◌, length, take, drop, Contains}
 use Rattle.std.specs.Prelude.{IsTrue, Some, slice_get, slice_index, slice_index_or}
 use Rattle.std.specs.Ordering.{nat_cmp}
 use Rattle.std.specs.List.Sorted.{IsStrictlySortedBy}
@@ -25,7 +25,7 @@ use Rattle.staat_pairs.specs.Tables.{AreTablePlanes, Table, WasMadeFrom}
 use Rattle.staat_pairs.proofs.DropLemmas.{drop_at}
 use Rattle.staat_planes.specs.declared.pairs.PlanePairs.{PlanePairs}
 use Rattle.staat_planes.specs.Tables.{IsPlaneOf}
-use Rattle.staat_planes.specs.PairOrder.{AreRisingNumbers, HasRowBefore, IsPlaceIn, numbers_of, planes_at, vertices_left}
+use Rattle.staat_planes.specs.PairOrder.{AreRisingNumbers, IsPlaceIn, numbers_of, plane_at, planes_at, rest_of_row, row_plane, vertices_left}
 use Rattle.staat_planes.proofs.UsedPlanes.{numbered_are, places_rise}
 use Rattle.staat_vec.proofs.Naturals.{lt_one_more_cases}
 use Rattle.staat_vec.proofs.VectorLaws.{negative_some}
@@ -175,19 +175,24 @@ apart_behind planes ks i j g are numbers lt eg n (k, small, at) =
     apart_at planes ks i (j + k) g (slice_index_or planes n origin) are numbers (omega (arith, lt)) within eg
     (subst (λ m. slice_get planes m ≡ Some (slice_index_or planes n origin)) (sym place) is)
 
-row_some : (planes : List V3) (g : V3) (ns : List ℕ) → 0 < length ns → 0 < length (crossings g (planes_at planes ns))
-row_some planes g [] some = absurd (omega arith)
-row_some planes g (n ∷ ns) some = omega arith
+-- ---- how many vertices there are
 
--- behind the rest of a row less is left
-pub row_shorter : (planes : List V3) (p q : PlanePairs) (vs : List V3) → IsPlaceIn planes p → p.second < p.count → HasRowBefore planes p q
-    → vertices_left planes p ≡ vs → length (vertices_left planes q) < length vs
-row_shorter planes p q vs place some before is =
-    let row : List V3 = crossings (slice_index_or planes (slice_index (numbers_of p) p.first) origin) (planes_at planes (drop p.second (numbers_of p))) in
-    let long : length (numbers_of p) ≡ p.count = length_used p.numbers p.count (let a = place.room in let b = place.most in omega (arith, a, b)) in
-    let left = length-drop p.second (numbers_of p) in
-    let more : 0 < length row = row_some planes (slice_index_or planes (slice_index (numbers_of p) p.first) origin) (drop p.second (numbers_of p)) (omega (arith, left, long, some)) in
-    let sum = length-append row (vertices_left planes q) in
-    let same = ap length before in
-    let end = ap length is in
-    omega (arith, more, sum, same, end)
+row_length : (planes : List V3) (g : V3) (ks : List ℕ) → length (crossings g (planes_at planes ks)) ≡ 2 * length ks
+row_length planes g [] = refl
+row_length planes g (k ∷ ks) = let rest = row_length planes g ks in omega (arith, rest)
+
+few_vertices : (planes : List V3) (ks : List ℕ) → length ks ≤ 1024 → length (vertices (planes_at planes ks)) ≤ 2048 * length ks
+few_vertices planes [] few = omega arith
+few_vertices planes (k ∷ ks) few =
+    let row = row_length planes (plane_at planes k) ks in
+    let rest = few_vertices planes ks (omega (arith, few)) in
+    omega (arith, row, rest, few, length-append (crossings (plane_at planes k) (planes_at planes ks)) (vertices (planes_at planes ks)))
+
+pub few_left : (planes : List V3) (p : PlanePairs) → IsPlaceIn planes p → length (vertices_left planes p) ≤ 2099200
+few_left planes p place =
+    let ks = numbers_of p in
+    let most = place.most in
+    let long : length ks ≡ p.count = length_used p.numbers p.count (let a = place.room in omega (arith, a, most)) in
+    let row = row_length planes (row_plane planes p) (drop p.second ks) in
+    let rest = few_vertices planes (drop (p.first + 1) ks) (omega (arith, long, most, length-drop (p.first + 1) ks)) in
+    omega (arith, long, most, row, rest, length-drop p.second ks, length-drop (p.first + 1) ks, length-append (rest_of_row planes p) (vertices (planes_at planes (drop (p.first + 1) ks))))
