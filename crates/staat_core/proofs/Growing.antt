@@ -1,5 +1,5 @@
 -- How the lists of a core grow.
-use Rattle.std.proofs.Common.{◌≡◌, ◌∙◌, ℕ, ◌+◌, ◌<◌, ◌≤◌, arith, ap, sym, subst, take, refl, get_or, Bool, true, false, List, [], ◌∷◌, ◌++◌, All, Contains, length, length-append}
+use Rattle.std.proofs.Common.{◌≡◌, ◌∙◌, ℕ, ◌<◌, ◌≤◌, arith, ap, sym, subst, take, refl, get_or, Bool, true, false, List, [], ◌∷◌, ◌++◌, All, Contains, length, length-append}
 use Rattle.std.proofs.lemmas.List.{append-nil, append_assoc, get_or_append_left}
 use Rattle.std.proofs.lemmas.List.Elements.{All-contains, All-contains_itself, All-nil, All-push, All-weaker, Contains-append_left, Contains-append_right}
 use Rattle.std.specs.Prelude.{IsTrue}
@@ -58,18 +58,6 @@ planes_kept parts xs ys pairs g = All-weaker (HasPlanesOf parts xs) (HasPlanesOf
 
 pub axes_kept : (xs ys : List V3) → GoesOn xs ys → StandIn axes xs → StandIn axes ys
 axes_kept xs ys g = All-weaker (Contains xs) (Contains ys) (λ n c. stays_in xs ys n g c) axes
-
-pub plane_pushed : (k m : Core) (n : V3) → HasRoom k → k.used < 96 → length m.planes ≡ 96 → m.used ≡ k.used + 1 → core_planes m ≡ core_planes k ++ n ∷ [] → m.pairs ≡ k.pairs → m.count ≡ k.count → HasRoom m
-plane_pushed k m n is few room used e pairs count = record {
-  long = ap length pairs ∙ is.long;
-  few = subst (λ c. c ≤ 2016) (sym count) is.few;
-  room = room;
-  most = omega (arith, few, used);
-  axes = axes_kept (core_planes k) (core_planes m) (goes_one (core_planes k) (core_planes m) n e) is.axes;
-}
-
-pub pairs_same : (k m : Core) → m.pairs ≡ k.pairs → m.count ≡ k.count → core_pairs m ≡ core_pairs k
-pairs_same k m e n = λ i. take (n i) (e i)
 
 pub axes_room : (k : Core) → length k.pairs ≡ 2016 → k.count ≡ 0 → length k.planes ≡ 96 → k.used ≡ 3 → core_planes k ≡ axes → HasRoom k
 axes_room k long none room used e = record {

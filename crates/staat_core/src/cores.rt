@@ -19,7 +19,7 @@ use staat_vec::{NORMAL, Normal, ORIGIN, V3, canon, is_same};
 const MOST_PAIRS: u32 = 2016;
 
 /// How many planes a core has at most.
-const MOST_CORE_PLANES: u32 = 96;
+pub(crate) const MOST_CORE_PLANES: u32 = 96;
 
 // One of 128 bits for a plane, the same for its normal and the negative. Planes may share one: it is a hint that saves
 // a look at all planes in use.
@@ -144,21 +144,6 @@ impl Core {
         wanting
     }
 
-    // puts a plane behind those in use
-    fn push_plane(&mut self, n: Normal)
-        requires room { length self.old.planes ≡ 96 }
-        requires few { self.old.used < MOST_CORE_PLANES }
-        ensures room { length self.new.planes ≡ 96 }
-        ensures used { self.new.used ≡ self.old.used + 1 }
-        ensures planes { core_planes self.new ≡ core_planes self.old ++ n ∷ [] }
-        ensures pairs { self.new.pairs ≡ self.old.pairs }
-        ensures count { self.new.count ≡ self.old.count }
-    {
-        self.planes[self.used as usize] = n;
-        self.used += 1;
-        self.bits |= bit_of(n.vector());
-    }
-
     // sees to it that the plane is in use; false where there is no room
     fn put_plane(&mut self, n: Normal) -> bool
         requires { HasRoom self.old }
@@ -173,7 +158,9 @@ impl Core {
         if self.used >= MOST_CORE_PLANES {
             return false;
         }
-        self.push_plane(n);
+        self.planes[self.used as usize] = n;
+        self.used += 1;
+        self.bits |= bit_of(n.vector());
         true
     }
 
