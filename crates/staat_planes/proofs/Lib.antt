@@ -11,4 +11,3 @@ pub mod BuildLemmas
 pub mod UsedPlanes
 pub mod PairSteps
 pub mod SearchSteps
-pub mod SetPlanes

@@ -3,6 +3,7 @@ ghost use Rattle.std.specs.Prelude.{IfOk};
 ghost use Rattle.staat_model.specs.Sets.{IsSubset};
 ghost use Rattle.staat_planes.specs.SetPlanes.{ArePlanesIn};
 
+use crate::pairs::PlanePairs;
 use crate::table::PlaneTable;
 use staat_model::PartSet;
 use staat_vec::{Normal, OutOfMemory};
@@ -18,12 +19,10 @@ impl PlaneTable {
         requires { IsSubset w self.now.of }
         ensures { IfOk result (λ planes. ArePlanesIn self.now w planes.items) }
     {
-        let marks = self.used_marks(w);
+        let pairs = PlanePairs::of(self, w);
         let mut planes = Vec::new(alloc);
-        for k in 0..self.len() {
-            if marks[k as usize] {
-                planes.push(Normal::of(self.plane(k)))?;
-            }
+        for k in pairs.numbers(self) {
+            planes.push(Normal::of(self.plane(*k)))?;
         }
         Ok(planes)
     }

@@ -5,7 +5,7 @@ use Rattle.std.proofs.lemmas.List.{drop_all, drop_more}
 use Rattle.staat_vec.specs.declared.vector.V3.{V3}
 use Rattle.staat_model.specs.Planes.{crossings, vertices}
 use Rattle.staat_planes.specs.PairOrder.{numbers_of, plane_at, planes_at}
-use Rattle.staat_planes.proofs.PairSteps.{length_used, nothing_left}
+use Rattle.staat_planes.proofs.PairSteps.{count_is, nothing_left}
 use Rattle.staat_planes.proofs.pairs.PlanePairs.enter_row.Goals.{else-self-via-then-self+else-self-2, else-self-via-else-self}
 use Rattle.staat_planes.proofs.pairs.PlanePairs.enter_row.Goals as goal
 
@@ -28,8 +28,7 @@ returns-then-self-2-clause-place c =
 pub returns-then-self-2-clause-left : goal.returns-then-self-2-clause-left
 returns-then-self-2-clause-left c =
     let p = c.args.self.now in
-    let place = c.requires in
-    let long : length (numbers_of p) ≡ p.count = length_used p.numbers p.count (omega (arith, place.room, place.most)) in
+    let long = count_is c.args.table.now.planes p c.requires in
     next_row c.args.table.now.planes (numbers_of p) p.first p.second (omega (arith, long, c.if-self-2.true)) (omega (arith, long, c.if-self.true))
 
 pub returns-then-self-2-clause-end : goal.returns-then-self-2-clause-end
