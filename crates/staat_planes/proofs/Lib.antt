@@ -3,7 +3,6 @@ pub mod BothWays
 pub mod GraphLaw
 pub mod GraphSteps
 pub mod NotFound
-pub mod Found
 pub mod Passing
 pub mod UsedLaw
 pub mod Marking

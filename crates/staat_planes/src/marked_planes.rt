@@ -5,8 +5,8 @@ ghost use Rattle.staat_vec.specs.declared.vector.V3.{V3 as Vector};
 ghost use Rattle.staat_model.specs.declared.assembly.Part.{Part as PartValue};
 ghost use Rattle.staat_model.specs.Planes.{ArePlanes};
 ghost use Rattle.staat_model.specs.Sets.{Has, IsSubset};
-ghost use Rattle.staat_pairs.specs.Searches.{HasPlane, HasPlaneBetween, HasPlaneFrom, HasPlaneOf, IsCanonOf};
-ghost use Rattle.staat_pairs.specs.Tables.{IsTableArc, WasMadeFrom, facets_of, pieces_of};
+ghost use Rattle.staat_pairs.specs.Searches.{HasPlane, HasPlaneBetween, HasPlaneOf, IsCanonOf};
+ghost use Rattle.staat_pairs.specs.Tables.{IsTableArc, WasMadeFrom, facets_of};
 ghost use Rattle.staat_planes.specs.MarkedPlanes.{AddsMarks, AreUsedMarks, IsPlaneMarked};
 ghost use Rattle.staat_planes.specs.Tables.{IsPlaneOf};
 
@@ -36,19 +36,6 @@ impl PlaneTable {
         }
     }
 
-    // marks those of the facets of a piece of the part a and all pieces of the part b
-    fn mark_from(&self, a: u32, i: u32, b: u32, marks: &mut [bool; 1024])
-        requires a_in { Has self.now.of a }
-        requires b_in { Has self.now.of b }
-        requires order { a < b }
-        requires piece { i < pieces_of self.now a }
-        ensures { AddsMarks self.now.planes (λ n. HasPlaneFrom self.now n a i b) marks.old marks.new }
-    {
-        for j in 0..self.pieces(b) {
-            self.mark_facets(Arc { a, i, b, j }, marks);
-        }
-    }
-
     // marks those of all pieces of the part a and all pieces of the part b
     fn mark_between(&self, a: u32, b: u32, marks: &mut [bool; 1024])
         requires a_in { Has self.now.of a }
@@ -57,7 +44,9 @@ impl PlaneTable {
         ensures { AddsMarks self.now.planes (λ n. HasPlaneBetween self.now n a b) marks.old marks.new }
     {
         for i in 0..self.pieces(a) {
-            self.mark_from(a, i, b, marks);
+            for j in 0..self.pieces(b) {
+                self.mark_facets(Arc { a, i, b, j }, marks);
+            }
         }
     }
 
