@@ -1,4 +1,5 @@
 pub mod FacetCounts
+pub mod Gaining
 pub mod BothWays
 pub mod GraphLaw
 pub mod GraphSteps
