@@ -1,7 +1,7 @@
 -- How the lists of a core grow.
 use Rattle.std.proofs.Common.{◌≡◌, ◌∙◌, ℕ, ◌<◌, ◌≤◌, arith, ap, sym, subst, take, refl, get_or, Bool, true, false, List, [], ◌∷◌, ◌++◌, All, Contains, length, length-append}
 use Rattle.std.proofs.lemmas.List.{append-nil, append_assoc, get_or_append_left}
-use Rattle.std.proofs.lemmas.List.Elements.{All-contains, All-contains_itself, All-nil, All-push, All-weaker, Contains-append_left, Contains-append_right}
+use Rattle.std.proofs.lemmas.List.Elements.{All-contains, All-contains_itself, All-nil, All-push, All-weaker, Contains-append_left}
 use Rattle.std.specs.Prelude.{IsTrue}
 use Rattle.staat_vec.specs.declared.vector.V3.{V3}
 use Rattle.staat_vec.specs.Primitives.{canon}
@@ -11,7 +11,6 @@ use Rattle.staat_model.specs.Planes.{axes}
 use Rattle.staat_core.specs.Sources.{AreFacetsOf}
 use Rattle.staat_core.specs.declared.cores.Core.{Core}
 use Rattle.staat_core.specs.Cores.{StandIn, GoesOn, HasGrown, HasCanons, HasPlanesOf, HasRoom, IsCore, IsEmptyCore, core_pairs, core_planes}
-use Rattle.staat_vec.proofs.Unique.{Contains-front}
 
 pub goes_same : {X : Type 0} (xs ys : List X) → ys ≡ xs → GoesOn xs ys
 goes_same xs ys e = record { more = []; is = e ∙ sym (append-nil xs) }
@@ -24,9 +23,6 @@ goes_one xs ys x e = record { more = x ∷ []; is = e }
 
 pub stays_in : {X : Type 0} (xs ys : List X) (x : X) → GoesOn xs ys → Contains xs x → Contains ys x
 stays_in xs ys x g c = subst (λ l. Contains l x) (sym g.is) (Contains-append_left xs g.more x c)
-
-pub last_in : {X : Type 0} (xs : List X) (x : X) → Contains (xs ++ x ∷ []) x
-last_in xs x = Contains-append_right xs (x ∷ []) x (Contains-front x [])
 
 pub longer : {X : Type 0} (xs ys : List X) → GoesOn xs ys → length xs ≤ length ys
 longer xs ys g = let e = ap length g.is in omega (arith, e, length-append xs g.more)

@@ -1,7 +1,6 @@
 -- What a core that holds a set where planes cross says of other directions.
-use Rattle.std.proofs.Common.{◌≡◌, ◌≢◌, ◌⊎◌, ⊎_elim, inl, inr, ℕ, zero, suc, negsuc, ◌+◌, ◌<◌, ◌≤◌, ℤ, pos, ◌*ℤ◌, ◌<ℤ◌, arith, ap, sym, subst, ◌∙◌, refl, map, List, All, Contains, length}
+use Rattle.std.proofs.Common.{◌≡◌, ◌≢◌, ◌⊎◌, ⊎_elim, inl, inr, ℕ, ◌+◌, ◌<◌, ◌≤◌, ℤ, pos, ◌*ℤ◌, ◌<ℤ◌, ◌≤ℤ◌, arith, ap, sym, subst, ◌∙◌, refl, map, List, All, Contains, length}
 use Rattle.std.specs.FinSet as set
-use Rattle.std.proofs.lemmas.Int.{ints}
 use Rattle.std.proofs.lemmas.Bool.{cases_lt}
 use Rattle.std.proofs.lemmas.List.{get_or_default, get_or_past, length-take-le}
 use Rattle.std.proofs.lemmas.List.Elements.{All-contains, Contains-append_cases}
@@ -26,7 +25,7 @@ use Rattle.staat_model.proofs.CornerLemmas.{dot_multiple}
 use Rattle.staat_model.proofs.Corners.{HoldsAxes, IsCornerTowards, IsSame, corner_towards}
 use Rattle.staat_model.proofs.Differences.{from_map}
 use Rattle.staat_model.proofs.FreeSides.{member_or}
-use Rattle.staat_model.proofs.GraphLemmas.{piece_in}
+use Rattle.staat_model.proofs.GraphLemmas.{piece_in, positive_back}
 use Rattle.staat_model.proofs.PieceFacets.{meets_by_facets_lemma}
 use Rattle.staat_model.proofs.Reversed.{meets_opposite_lemma, opposite_facets_lemma}
 use Rattle.staat_model.proofs.SetMembers.{has-difference, has-single}
@@ -50,7 +49,7 @@ use Rattle.staat_vec.proofs.Options.{some_injective}
 rest_of_rest : (w s : PartSet) → IsSubset s w → set.difference w (set.difference w s) ≡ s
 rest_of_rest w s within = same_members (set.difference w (set.difference w s)) s (back_in w s) (λ q h. (has-difference w (set.difference w s) q).1 (within q h, λ out. ((has-difference w s q).0 out).1 h))
 
-single_within : (w : PartSet) (p : ℕ) → Has w p → IsSubset (single p) w
+pub single_within : (w : PartSet) (p : ℕ) → Has w p → IsSubset (single p) w
 single_within w p has q h = subst (Has w) (sym ((has-single p q).0 h)) has
 
 rest_moves : (moving : Moving) (w s : PartSet) → IsMove moving w s → IsMove moving w (set.difference w s)
@@ -60,10 +59,8 @@ rest_moves OnePart w s (p, has, inr e) = (p, has, inl (ap (set.difference w) e �
 
 -- ---- from a direction to its multiples and its opposite
 
-positive_part : (k : ℕ) (x y : ℤ) → 1 ≤ k → x ≡ pos k *ℤ y → pos 0 <ℤ x → pos 0 <ℤ y
-positive_part k x (pos zero) one e h = absurd (let low = not_positive_mul k (pos zero) (omega (arith, ints)) in omega (arith, ints))
-positive_part k x (pos (suc n)) one e h = omega (arith, ints)
-positive_part k x (negsuc n) one e h = absurd (let low = not_positive_mul k (negsuc n) (omega (arith, ints)) in omega (arith, ints))
+positive_part : (k : ℕ) (x y : ℤ) → x ≡ pos k *ℤ y → pos 0 <ℤ x → pos 0 <ℤ y
+positive_part k x y e h = positive_back y x (λ low. subst (λ z. z ≤ℤ pos 0) (sym e) (not_positive_mul k y low)) h
 
 free_multiple : (parts : List Part) (core : List Arc) (s r : PartSet) (f : V3) → All IsPart parts → f ≢ origin → IsFreeInCore parts core s r (primitive f) → IsFreeInCore parts core s r f
 free_multiple parts core s r f each some free arc listed a_in b_in m =
@@ -76,7 +73,7 @@ free_multiple parts core s r f each some free arc listed a_in b_in m =
       q = m.q;
       p_is = m.p_is;
       q_is = m.q_is;
-      holds = (meets_by_facets_lemma m.p m.q (primitive f) is_p is_q).1 (λ n facet. positive_part of.factor (dot n f) (dot n (primitive f)) of.positive (dot_multiple n f (primitive f) of.factor of.multiple) (at_f n facet));
+      holds = (meets_by_facets_lemma m.p m.q (primitive f) is_p is_q).1 (λ n facet. positive_part of.factor (dot n f) (dot n (primitive f)) (dot_multiple n f (primitive f) of.factor of.multiple) (at_f n facet));
     })
 
 turned_in : (pairs : List Arc) (arc : Arc) → Contains (both_ways pairs) arc → Contains (both_ways pairs) (back arc)

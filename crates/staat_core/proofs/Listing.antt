@@ -1,7 +1,7 @@
 -- Lists of pairs of a table.
-use Rattle.std.proofs.Common.{◌≡◌, ◌≢◌, ◌⊎◌, ⊎_elim, inl, inr, ℕ, zero, suc, ◌<◌, arith, sym, subst, List, [], ◌∷◌, ◌++◌, All, Contains}
+use Rattle.std.proofs.Common.{◌≡◌, ◌≢◌, ◌⊎◌, ⊎_elim, arith, sym, subst, List, All, Contains}
 use Rattle.std.proofs.lemmas.Int.{ints}
-use Rattle.std.proofs.lemmas.List.Elements.{All-contains, All-weaker, Contains-append_cases}
+use Rattle.std.proofs.lemmas.List.Elements.{All-contains, All-weaker}
 use Rattle.staat_vec.specs.declared.vector.V3.{V3}
 use Rattle.staat_vec.specs.Lists.{Lists}
 use Rattle.staat_vec.specs.declared.words.TheConstants.{SMALL}
@@ -16,19 +16,8 @@ use Rattle.staat_model.proofs.Members.{All-from_members}
 use Rattle.staat_pairs.specs.Tables.{AreTableFacets, IsTableArc, IsTableFacet, Table, WasMadeFrom, facets_of}
 use Rattle.staat_core.specs.Sources.{AreFacetsOf}
 
--- a member of the list with one more is the last or one of the list
-pub member_or_last : (xs : List Arc) (a x : Arc) → Contains (xs ++ a ∷ []) x → Contains xs x ⊎ (x ≡ a)
-member_or_last xs a x c = ⊎_elim (λ h. inl h) (λ h. inr (only h)) (Contains-append_cases xs (a ∷ []) x c)
-  where
-    only : Contains (a ∷ []) x → x ≡ a
-    only (zero, lt, e) = sym e
-    only (suc k, lt, e) = absurd (omega arith)
-
 pub all_put : (P : Arc → Type 0) (xs ys : List Arc) (pair : Arc) → All P xs → P pair → ((x : Arc) → Contains ys x → Contains xs x ⊎ (x ≡ pair)) → All P ys
 all_put P xs ys pair all has more = All-from_members P ys (λ x c. ⊎_elim {C = P x} (λ h. All-contains P xs x all h) (λ e. subst P (sym e) has) (more x c))
-
-pub apart_of : (a b : ℕ) → a < b → a ≢ b
-apart_of a b lt e = omega (arith, lt, e)
 
 pub some_facets : (planes facets : List V3) → AreTableFacets planes facets → All (λ n. n ≢ origin) facets
 some_facets planes facets are = All-weaker (IsTableFacet planes) (λ n. n ≢ origin) (λ n h. IsPrimitive-some n h.primitive) facets are.each

@@ -1,7 +1,8 @@
 use Rattle.std.proofs.Common.{◌≡◌, ◌<◌, ◌+◌, ◌∙◌, ◌∷◌, ◌++◌, [], arith, refl, sym, subst, set, take, Contains}
+use Rattle.std.proofs.lemmas.List.Elements.{Contains-push}
 use Rattle.std.proofs.lemmas.List.{length-set, take_more_set}
 use Rattle.staat_core.specs.Cores.{core_planes}
-use Rattle.staat_core.proofs.Growing.{axes_kept, goes_one, goes_same, last_in}
+use Rattle.staat_core.proofs.Growing.{axes_kept, goes_one, goes_same}
 use Rattle.staat_core.proofs.cores.Core.put_plane.Goals as goal
 
 pub returns-then-has_plane-clause-planes : goal.returns-then-has_plane-clause-planes
@@ -27,5 +28,5 @@ returns c =
       };
       planes = more;
       pairs = refl;
-      put = λ told. subst (λ ns. Contains ns c.args.n) (sym pushed) (last_in (core_planes k) c.args.n);
+      put = λ told. subst (λ ns. Contains ns c.args.n) (sym pushed) (Contains-push (core_planes k) c.args.n);
     }

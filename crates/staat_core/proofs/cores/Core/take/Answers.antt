@@ -1,6 +1,7 @@
 use Rattle.std.proofs.Common.{sym, subst, Contains}
+use Rattle.std.proofs.lemmas.List.Elements.{Contains-push}
 use Rattle.staat_core.specs.Cores.{core_pairs}
-use Rattle.staat_core.proofs.Growing.{core_taken, grows_taken, last_in}
+use Rattle.staat_core.proofs.Growing.{core_taken, grows_taken}
 use Rattle.staat_core.proofs.cores.Core.take.Goals as goal
 
 pub returns-clause-core : goal.returns-clause-core
@@ -12,4 +13,4 @@ pub returns-clause-grows : goal.returns-clause-grows
 returns-clause-grows g c = let e = c.add.ensures in grows_taken c.args.self.now c.add.new.self c.args.pair c.add.result e.planes e.pushed e.same
 
 pub returns-clause-listed : goal.returns-clause-listed
-returns-clause-listed g c told = subst (λ xs. Contains xs c.args.pair) (sym (c.add.ensures.pushed told)) (last_in (core_pairs c.args.self.now) c.args.pair)
+returns-clause-listed g c told = subst (λ xs. Contains xs c.args.pair) (sym (c.add.ensures.pushed told)) (Contains-push (core_pairs c.args.self.now) c.args.pair)

@@ -1,6 +1,6 @@
-use Rattle.std.proofs.Common.{subst, ◌<◌}
+use Rattle.std.proofs.Common.{arith, subst, ◌<◌}
 use Rattle.staat_core.specs.Listed.{IsTablePair, pairs_in_use}
-use Rattle.staat_core.proofs.Listing.{all_put, apart_of}
+use Rattle.staat_core.proofs.Listing.{all_put}
 use Rattle.staat_core.proofs.listed.PairList.put_between.Goals as goal
 
 pub loop-j-preserved : goal.loop-j-preserved
@@ -11,7 +11,7 @@ loop-j-preserved c = record {
         across = record {
           a_in = c.requires.a_in;
           b_in = c.requires.b_in;
-          different = apart_of c.args.a c.args.b c.requires.order;
+          different = λ e. omega (arith, c.requires.order, e);
           i_is = subst (λ n. c.loop-i.i < n) c.pieces-i-end.ensures.is c.loop-i-test.true;
           j_is = subst (λ n. c.loop-j.j < n) c.pieces-j-end.ensures.is c.loop-j-test.true;
         };
