@@ -1,5 +1,5 @@
 -- How the lists of a core grow.
-use Rattle.std.proofs.Common.{◌≡◌, ◌∙◌, ℕ, ◌<◌, ◌≤◌, arith, ap, sym, subst, take, refl, get_or, Bool, true, false, List, [], ◌∷◌, ◌++◌, All, Contains, length, length-append}
+use Rattle.std.proofs.Common.{◌≡◌, ◌∙◌, ℕ, ◌<◌, arith, ap, sym, subst, take, refl, get_or, Bool, true, false, List, [], ◌∷◌, ◌++◌, All, Contains, length}
 use Rattle.std.proofs.lemmas.List.{append-nil, append_assoc, get_or_append_left}
 use Rattle.std.proofs.lemmas.List.Elements.{All-contains, All-contains_itself, All-nil, All-push, All-weaker, Contains-append_left}
 use Rattle.std.specs.Prelude.{IsTrue}
@@ -23,9 +23,6 @@ goes_one xs ys x e = record { more = x ∷ []; is = e }
 
 pub stays_in : {X : Type 0} (xs ys : List X) (x : X) → GoesOn xs ys → Contains xs x → Contains ys x
 stays_in xs ys x g c = subst (λ l. Contains l x) (sym g.is) (Contains-append_left xs g.more x c)
-
-pub longer : {X : Type 0} (xs ys : List X) → GoesOn xs ys → length xs ≤ length ys
-longer xs ys g = let e = ap length g.is in omega (arith, e, length-append xs g.more)
 
 pub same_place : {X : Type 0} (xs ys : List X) (k : ℕ) (x : X) → GoesOn xs ys → k < length xs → get_or ys k x ≡ get_or xs k x
 same_place xs ys k x g lt = ap (λ l. get_or l k x) g.is ∙ get_or_append_left xs g.more x k lt

@@ -7,7 +7,6 @@ pub mod NotFound
 pub mod Passing
 pub mod UsedLaw
 pub mod Marking
-pub mod BuildLemmas
 pub mod UsedPlanes
 pub mod PairSteps
 pub mod SearchSteps

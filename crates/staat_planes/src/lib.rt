@@ -2,14 +2,12 @@
 #![tactic(auto)]
 
 mod build;
-mod facet_planes;
 mod graph;
 mod leads;
 mod marked_planes;
 mod pairs;
 mod refusal;
 mod search;
-mod set_planes;
 mod steps;
 mod table;
 
