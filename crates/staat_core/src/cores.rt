@@ -1,7 +1,7 @@
 // A core: pairs of pieces, and the planes of their facets.
-ghost use Rattle.std.specs.Prelude.{◌≡◌, ◌≢◌, ◌+◌, ◌<◌, ◌≤◌, ◌∷◌, [], ◌++◌, All, Contains, IfSome, IsTrue, MatchOption};
-ghost use Rattle.std.specs.Prelude.{false, length};
+ghost use Rattle.std.specs.Prelude.{◌≡◌, ◌≢◌, ◌⊎◌, ◌<◌, ◌≤◌, All, Contains, IfSome, IsTrue, MatchOption, length};
 ghost use Rattle.staat_vec.specs.Vectors.{IsWithin, origin};
+ghost use Rattle.staat_model.specs.declared.certificate.Arc.{Arc as ArcValue};
 ghost use Rattle.staat_core.specs.Cores.{
   GoesOn,
   HasCanons,
@@ -186,8 +186,10 @@ impl Core {
         requires { HasRoom self.old }
         ensures room { HasRoom self.new }
         ensures planes { core_planes self.new ≡ core_planes self.old }
-        ensures pushed { IsTrue result → core_pairs self.new ≡ core_pairs self.old ++ pair ∷ [] }
-        ensures same { result ≡ false → core_pairs self.new ≡ core_pairs self.old }
+        ensures pairs { GoesOn (core_pairs self.old) (core_pairs self.new) }
+        ensures each { (x : ArcValue) → Contains (core_pairs self.new) x
+            → Contains (core_pairs self.old) x ⊎ (x ≡ pair) }
+        ensures pushed { IsTrue result → Contains (core_pairs self.new) pair }
     {
         if self.count >= MOST_PAIRS {
             return false;
@@ -204,9 +206,10 @@ impl Core {
         requires facets { All (λ n. n ≢ origin) facets.now }
         ensures room { HasRoom self.new }
         ensures planes { GoesOn (core_planes self.old) (core_planes self.new) }
-        ensures put { IsTrue result → HasCanons (core_planes self.new) facets.now }
-        ensures pushed { IsTrue result → core_pairs self.new ≡ core_pairs self.old ++ pair ∷ [] }
-        ensures same { result ≡ false → core_pairs self.new ≡ core_pairs self.old }
+        ensures pairs { GoesOn (core_pairs self.old) (core_pairs self.new) }
+        ensures each { (x : ArcValue) → Contains (core_pairs self.new) x
+            → Contains (core_pairs self.old) x ⊎ ((x ≡ pair) × HasCanons (core_planes self.new) facets.now) }
+        ensures pushed { IsTrue result → Contains (core_pairs self.new) pair }
     {
         if !self.put_facets(facets) {
             return false;
