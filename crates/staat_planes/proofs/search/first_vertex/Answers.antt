@@ -22,15 +22,9 @@ returns-then-rules_out_all-clause-first g c parts planes made knows are =
     none_serve (g.T.Trial.serves parts c.args.w) (vertices planes)
     (λ v. c.rules_out_all.ensures.none c.if-rules_out_all.true parts v made (c.first_few.ensures.knows parts knows))
 
-pub returns-in-First-clause-among : goal.returns-in-First-clause-among
-returns-in-First-clause-among g c = c.in-First.ensures.among
-
 pub returns-in-First-first_passing-clause-first : goal.returns-in-First-first_passing-clause-first
 returns-in-First-first_passing-clause-first g c parts planes made knows are =
     c.in-First-first_passing.ensures.first parts planes made (c.rules_out_all.ensures.knows parts (c.first_few.ensures.knows parts knows)) are
-
-pub returns-in-First-first_passing-clause-among : goal.returns-in-First-first_passing-clause-among
-returns-in-First-first_passing-clause-among g c = c.in-First-first_passing.ensures.among
 
 pub returns-in-Nothing-first_passing-clause-first : goal.returns-in-Nothing-first_passing-clause-first
 returns-in-Nothing-first_passing-clause-first g c parts planes made knows are =

@@ -44,15 +44,9 @@ loop-k-preserved g c =
           (subst (λ h. All (λ v. serves v → ⊥) (crossings h ns)) (sym row.is) (All-weaker (IsOn plane) (λ v. serves v → ⊥) none (crossings plane ns) row.on));
     }
 
-pub rules_out-requires-clause-size : goal.rules_out-requires-clause-size
-rules_out-requires-clause-size g c = c.in-Some.ensures.row.plane.within
-
 pub returns-then-not-rules_out-clause-passed : goal.returns-then-not-rules_out-clause-passed
 returns-then-not-rules_out-clause-passed g c = λ parts made knows.
     subst (ArePassed (g.T.Trial.serves parts c.args.w) (vertices_left c.args.table.now.planes c.args.pairs.now)) (sym c.in-Some.ensures.left) (c.loop-k.invariant.passed parts made knows)
-
-pub end_row-requires-clause-some : goal.end_row-requires-clause-some
-end_row-requires-clause-some g c = c.in-Some.ensures.row.some
 
 pub returns-in_default-clause-passed : goal.returns-in_default-clause-passed
 returns-in_default-clause-passed g c = λ parts made knows.

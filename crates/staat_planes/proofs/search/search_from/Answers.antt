@@ -44,9 +44,6 @@ returns-in-Some-served_at-clause-first g c parts made knows =
     c.in-Some.ensures.crossing
     (c.in-Some-served_at.ensures.served parts made (c.pass_rows.ensures.knows parts known))
 
-pub returns-in-Some-served_at-clause-among : goal.returns-in-Some-served_at-clause-among
-returns-in-Some-served_at-clause-among g c = c.in-Some-served_at.ensures.among
-
 pub returns-clause-first : goal.returns-clause-first
 returns-clause-first g c parts made knows =
     let end : c.loop-k._k ≡ c.args.limit = (let a = c.loop-k-test.false in let b = c.loop-k.auto._k-end in omega (arith, a, b)) in

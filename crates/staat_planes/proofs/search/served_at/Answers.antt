@@ -6,9 +6,6 @@ use Rattle.staat_vec.specs.declared.vector.TheConstants.{DIRECTION}
 use Rattle.staat_vec.proofs.Canons.{negative-negative}
 use Rattle.staat_planes.proofs.search.served_at.Goals as goal
 
-pub returns-in-Neither-clause-among : goal.returns-in-Neither-clause-among
-returns-in-Neither-clause-among g c = tt
-
 pub returns-in-Neither-clause-served : goal.returns-in-Neither-clause-served
 returns-in-Neither-clause-served g c = λ parts made knows.
     let Not = λ (v : V3). g.T.Trial.serves parts c.args.w v → ⊥ in

@@ -31,12 +31,6 @@ returns-then-self-2-clause-left c =
     let long = count_is c.args.table.now.planes p c.requires in
     next_row c.args.table.now.planes (numbers_of p) p.first p.second (omega (arith, long, c.if-self-2.true)) (omega (arith, long, c.if-self.true))
 
-pub returns-then-self-2-clause-end : goal.returns-then-self-2-clause-end
-returns-then-self-2-clause-end c = λ h. h
-
-pub returns-else-self-clause-left : goal.returns-else-self-clause-left
-returns-else-self-clause-left c = refl
-
 pub returns-else-self-clause-end : goal.returns-else-self-clause-end
 returns-else-self-clause-end c =
     elim c.else-self.branch [

@@ -5,9 +5,6 @@ use Rattle.staat_planes.proofs.table.PlaneTable.leads_between.Goals as goal
 pub loop-i-init : goal.loop-i-init
 loop-i-init c = none_looked_at c.args.self.now c.args.heading.now.d c.args.a c.args.b c.neither-leads.result c.neither-leads.ensures.ahead c.neither-leads.ensures.behind
 
-pub loop-j-init : goal.loop-j-init
-loop-j-init c = c.loop-i.invariant
-
 pub loop-j-preserved : goal.loop-j-preserved
 loop-j-preserved c =
     let one = c.leads_both_ways in
