@@ -1,17 +1,12 @@
 -- A list of facets has at most twice as many members as there are planes.
-use Rattle.std.proofs.Common.{◌≡◌, ◌⊎◌, inl, inr, suc, ◌*◌, ◌≤◌, arith, ap, sym, ◌∙◌, subst, refl, List, [], ◌∷◌, ◌++◌, length, Contains, ⊎_elim, length-append}
+use Rattle.std.proofs.Common.{◌*◌, ◌≤◌, arith, ap, ◌∙◌, subst, List, ◌++◌, length, Contains, ⊎_elim, length-append}
 use Rattle.std.specs.Prelude.{map}
-use Rattle.std.specs.List.Sorted.{IsStrictlySortedBy}
-use Rattle.std.specs.declared.cmp.Ordering.TheVariants.{Less, Equal}
-use Rattle.std.specs.Cmp.{tied_itself}
 use Rattle.std.proofs.lemmas.List.{length-map}
-use Rattle.std.proofs.lemmas.List.Elements.{All-contains, All-from_recursion, Contains-append_left, Contains-append_right}
+use Rattle.std.proofs.lemmas.List.Elements.{All-contains, Contains-append_left, Contains-append_right}
 use Rattle.staat_vec.specs.declared.vector.V3.{V3}
 use Rattle.staat_vec.specs.Primitives.{canon}
-use Rattle.staat_vec.specs.Vectors.{negative, vector_cmp}
+use Rattle.staat_vec.specs.Vectors.{negative}
 use Rattle.staat_vec.proofs.Canons.{canon-either, negative-negative}
-use Rattle.staat_vec.proofs.Unique.{Contains-cases, Contains-front, Contains-later, Contains-nothing}
-use Rattle.staat_vec.proofs.VectorOrder.{vector_total}
 use Rattle.staat_pairs.specs.Tables.{AreTableFacets, IsTableFacet}
 use Rattle.staat_vec.proofs.ListLaws.{Contains-map}
 use Rattle.staat_vec.proofs.VectorLists.{length-le_from_contains}

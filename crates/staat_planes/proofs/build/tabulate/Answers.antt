@@ -1,5 +1,4 @@
-use Rattle.std.proofs.Common.{◌≤◌, List, ap, le_trans, length, subst, sym}
-use Rattle.std.proofs.lemmas.Result.{err_from_is_err_and}
+use Rattle.std.proofs.Common.{◌≤◌, List, ap, length, subst, sym}
 use Rattle.staat_vec.specs.declared.vector.V3.{V3}
 use Rattle.staat_model.specs.Planes.{ArePlanes}
 use Rattle.staat_planes.specs.Refusals.{IsTableWithin}
@@ -16,15 +15,7 @@ returns-then-count-limit g c =
       many = c.if-count-limit.true;
     }
 
-pub returns-in_err-table : goal.returns-in_err-table
-returns-in_err-table g c =
-    let p = err_from_is_err_and c.from_residual.result c.from_residual.ensures.1 in
-    rw (p.1, p.2) tt
-
 pub returns : goal.returns
 returns g c =
     subst (IsTableWithin c.args.sound.now c.args.of c.args.limit) (sym c.seal.ensures)
     (record { table = c.in_ok-table.ensures; few = subst (λ (ps : List V3). length ps ≤ c.args.limit) c.planes-count.ensures.is c.if-count-limit.false })
-
-pub seal-requires : goal.seal-requires
-seal-requires g c = le_trans (subst (λ (ps : List V3). length ps ≤ c.args.limit) c.planes-count.ensures.is c.if-count-limit.false) c.requires.most

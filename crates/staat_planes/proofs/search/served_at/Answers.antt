@@ -1,4 +1,4 @@
-use Rattle.std.proofs.Common.{◌∙◌, ◌∷◌, [], ap, inl, inr, refl, subst, sym}
+use Rattle.std.proofs.Common.{◌∙◌, ◌∷◌, [], ap, inl, inr, subst, sym}
 use Rattle.std.proofs.lemmas.List.Elements.{All-cons, All-nil}
 use Rattle.staat_vec.specs.declared.vector.V3.{V3}
 use Rattle.staat_vec.specs.Vectors.{negative}
@@ -12,14 +12,6 @@ returns-in-Neither-clause-served g c = λ parts made knows.
     let d = c.args.d in
     let none = c.in-Neither.ensures.tried parts made knows in
     All-cons Not d (negative d ∷ []) none.0 (All-cons Not (negative d) [] none.1 (All-nil Not))
-
-pub returns-in-Ahead-clause-among : goal.returns-in-Ahead-clause-among
-returns-in-Ahead-clause-among g c = record { size = c.requires.size; some = c.requires.some; among = c.in-Ahead.ensures.among }
-
-pub returns-in-Ahead-clause-served : goal.returns-in-Ahead-clause-served
-returns-in-Ahead-clause-served g c = λ parts made knows.
-    let is = c.in-Ahead.ensures.tried parts made knows in
-    record { first = inl (refl, is.0); found_is = is.1 }
 
 pub returns-in-Opposite-clause-among : goal.returns-in-Opposite-clause-among
 returns-in-Opposite-clause-among g c = record {

@@ -5,11 +5,6 @@ use Rattle.staat_planes.specs.PairOrder.{numbers_of, planes_at, rest_of_row, row
 use Rattle.staat_planes.proofs.PairSteps.{count_is}
 use Rattle.staat_planes.proofs.pairs.PlanePairs.end_row.Goals as goal
 
-pub returns-clause-place : goal.returns-clause-place
-returns-clause-place c =
-    let p = c.requires.place in
-    record { room = p.room; most = p.most; numbers = p.numbers; first = p.first; order = omega (arith, p.order, c.requires.some) }
-
 pub returns-clause-left : goal.returns-clause-left
 returns-clause-left c =
     let planes = c.args.table.now.planes in

@@ -1,4 +1,4 @@
-use Rattle.std.proofs.Common.{◌≡◌, ◌∙◌, ◌++◌, ◌+◌, ◌<◌, ◌≤◌, ℕ, List, ap, arith, drop, length, refl, sym, ⊎_elim}
+use Rattle.std.proofs.Common.{◌≡◌, ◌∙◌, ◌++◌, ◌+◌, ◌<◌, ◌≤◌, ℕ, List, ap, arith, drop, length, sym, ⊎_elim}
 use Rattle.std.specs.Prelude.{slice_index}
 use Rattle.std.proofs.lemmas.Bool.{cases_lt}
 use Rattle.std.proofs.lemmas.List.{drop_all, drop_more}
@@ -20,11 +20,6 @@ next_row planes ks i j lt end =
     (λ last. nothing_left planes ks (i + 1) (i + 1 + 1) (omega arith) (omega arith) ∙ sym (nothing_left planes ks i j end last))
     (cases_lt (i + 1) (length ks))
 
-pub returns-then-self-2-clause-place : goal.returns-then-self-2-clause-place
-returns-then-self-2-clause-place c =
-    let p = c.requires in
-    record { room = p.room; most = p.most; numbers = p.numbers; first = omega arith; order = omega arith }
-
 pub returns-then-self-2-clause-left : goal.returns-then-self-2-clause-left
 returns-then-self-2-clause-left c =
     let p = c.args.self.now in
@@ -37,9 +32,3 @@ returns-else-self-clause-end c =
       | else-self-via-then-self+else-self-2 w ↦ λ h. let le = w.if-self-2.false in omega (arith, le)
       | else-self-via-else-self w ↦ λ h. let lt = w.if-self.false in absurd (omega (arith, lt, h))
     ]
-
-pub overflow_add-self : goal.overflow_add-self
-overflow_add-self c = let first = c.requires.first in let most = c.requires.most in omega (arith, first, most)
-
-pub overflow_add-self-then-self-2 : goal.overflow_add-self-then-self-2
-overflow_add-self-then-self-2 c = let first = c.requires.first in let most = c.requires.most in omega (arith, first, most)
