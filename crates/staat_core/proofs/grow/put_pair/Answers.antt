@@ -19,9 +19,3 @@ returns-then-leads-2 g c = record {
       (meets_behind parts c.args.pair c.facets.result.now (c.facets.ensures.all parts speaks) c.args.heading.now.d (c.past-leads.ensures.behind.0 c.if-leads-2.true))
       c.put-then-leads-2.ensures.ahead leads;
 }
-
-pub has-requires : goal.has-requires
-has-requires g c = record { a = c.requires.small.a; b = c.requires.small.b }
-
-pub put-requires : goal.put-requires
-put-requires g c = record { a = c.requires.small.a; b = c.requires.small.b; reversed = c.requires.reversed }

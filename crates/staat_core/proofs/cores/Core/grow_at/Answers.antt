@@ -45,12 +45,6 @@ returns g c = record { core = c.loop-k.invariant.core; grows = c.loop-k.invarian
 pub returns-then-not-grows-clause-grows : goal.returns-then-not-grows-clause-grows
 returns-then-not-grows-clause-grows g c = grows_not c.args.self.now
 
-pub shut-requires-clause-reversed : goal.shut-requires-clause-reversed
-shut-requires-clause-reversed g c = c.loop-k.invariant.reversed
-
-pub wanted-requires : goal.wanted-requires
-wanted-requires g c = c.loop-k.invariant.core
-
 pub take-requires : goal.take-requires
 take-requires g c = record { core = c.loop-k.invariant.core; pair = c.in-Some-wanted.ensures }
 

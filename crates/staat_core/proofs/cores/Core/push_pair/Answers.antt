@@ -2,14 +2,8 @@ use Rattle.std.proofs.Common.{◌≡◌, ◌<◌, ◌+◌, ◌∙◌, ◌++◌, 
 use Rattle.std.proofs.lemmas.List.{length-set, take_more_set}
 use Rattle.std.proofs.lemmas.List.Elements.{Contains-push, Contains-push_cases}
 use Rattle.staat_core.specs.Cores.{core_pairs}
-use Rattle.staat_core.proofs.Growing.{goes_one, goes_same}
+use Rattle.staat_core.proofs.Growing.{goes_one}
 use Rattle.staat_core.proofs.cores.Core.push_pair.Goals as goal
-
-pub returns-then-self-ge-MOST_PAIRS-clause-pairs : goal.returns-then-self-ge-MOST_PAIRS-clause-pairs
-returns-then-self-ge-MOST_PAIRS-clause-pairs c = goes_same (core_pairs c.args.self.now) (core_pairs c.args.self.now) refl
-
-pub returns-then-self-ge-MOST_PAIRS-clause-each : goal.returns-then-self-ge-MOST_PAIRS-clause-each
-returns-then-self-ge-MOST_PAIRS-clause-each c x h = inl h
 
 pub returns : goal.returns
 returns c =
@@ -25,6 +19,3 @@ returns c =
       each = λ x h. ⊎_elim (λ old. inl old) (λ e. inr (sym e)) (Contains-push_cases (core_pairs k) c.args.pair x (subst (λ l. Contains l x) pushed h));
       pushed = λ told. subst (λ l. Contains l c.args.pair) (sym pushed) (Contains-push (core_pairs k) c.args.pair);
     }
-
-pub bounds-self-self : goal.bounds-self-self
-bounds-self-self c = c.if-self-ge-MOST_PAIRS.false

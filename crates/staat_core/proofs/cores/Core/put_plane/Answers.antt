@@ -2,14 +2,8 @@ use Rattle.std.proofs.Common.{◌≡◌, ◌<◌, ◌+◌, ◌∙◌, ◌∷◌,
 use Rattle.std.proofs.lemmas.List.Elements.{Contains-push}
 use Rattle.std.proofs.lemmas.List.{length-set, take_more_set}
 use Rattle.staat_core.specs.Cores.{core_planes}
-use Rattle.staat_core.proofs.Growing.{axes_kept, goes_one, goes_same}
+use Rattle.staat_core.proofs.Growing.{axes_kept, goes_one}
 use Rattle.staat_core.proofs.cores.Core.put_plane.Goals as goal
-
-pub returns-then-has_plane-clause-planes : goal.returns-then-has_plane-clause-planes
-returns-then-has_plane-clause-planes c = goes_same (core_planes c.args.self.now) (core_planes c.args.self.now) refl
-
-pub returns-then-self-ge-MOST_CORE_PLANES-clause-planes : goal.returns-then-self-ge-MOST_CORE_PLANES-clause-planes
-returns-then-self-ge-MOST_CORE_PLANES-clause-planes c = goes_same (core_planes c.args.self.now) (core_planes c.args.self.now) refl
 
 pub returns : goal.returns
 returns c =
