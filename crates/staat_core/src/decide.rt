@@ -74,13 +74,7 @@ impl Core {
     /// `w` is not empty, and the components of `g` are at most [`NORMAL`] in absolute value. The core is one for this
     /// source. It is asked where the plane crosses its own planes, and grows where it does not hold the set there. Where
     /// it answers no, mostly something moves; else the core has no more room. It takes no memory.
-    pub fn holds_on<S: PairSource>(
-        &mut self,
-        source: &S,
-        w: PartSet,
-        moving: Moving,
-        g: V3,
-    ) -> bool
+    pub fn holds_on<S: PairSource>(&mut self, source: &S, w: PartSet, moving: Moving, g: V3) -> bool
         requires core { IsCore (S.pairs source.now) (S.speaks source.now) self.old }
         requires some { IsNonempty w }
         requires g { IsWithin NORMAL g }

@@ -59,9 +59,14 @@ one_found P m n old one new found here either = (
 row_found : (P : ℕ → ℕ → Type 0) (m n : ℕ) (r : Bool) → IsFound P m n r → ((j : ℕ) → P m j → j < n) → IsFound P (m + 1) 0 r
 row_found P m n r found few = (
   λ t. let (i, j, before, p) = found.0 t in (i, j, inl (⊎_elim {C = i < m + 1} (λ lt. omega (arith, lt)) (λ at. let e = at.0 in omega (arith, e)) before), p),
-  λ (i, j, before, p). found.1 (i, j, ⊎_elim {C = IsBefore m n i j}
-      (λ lt. ⊎_elim {C = IsBefore m n i j} (λ less. inl less) (λ e. inr (e, few j (subst (λ k. P k j) e p))) (lt_one_more_cases i m lt))
-      (λ at. let none = at.1 in absurd (omega (arith, none))) before, p),
+  λ (i, j, before, p). found.1 (
+    i,
+    j,
+    ⊎_elim {C = IsBefore m n i j}
+        (λ lt. ⊎_elim {C = IsBefore m n i j} (λ less. inl less) (λ e. inr (e, few j (subst (λ k. P k j) e p))) (lt_one_more_cases i m lt))
+        (λ at. let none = at.1 in absurd (omega (arith, none))) before,
+    p,
+  ),
 )
 
 -- ---- arcs of a table
