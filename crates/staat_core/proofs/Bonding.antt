@@ -1,22 +1,27 @@
 -- Parts that stay together.
-use Rattle.std.proofs.Common.{◌≡◌, ◌≢◌, ◌⊎◌, ⊎_elim, inl, inr, ℕ, ◌≤◌, arith, sym, subst, refl, ap, List}
+use Rattle.std.proofs.Common.{◌≡◌, ◌≢◌, ◌⊎◌, ⊎_elim, inl, inr, ℕ, ◌≤◌, sym, subst, refl, List}
 use Rattle.std.specs.FinSet as set
 use Rattle.staat_vec.specs.declared.vector.V3.{V3}
 use Rattle.staat_model.specs.declared.assembly.Part.{Part}
 use Rattle.staat_model.specs.declared.certificate.Arc.{Arc}
 use Rattle.staat_model.specs.declared.set.PartSet.{PartSet}
 use Rattle.staat_model.specs.Cores.{IsFreeInCore}
-use Rattle.staat_model.specs.Sets.{Has, IsSubset, single}
+use Rattle.staat_model.specs.Sets.{Has, IsSide, single}
 use Rattle.staat_model.proofs.FreeSides.{member_or}
-use Rattle.staat_model.proofs.RestrictLemmas.{nonempty_or}
+use Rattle.staat_model.proofs.OneOutcome.{not_single}
+use Rattle.staat_model.proofs.OtherSides.{other_side}
 use Rattle.staat_model.proofs.SetMembers.{has-difference, has-single, has-union}
-use Rattle.staat_model.proofs.SetSizes.{len-single, one_is}
 use Rattle.staat_model.proofs.SetWords.{same_members}
 use Rattle.staat_core.specs.declared.joins.Moving.{Moving}
 use Rattle.staat_core.specs.declared.joins.Moving.TheVariants.{AnySide, OnePart}
 use Rattle.staat_core.specs.Bonds.{AreTogether}
 use Rattle.staat_core.specs.Moves.{HoldsMoves}
 use Rattle.staat_vec.proofs.Naturals.{same_or}
+use Rattle.staat_core.proofs.Holding.{single_within}
+
+-- one part of a set is a side of it, if it is not the whole set
+part_side : (w : PartSet) (p : ℕ) → Has w p → (w ≡ single p → ⊥) → IsSide w (single p)
+part_side w p has more = record { nonempty = (p, (has-single p p).1 refl); within = single_within w p has; proper = λ e. more (sym e) }
 
 -- two parts that hold each other do not come apart
 module _ (parts : List Part) (arcs : List Arc) (d : V3) (p q : ℕ) (both : PartSet) (is : both ≡ set.union (single p) (single q)) (held : HoldsMoves parts arcs AnySide both d) where
@@ -33,11 +38,7 @@ module _ (parts : List Part) (arcs : List Arc) (d : V3) (p q : ℕ) (both : Part
   apart_free : (a b : ℕ) (s r : PartSet) → Has both a → Has both b → ((x : ℕ) → Has both x → (x ≡ a) ⊎ (x ≡ b)) → a ≢ b → IsFreeInCore parts arcs s r d → Has s a → Has r b → ⊥
   apart_free a b s r a_in b_in only apart free a_s b_r =
       held (single a)
-      (record {
-        nonempty = (a, (has-single a a).1 refl);
-        within = λ x h. subst (Has both) (sym ((has-single a x).0 h)) a_in;
-        proper = λ e. apart (sym ((has-single a b).0 (subst (λ (u : PartSet). Has u b) (sym e) b_in)));
-      })
+      (part_side both a a_in (λ e. apart (sym ((has-single a b).0 (subst (λ (u : PartSet). Has u b) e b_in)))))
       (λ arc listed from to m.
       let at : arc.a ≡ a = (has-single a arc.a).0 from in
       let out = (has-difference both (single a) arc.b).0 to in
@@ -71,27 +72,14 @@ module _ (parts : List Part) (arcs : List Arc) (w : PartSet) (d : V3) where
   pub together_from : (root p q : ℕ) → AreTogether parts arcs w d root p → AreTogether parts arcs w d root q → AreTogether parts arcs w d p q
   together_from root p q t u s free = let a = t s free in let b = u s free in (λ h. b.0 (a.1 h), λ h. a.0 (b.1 h))
 
-  -- where all stay together, nothing moves away from the rest
-  no_side : ((p q : ℕ) → Has w p → Has w q → AreTogether parts arcs w d p q) → (s : PartSet) (p q : ℕ) → Has w p → Has w q → Has s p → (Has s q → ⊥) → IsFreeInCore parts arcs s (set.difference w s) d → ⊥
-  no_side all s p q p_in q_in p_s q_out free = q_out ((all p q p_in q_in s free).0 p_s)
-
-  another : (p : ℕ) → 2 ≤ set.len w → Has w p → (q : ℕ) × Has w q × (q ≢ p)
-  another p two has = elim (nonempty_or (set.difference w (single p))) [
-    | inl some ↦ let h = (has-difference w (single p) some.0).0 some.1 in (some.0, h.0, λ e. h.1 ((has-single p some.0).1 e))
-    | inr none ↦ absurd (
-        let only : IsSubset w (single p) = λ q h. ⊎_elim {C = Has (single p) q} (λ m. m) (λ out. absurd (none q ((has-difference w (single p) q).1 (h, out)))) (member_or (single p) q) in
-        let e = ap set.len (one_is w p has only) in
-        let one = len-single p in
-        omega (arith, e, one, two))
-  ]
-
-  pub together_hold : (moving : Moving) → 2 ≤ set.len w → ((p q : ℕ) → Has w p → Has w q → AreTogether parts arcs w d p q) → HoldsMoves parts arcs moving w d
-  together_hold AnySide two all s side free =
+  -- where all stay together, no side moves away from the rest
+  sides_hold : ((p q : ℕ) → Has w p → Has w q → AreTogether parts arcs w d p q) → (s : PartSet) → IsSide w s → IsFreeInCore parts arcs s (set.difference w s) d → ⊥
+  sides_hold all s side free =
       let p = side.nonempty in
       side.proper (same_members s w side.within (λ q h. (all p.0 q (side.within p.0 p.1) h s free).0 p.1))
-  together_hold OnePart two all s (p, has, inl e) free =
-      let q = another p two has in
-      no_side all s p q.0 has q.1 (subst (λ (u : PartSet). Has u p) (sym e) ((has-single p p).1 refl)) (λ h. q.2 ((has-single p q.0).0 (subst (λ (u : PartSet). Has u q.0) e h))) free
-  together_hold OnePart two all s (p, has, inr e) free =
-      let q = another p two has in
-      no_side all s q.0 p q.1 has (subst (λ (u : PartSet). Has u q.0) (sym e) ((has-difference w (single p) q.0).1 (q.1, λ h. q.2 ((has-single p q.0).0 h)))) (λ h. ((has-difference w (single p) p).0 (subst (λ (u : PartSet). Has u p) e h)).1 ((has-single p p).1 refl)) free
+
+  pub together_hold : (moving : Moving) → 2 ≤ set.len w → ((p q : ℕ) → Has w p → Has w q → AreTogether parts arcs w d p q) → HoldsMoves parts arcs moving w d
+  together_hold AnySide two all s side free = sides_hold all s side free
+  together_hold OnePart two all s (p, has, which) free =
+      let side = part_side w p has (λ e. not_single w p e two) in
+      sides_hold all s (⊎_elim (λ e. subst (IsSide w) (sym e) side) (λ e. subst (IsSide w) (sym e) (other_side w (single p) side)) which) free

@@ -1,17 +1,16 @@
 -- How the lists of a core grow.
-use Rattle.std.proofs.Common.{◌≡◌, ◌∙◌, ℕ, ◌+◌, ◌<◌, ◌≤◌, arith, ap, sym, subst, take, refl, get_or, Bool, true, false, List, [], ◌∷◌, ◌++◌, All, Contains, length, length-append}
+use Rattle.std.proofs.Common.{◌≡◌, ◌⊎◌, ⊎_elim, ◌∙◌, ℕ, ◌<◌, arith, ap, sym, subst, take, refl, get_or, List, [], ◌∷◌, ◌++◌, All, Contains, length}
 use Rattle.std.proofs.lemmas.List.{append-nil, append_assoc, get_or_append_left}
-use Rattle.std.proofs.lemmas.List.Elements.{All-contains, All-contains_itself, All-nil, All-push, All-weaker, Contains-append_left, Contains-append_right}
-use Rattle.std.specs.Prelude.{IsTrue}
+use Rattle.std.proofs.lemmas.List.Elements.{All-contains, All-contains_itself, All-nil, All-weaker, Contains-append_left}
 use Rattle.staat_vec.specs.declared.vector.V3.{V3}
 use Rattle.staat_vec.specs.Primitives.{canon}
 use Rattle.staat_model.specs.declared.assembly.Part.{Part}
 use Rattle.staat_model.specs.declared.certificate.Arc.{Arc}
+use Rattle.staat_model.proofs.Members.{All-from_members}
 use Rattle.staat_model.specs.Planes.{axes}
 use Rattle.staat_core.specs.Sources.{AreFacetsOf}
 use Rattle.staat_core.specs.declared.cores.Core.{Core}
 use Rattle.staat_core.specs.Cores.{StandIn, GoesOn, HasGrown, HasCanons, HasPlanesOf, HasRoom, IsCore, IsEmptyCore, core_pairs, core_planes}
-use Rattle.staat_vec.proofs.Unique.{Contains-front}
 
 pub goes_same : {X : Type 0} (xs ys : List X) → ys ≡ xs → GoesOn xs ys
 goes_same xs ys e = record { more = []; is = e ∙ sym (append-nil xs) }
@@ -24,12 +23,6 @@ goes_one xs ys x e = record { more = x ∷ []; is = e }
 
 pub stays_in : {X : Type 0} (xs ys : List X) (x : X) → GoesOn xs ys → Contains xs x → Contains ys x
 stays_in xs ys x g c = subst (λ l. Contains l x) (sym g.is) (Contains-append_left xs g.more x c)
-
-pub last_in : {X : Type 0} (xs : List X) (x : X) → Contains (xs ++ x ∷ []) x
-last_in xs x = Contains-append_right xs (x ∷ []) x (Contains-front x [])
-
-pub longer : {X : Type 0} (xs ys : List X) → GoesOn xs ys → length xs ≤ length ys
-longer xs ys g = let e = ap length g.is in omega (arith, e, length-append xs g.more)
 
 pub same_place : {X : Type 0} (xs ys : List X) (k : ℕ) (x : X) → GoesOn xs ys → k < length xs → get_or ys k x ≡ get_or xs k x
 same_place xs ys k x g lt = ap (λ l. get_or l k x) g.is ∙ get_or_append_left xs g.more x k lt
@@ -59,18 +52,6 @@ planes_kept parts xs ys pairs g = All-weaker (HasPlanesOf parts xs) (HasPlanesOf
 pub axes_kept : (xs ys : List V3) → GoesOn xs ys → StandIn axes xs → StandIn axes ys
 axes_kept xs ys g = All-weaker (Contains xs) (Contains ys) (λ n c. stays_in xs ys n g c) axes
 
-pub plane_pushed : (k m : Core) (n : V3) → HasRoom k → k.used < 96 → length m.planes ≡ 96 → m.used ≡ k.used + 1 → core_planes m ≡ core_planes k ++ n ∷ [] → m.pairs ≡ k.pairs → m.count ≡ k.count → HasRoom m
-plane_pushed k m n is few room used e pairs count = record {
-  long = ap length pairs ∙ is.long;
-  few = subst (λ c. c ≤ 2016) (sym count) is.few;
-  room = room;
-  most = omega (arith, few, used);
-  axes = axes_kept (core_planes k) (core_planes m) (goes_one (core_planes k) (core_planes m) n e) is.axes;
-}
-
-pub pairs_same : (k m : Core) → m.pairs ≡ k.pairs → m.count ≡ k.count → core_pairs m ≡ core_pairs k
-pairs_same k m e n = λ i. take (n i) (e i)
-
 pub axes_room : (k : Core) → length k.pairs ≡ 2016 → k.count ≡ 0 → length k.planes ≡ 96 → k.used ≡ 3 → core_planes k ≡ axes → HasRoom k
 axes_room k long none room used e = record {
   long = long;
@@ -82,38 +63,21 @@ axes_room k long none room used e = record {
 
 -- ---- cores
 
--- one more pair, or only more planes
-pub core_more : (pairs : List Arc) (speaks : List Part → Type 0) (k m : Core) (pair : Arc) → IsCore pairs speaks k → HasRoom m → GoesOn (core_planes k) (core_planes m) → Contains pairs pair
-    → ((parts : List Part) → speaks parts → HasPlanesOf parts (core_planes m) pair) → core_pairs m ≡ core_pairs k ++ pair ∷ [] → IsCore pairs speaks m
-core_more pairs speaks k m pair is room planes listed has e = record {
+-- the pairs that there were, and one more at most, whose planes are there
+pub core_taken : (pairs : List Arc) (speaks : List Part → Type 0) (k m : Core) (pair : Arc) (facets : List V3) → IsCore pairs speaks k → Contains pairs pair → HasRoom m → GoesOn (core_planes k) (core_planes m)
+    → ((parts : List Part) → speaks parts → AreFacetsOf parts pair facets) → ((x : Arc) → Contains (core_pairs m) x → Contains (core_pairs k) x ⊎ ((x ≡ pair) × HasCanons (core_planes m) facets)) → IsCore pairs speaks m
+core_taken pairs speaks k m pair facets is listed room planes are each = record {
   room = room;
-  among = subst (All (Contains pairs)) (sym e) (All-push (Contains pairs) (core_pairs k) pair is.among listed);
-  facets = λ parts sp. subst (All (HasPlanesOf parts (core_planes m))) (sym e)
-      (All-push (HasPlanesOf parts (core_planes m)) (core_pairs k) pair (planes_kept parts (core_planes k) (core_planes m) (core_pairs k) planes (is.facets parts sp)) (has parts sp));
+  among = All-from_members (Contains pairs) (core_pairs m) (λ x c. ⊎_elim (λ old. All-contains (Contains pairs) (core_pairs k) x is.among old) (λ new. subst (Contains pairs) (sym new.0) listed) (each x c));
+  facets = λ parts sp. All-from_members (HasPlanesOf parts (core_planes m)) (core_pairs m) (λ x c. ⊎_elim
+      (λ old. All-contains (HasPlanesOf parts (core_planes m)) (core_pairs k) x (planes_kept parts (core_planes k) (core_planes m) (core_pairs k) planes (is.facets parts sp)) old)
+      (λ new. subst (HasPlanesOf parts (core_planes m)) (sym new.0) (has parts sp new.1)) (each x c));
 }
-
-pub core_same : (pairs : List Arc) (speaks : List Part → Type 0) (k m : Core) → IsCore pairs speaks k → HasRoom m → GoesOn (core_planes k) (core_planes m) → core_pairs m ≡ core_pairs k → IsCore pairs speaks m
-core_same pairs speaks k m is room planes e = record {
-  room = room;
-  among = subst (All (Contains pairs)) (sym e) is.among;
-  facets = λ parts sp. subst (All (HasPlanesOf parts (core_planes m))) (sym e) (planes_kept parts (core_planes k) (core_planes m) (core_pairs k) planes (is.facets parts sp));
-}
-
--- a pair that was taken, or not
-pub core_taken : (pairs : List Arc) (speaks : List Part → Type 0) (k m : Core) (pair : Arc) (facets : List V3) (taken : Bool) → IsCore pairs speaks k → Contains pairs pair → HasRoom m → GoesOn (core_planes k) (core_planes m)
-    → ((parts : List Part) → speaks parts → AreFacetsOf parts pair facets) → (IsTrue taken → HasCanons (core_planes m) facets) → (IsTrue taken → core_pairs m ≡ core_pairs k ++ pair ∷ []) → (taken ≡ false → core_pairs m ≡ core_pairs k)
-    → IsCore pairs speaks m
-core_taken pairs speaks k m pair facets true is listed room planes are put pushed same = core_more pairs speaks k m pair is room planes listed has (pushed refl)
   where
-    has : (parts : List Part) → speaks parts → HasPlanesOf parts (core_planes m) pair
-    has parts sp =
+    has : (parts : List Part) → speaks parts → HasCanons (core_planes m) facets → HasPlanesOf parts (core_planes m) pair
+    has parts sp put =
         let h = (are parts sp).holds in
-        record { holds = record { p = h.p; q = h.q; p_is = h.p_is; q_is = h.q_is; holds = λ n f. All-contains (λ x. Contains (core_planes m) (canon x)) facets n (put refl) (h.holds.all n f) } }
-core_taken pairs speaks k m pair facets false is listed room planes are put pushed same = core_same pairs speaks k m is room planes (same refl)
-
-pub grows_taken : (k m : Core) (pair : Arc) (taken : Bool) → GoesOn (core_planes k) (core_planes m) → (IsTrue taken → core_pairs m ≡ core_pairs k ++ pair ∷ []) → (taken ≡ false → core_pairs m ≡ core_pairs k) → HasGrown k m
-grows_taken k m pair true planes pushed same = record { pairs = goes_one (core_pairs k) (core_pairs m) pair (pushed refl); planes = planes }
-grows_taken k m pair false planes pushed same = record { pairs = goes_same (core_pairs k) (core_pairs m) (same refl); planes = planes }
+        record { holds = record { p = h.p; q = h.q; p_is = h.p_is; q_is = h.q_is; holds = λ n f. All-contains (λ x. Contains (core_planes m) (canon x)) facets n put (h.holds.all n f) } }
 
 -- a core without pairs is one for each source
 pub core_empty : (pairs : List Arc) (speaks : List Part → Type 0) (k : Core) → IsEmptyCore k → IsCore pairs speaks k

@@ -1,8 +1,8 @@
 -- What a core that holds a set where planes cross says of other directions.
-use Rattle.std.proofs.Common.{◌≡◌, ◌≢◌, ◌⊎◌, ⊎_elim, inl, inr, ℕ, zero, suc, negsuc, ◌+◌, ◌<◌, ◌≤◌, ℤ, pos, ◌*ℤ◌, ◌<ℤ◌, arith, ap, sym, subst, ◌∙◌, refl, map, List, All, Contains, length}
+use Rattle.std.proofs.Common.{◌≡◌, ◌≢◌, ◌⊎◌, ⊎_elim, inl, inr, ℕ, ◌+◌, ◌<◌, ◌≤◌, ℤ, pos, ◌*ℤ◌, ◌<ℤ◌, ◌≤ℤ◌, arith, ap, sym, subst, ◌∙◌, refl, map, List, All, Contains, length}
 use Rattle.std.specs.FinSet as set
-use Rattle.std.proofs.lemmas.Int.{ints}
-use Rattle.std.proofs.lemmas.List.{get_or_default}
+use Rattle.std.proofs.lemmas.Bool.{cases_lt}
+use Rattle.std.proofs.lemmas.List.{get_or_default, get_or_past, length-take-le}
 use Rattle.std.proofs.lemmas.List.Elements.{All-contains, Contains-append_cases}
 use Rattle.staat_vec.specs.declared.vector.V3.{V3}
 use Rattle.staat_vec.specs.Primitives.{canon, primitive}
@@ -11,6 +11,7 @@ use Rattle.staat_vec.proofs.Canons.{canon-negative, negative-negative}
 use Rattle.staat_vec.proofs.Order.{not_positive_mul}
 use Rattle.staat_vec.proofs.Primitives.{IsPrimitive-some, primitive-is, primitive-negative}
 use Rattle.staat_vec.proofs.VecRing.{cross_self, cross_turned}
+use Rattle.staat_vec.proofs.VectorLaws.{cross_origin}
 use Rattle.staat_model.specs.declared.assembly.Part.{Part}
 use Rattle.staat_model.specs.declared.certificate.Arc.{Arc}
 use Rattle.staat_model.specs.declared.set.PartSet.{PartSet}
@@ -24,7 +25,7 @@ use Rattle.staat_model.proofs.CornerLemmas.{dot_multiple}
 use Rattle.staat_model.proofs.Corners.{HoldsAxes, IsCornerTowards, IsSame, corner_towards}
 use Rattle.staat_model.proofs.Differences.{from_map}
 use Rattle.staat_model.proofs.FreeSides.{member_or}
-use Rattle.staat_model.proofs.GraphLemmas.{piece_in}
+use Rattle.staat_model.proofs.GraphLemmas.{piece_in, positive_back}
 use Rattle.staat_model.proofs.PieceFacets.{meets_by_facets_lemma}
 use Rattle.staat_model.proofs.Reversed.{meets_opposite_lemma, opposite_facets_lemma}
 use Rattle.staat_model.proofs.SetMembers.{has-difference, has-single}
@@ -34,7 +35,7 @@ use Rattle.staat_pairs.specs.Tables.{back}
 use Rattle.staat_core.specs.declared.cores.Core.{Core}
 use Rattle.staat_core.specs.declared.joins.Moving.{Moving}
 use Rattle.staat_core.specs.declared.joins.Moving.TheVariants.{AnySide, OnePart}
-use Rattle.staat_core.specs.Cores.{AreLeading, GoesOn, HasGrown, HasPlanesOf, HoldsAmongFirst, HoldsWhere, HoldsWithFirst, IsCore, core_pairs, core_planes, core_plane_at}
+use Rattle.staat_core.specs.Cores.{AreLeading, GoesOn, HasGrown, HasPlanesOf, HasRoom, HoldsAmongFirst, HoldsWhere, HoldsWithFirst, IsCore, core_pairs, core_planes, core_plane_at}
 use Rattle.staat_core.specs.Moves.{HoldsMoves, IsHeldIn, IsMove}
 use Rattle.staat_core.specs.Sources.{both_ways}
 use Rattle.staat_core.proofs.Growing.{same_place}
@@ -48,7 +49,7 @@ use Rattle.staat_vec.proofs.Options.{some_injective}
 rest_of_rest : (w s : PartSet) → IsSubset s w → set.difference w (set.difference w s) ≡ s
 rest_of_rest w s within = same_members (set.difference w (set.difference w s)) s (back_in w s) (λ q h. (has-difference w (set.difference w s) q).1 (within q h, λ out. ((has-difference w s q).0 out).1 h))
 
-single_within : (w : PartSet) (p : ℕ) → Has w p → IsSubset (single p) w
+pub single_within : (w : PartSet) (p : ℕ) → Has w p → IsSubset (single p) w
 single_within w p has q h = subst (Has w) (sym ((has-single p q).0 h)) has
 
 rest_moves : (moving : Moving) (w s : PartSet) → IsMove moving w s → IsMove moving w (set.difference w s)
@@ -58,10 +59,8 @@ rest_moves OnePart w s (p, has, inr e) = (p, has, inl (ap (set.difference w) e �
 
 -- ---- from a direction to its multiples and its opposite
 
-positive_part : (k : ℕ) (x y : ℤ) → 1 ≤ k → x ≡ pos k *ℤ y → pos 0 <ℤ x → pos 0 <ℤ y
-positive_part k x (pos zero) one e h = absurd (let low = not_positive_mul k (pos zero) (omega (arith, ints)) in omega (arith, ints))
-positive_part k x (pos (suc n)) one e h = omega (arith, ints)
-positive_part k x (negsuc n) one e h = absurd (let low = not_positive_mul k (negsuc n) (omega (arith, ints)) in omega (arith, ints))
+positive_part : (k : ℕ) (x y : ℤ) → x ≡ pos k *ℤ y → pos 0 <ℤ x → pos 0 <ℤ y
+positive_part k x y e h = positive_back y x (λ low. subst (λ z. z ≤ℤ pos 0) (sym e) (not_positive_mul k y low)) h
 
 free_multiple : (parts : List Part) (core : List Arc) (s r : PartSet) (f : V3) → All IsPart parts → f ≢ origin → IsFreeInCore parts core s r (primitive f) → IsFreeInCore parts core s r f
 free_multiple parts core s r f each some free arc listed a_in b_in m =
@@ -74,7 +73,7 @@ free_multiple parts core s r f each some free arc listed a_in b_in m =
       q = m.q;
       p_is = m.p_is;
       q_is = m.q_is;
-      holds = (meets_by_facets_lemma m.p m.q (primitive f) is_p is_q).1 (λ n facet. positive_part of.factor (dot n f) (dot n (primitive f)) of.positive (dot_multiple n f (primitive f) of.factor of.multiple) (at_f n facet));
+      holds = (meets_by_facets_lemma m.p m.q (primitive f) is_p is_q).1 (λ n facet. positive_part of.factor (dot n f) (dot n (primitive f)) (dot_multiple n f (primitive f) of.factor of.multiple) (at_f n facet));
     })
 
 turned_in : (pairs : List Arc) (arc : Arc) → Contains (both_ways pairs) arc → Contains (both_ways pairs) (back arc)
@@ -100,6 +99,11 @@ held_same parts pairs moving w s f v each some held (inr e) moves free =
     (free_multiple parts (both_ways pairs) rest (set.difference w rest) f each some (free_turned parts pairs w s (primitive f) (subst (IsFreeInCore parts (both_ways pairs) s rest) e free)))
 
 -- ---- the planes of a core are there
+
+pub few_planes : (k : Core) → HasRoom k → length (core_planes k) ≤ 96
+few_planes k room =
+    let most = room.most in
+    let long = length-take-le k.used k.planes (let is = room.room in omega (arith, is, most)) in omega (arith, long, most)
 
 module _ (parts : List Part) (pairs : List Arc) (speaks : List Part → Type 0) (k : Core) (is : IsCore pairs speaks k) (sp : speaks parts) where
   plane_of : (arc : Arc) (facet : V3) → Contains (core_pairs k) arc → HoldsAt parts arc (λ p q. IsFacet p q facet) → Contains (core_planes k) (canon facet)
@@ -127,13 +131,12 @@ module _ (parts : List Part) (pairs : List Arc) (speaks : List Part → Type 0) 
   plane_read : (h : V3) (c : Contains (core_planes k) h) → core_plane_at k c.0 ≡ h
   plane_read h c = get_or_default (core_planes k) c.0 origin h c.1 ∙ c.2
 
-  pub held_on_plane : (moving : Moving) (w : PartSet) (g d : V3) (n : ℕ) → All IsPart parts → HoldsWithFirst parts k moving w g n → length (core_planes k) ≤ n → g ≢ origin → dot g d ≡ pos 0 → d ≢ origin
-      → HoldsMoves parts (both_ways (core_pairs k)) moving w d
-  held_on_plane moving w g d n each held all some on d_some s moves free =
+  pub held_on_plane : (moving : Moving) (w : PartSet) (g d : V3) → All IsPart parts → HoldsWithFirst parts k moving w g 96 → g ≢ origin → dot g d ≡ pos 0 → d ≢ origin → HoldsMoves parts (both_ways (core_pairs k)) moving w d
+  held_on_plane moving w g d each held some on d_some s moves free =
       let at = free_at_crossing_lemma parts (both_ways (core_pairs k)) (core_planes k) g s (set.difference w s) d each has_planes some d_some on free in
       let c = at.crossing in
       let place = c.h_in in
-      let here : HoldsWhere parts (core_pairs k) moving w g c.h = subst (HoldsWhere parts (core_pairs k) moving w g) (plane_read c.h place) (held place.0 (let lt = place.1 in omega (arith, lt, all))) in
+      let here : HoldsWhere parts (core_pairs k) moving w g c.h = subst (HoldsWhere parts (core_pairs k) moving w g) (plane_read c.h place) (held place.0 (let lt = place.1 in omega (arith, lt, few_planes k is.room))) in
       held_same parts (core_pairs k) moving w s (cross g c.h) at.v each c.apart (here c.apart) c.is moves at.free
 
   has_axis : (n : V3) → Contains axes n → Contains (core_planes k) n
@@ -155,7 +158,7 @@ turned_same v f e turned (inr h) = inl (h ∙ (ap (λ x. negative (primitive x))
 
 module _ (parts : List Part) (pairs : List Arc) (speaks : List Part → Type 0) (k : Core) (is : IsCore pairs speaks k) (sp : speaks parts) where
   pub held_everywhere : (moving : Moving) (w : PartSet) (d : V3) (n : ℕ) → All IsPart parts → HoldsAmongFirst parts k moving w n → length (core_planes k) ≤ n → d ≢ origin → HoldsMoves parts (both_ways (core_pairs k)) moving w d
-  held_everywhere moving w d n each held all some s moves free = go (order_or at_g.0 at_h.0)
+  held_everywhere moving w d n each held all some s moves free = go (order_or at_h.0 at_g.0)
     where
       corner : (v : V3) × IsCornerTowards (core_planes k) d v
       corner = corner_towards (core_planes k) d (axes_are parts pairs speaks k is sp) some
@@ -181,15 +184,15 @@ module _ (parts : List Part) (pairs : List Arc) (speaks : List Part → Type 0) 
       read_h : core_plane_at k at_h.0 ≡ c.h
       read_h = plane_read parts pairs speaks k is sp c.h at_h
 
-      go : (at_g.0 < at_h.0) ⊎ (at_h.0 < at_g.0) ⊎ (at_g.0 ≡ at_h.0) → ⊥
+      go : (at_h.0 < at_g.0) ⊎ (at_g.0 < at_h.0) ⊎ (at_h.0 ≡ at_g.0) → ⊥
       go (inl lt) =
-          let here : HoldsWhere parts (core_pairs k) moving w c.g c.h = subst (λ x. HoldsWhere parts (core_pairs k) moving w x c.h) read_g (subst (HoldsWhere parts (core_pairs k) moving w (core_plane_at k at_g.0)) read_h (held at_g.0 at_h.0 lt (let small = at_h.1 in omega (arith, small, all)))) in
+          let here : HoldsWhere parts (core_pairs k) moving w c.g c.h = subst (λ x. HoldsWhere parts (core_pairs k) moving w x c.h) read_g (subst (HoldsWhere parts (core_pairs k) moving w (core_plane_at k at_g.0)) read_h (held at_g.0 (let small = at_g.1 in omega (arith, small, all)) at_h.0 lt)) in
           held_same parts (core_pairs k) moving w s (cross c.g c.h) v each c.independent (here c.independent) c.is moves free_v
       go (inr (inl lt)) =
           let apart : cross c.h c.g ≢ origin = λ e. c.independent (cross_turned c.g c.h ∙ ap negative e) in
-          let here : HoldsWhere parts (core_pairs k) moving w c.h c.g = subst (λ x. HoldsWhere parts (core_pairs k) moving w x c.g) read_h (subst (HoldsWhere parts (core_pairs k) moving w (core_plane_at k at_h.0)) read_g (held at_h.0 at_g.0 lt (let small = at_g.1 in omega (arith, small, all)))) in
+          let here : HoldsWhere parts (core_pairs k) moving w c.h c.g = subst (λ x. HoldsWhere parts (core_pairs k) moving w x c.g) read_h (subst (HoldsWhere parts (core_pairs k) moving w (core_plane_at k at_h.0)) read_g (held at_h.0 (let small = at_h.1 in omega (arith, small, all)) at_g.0 lt)) in
           held_same parts (core_pairs k) moving w s (cross c.h c.g) v each apart (here apart) (turned_same v (cross c.h c.g) (cross c.g c.h) (cross_turned c.g c.h) c.is) moves free_v
-      go (inr (inr e)) = c.independent (subst (λ x. cross x c.h ≡ origin) (sym read_h ∙ (ap (core_plane_at k) (sym e) ∙ read_g)) (cross_self c.h))
+      go (inr (inr e)) = c.independent (subst (λ x. cross x c.h ≡ origin) (sym read_h ∙ (ap (core_plane_at k) e ∙ read_g)) (cross_self c.h))
 
 -- ---- a core that grows holds what it held
 
@@ -200,26 +203,26 @@ module _ (parts : List Part) (k m : Core) (moving : Moving) (w : PartSet) (grows
   place_same : (i : ℕ) → i < length (core_planes k) → core_plane_at m i ≡ core_plane_at k i
   place_same i lt = same_place (core_planes k) (core_planes m) i origin grows.planes lt
 
+  with_first_kept : (g : V3) (n : ℕ) → n ≤ length (core_planes k) → HoldsWithFirst parts k moving w g n → HoldsWithFirst parts m moving w g n
+  with_first_kept g n small held i lt = subst (HoldsWhere parts (core_pairs m) moving w g) (sym (place_same i (omega (arith, lt, small)))) (where_kept parts (core_pairs k) (core_pairs m) moving w g (core_plane_at k i) grows.pairs (held i lt))
+
   pub with_first_more : (g h : V3) (n : ℕ) → n < length (core_planes k) → h ≡ core_plane_at k n → HoldsWithFirst parts k moving w g n → HoldsWhere parts (core_pairs m) moving w g h → HoldsWithFirst parts m moving w g (n + 1)
   with_first_more g h n small e before last i lt = ⊎_elim {C = HoldsWhere parts (core_pairs m) moving w g (core_plane_at m i)}
-      (λ less. subst (HoldsWhere parts (core_pairs m) moving w g) (sym (place_same i (omega (arith, less, small)))) (where_kept parts (core_pairs k) (core_pairs m) moving w g (core_plane_at k i) grows.pairs (before i less)))
+      (with_first_kept g n (omega (arith, small)) before i)
       (λ same. subst (HoldsWhere parts (core_pairs m) moving w g) (e ∙ (sym (place_same n small) ∙ ap (core_plane_at m) (sym same))) last)
       (lt_one_more_cases i n lt)
 
-  -- the planes before a plane
-  pub before_more : (h g : V3) (n : ℕ) → n < length (core_planes k) → g ≡ core_plane_at k n → ((i : ℕ) → i < n → HoldsWhere parts (core_pairs k) moving w (core_plane_at k i) h) → HoldsWhere parts (core_pairs m) moving w g h
-      → (i : ℕ) → i < n + 1 → HoldsWhere parts (core_pairs m) moving w (core_plane_at m i) h
-  before_more h g n small e before last i lt = ⊎_elim {C = HoldsWhere parts (core_pairs m) moving w (core_plane_at m i) h}
-      (λ less. subst (λ x. HoldsWhere parts (core_pairs m) moving w x h) (sym (place_same i (omega (arith, less, small)))) (where_kept parts (core_pairs k) (core_pairs m) moving w (core_plane_at k i) h grows.pairs (before i less)))
-      (λ same. subst (λ x. HoldsWhere parts (core_pairs m) moving w x h) (e ∙ (sym (place_same n small) ∙ ap (core_plane_at m) (sym same))) last)
-      (lt_one_more_cases i n lt)
+  pub among_more : (h : V3) (n : ℕ) → n < length (core_planes k) → h ≡ core_plane_at k n → HoldsAmongFirst parts k moving w n → HoldsWithFirst parts m moving w h n → HoldsAmongFirst parts m moving w (n + 1)
+  among_more h n small e before last j lt = ⊎_elim {C = HoldsWithFirst parts m moving w (core_plane_at m j) j}
+      (λ less. subst (λ x. HoldsWithFirst parts m moving w x j) (sym (place_same j (omega (arith, less, small)))) (with_first_kept (core_plane_at k j) j (omega (arith, less, small)) (before j less)))
+      (λ same. subst (λ x. HoldsWithFirst parts m moving w (core_plane_at m x) x) (sym same) (subst (λ x. HoldsWithFirst parts m moving w x n) (e ∙ sym (place_same n small)) last))
+      (lt_one_more_cases j n lt)
 
-  pub among_more : (h : V3) (n : ℕ) → n < length (core_planes k) → h ≡ core_plane_at k n → HoldsAmongFirst parts k moving w n → ((i : ℕ) → i < n → HoldsWhere parts (core_pairs m) moving w (core_plane_at m i) h) → HoldsAmongFirst parts m moving w (n + 1)
-  among_more h n small e before last i j lt in_j = ⊎_elim {C = HoldsWhere parts (core_pairs m) moving w (core_plane_at m i) (core_plane_at m j)}
-      (λ less. subst (λ x. HoldsWhere parts (core_pairs m) moving w x (core_plane_at m j)) (sym (place_same i (omega (arith, lt, less, small))))
-      (subst (HoldsWhere parts (core_pairs m) moving w (core_plane_at k i)) (sym (place_same j (omega (arith, less, small)))) (where_kept parts (core_pairs k) (core_pairs m) moving w (core_plane_at k i) (core_plane_at k j) grows.pairs (before i j lt less))))
-      (λ same. subst (HoldsWhere parts (core_pairs m) moving w (core_plane_at m i)) (e ∙ (sym (place_same n small) ∙ ap (core_plane_at m) (sym same))) (last i (omega (arith, lt, same))))
-      (lt_one_more_cases j n in_j)
+-- no plane crosses those behind the last
+pub with_all : (parts : List Part) (k : Core) (moving : Moving) (w : PartSet) (g : V3) (m n : ℕ) → length (core_planes k) ≤ m → HoldsWithFirst parts k moving w g m → HoldsWithFirst parts k moving w g n
+with_all parts k moving w g m n all held i lt = ⊎_elim {C = HoldsWhere parts (core_pairs k) moving w g (core_plane_at k i)} (held i)
+    (λ past apart. absurd (apart (ap (cross g) (get_or_past (core_planes k) i origin (omega (arith, all, past))) ∙ (cross_turned g origin ∙ ap negative (cross_origin g)))))
+    (cases_lt i m)
 
 -- ---- where no arc is wanting
 

@@ -1,10 +1,6 @@
 -- Sets of parts from which no arc leads to the rest.
-use Rattle.std.proofs.Common.{◌≡◌, ◌⊎◌, ⊎_elim, inl, inr, ℕ, get_or, arith, ap, subst, ◌∙◌, refl, List, All, length}
-use Rattle.std.specs.Int.{bit_at}
+use Rattle.std.proofs.Common.{◌≡◌, ◌⊎◌, ⊎_elim, inl, inr, ℕ, ap, subst, ◌∙◌, refl, List}
 use Rattle.std.specs.FinSet as set
-use Rattle.std.proofs.lemmas.List.{get_or_past}
-use Rattle.std.proofs.lemmas.List.Elements.{All-get_or}
-use Rattle.std.proofs.lemmas.Nat.Bits.{bit_at-zero}
 use Rattle.staat_model.specs.declared.set.PartSet.{PartSet}
 use Rattle.staat_model.specs.Sets.{Has, IsSide, IsSubset, single}
 use Rattle.staat_model.proofs.FreeSides.{member_or}
@@ -13,15 +9,6 @@ use Rattle.staat_model.proofs.SetWords.{same_members}
 use Rattle.staat_graph.specs.Graphs.{AreReversed, HasArc, IsReach, IsShut}
 use Rattle.staat_graph.proofs.Walking.{stays}
 use Rattle.staat_core.specs.Moves.{MovesPart}
-use Rattle.staat_vec.proofs.Naturals.{lt_or_le}
-
--- ---- no arcs
-
-no_arc : (rows : List ℕ) → All (λ r. r ≡ 0) rows → (a b : ℕ) → HasArc rows a b → ⊥
-no_arc rows zeros a b h = ⊎_elim {C = ⊥} (λ lt. none (get_or rows a 0) (All-get_or (λ r. r ≡ 0) rows a 0 lt zeros) h) (λ le. none (get_or rows a 0) (get_or_past rows a 0 le) h) (lt_or_le a (length rows))
-  where
-    none : (r : ℕ) → r ≡ 0 → bit_at r b ≡ 1 → ⊥
-    none r e one = let zero' : bit_at r b ≡ 0 = ap (λ n. bit_at n b) e ∙ bit_at-zero b in omega (arith, one, zero')
 
 -- ---- where all parts reach each other
 

@@ -98,5 +98,4 @@ HoldsWithFirst parts k moving w g n =
 
 -- so where each two of the first n planes of the core cross
 abbrev pub HoldsAmongFirst : List Part → Core → Moving → PartSet → ℕ → Type 0
-HoldsAmongFirst parts k moving w n =
-    (i j : ℕ) → i < j → j < n → HoldsWhere parts (core_pairs k) moving w (core_plane_at k i) (core_plane_at k j)
+HoldsAmongFirst parts k moving w n = (j : ℕ) → j < n → HoldsWithFirst parts k moving w (core_plane_at k j) j

@@ -10,8 +10,8 @@ ghost use Rattle.staat_planes.specs.VertexSearch.{IsDirectionWith, IsFirstServed
 ghost use Rattle.staat_core.specs.LastAxis.{last_axis};
 
 use staat_model::PartSet;
-use staat_planes::{PlaneTable, Served, Trial, Tried};
-use staat_vec::{V3, neg};
+use staat_planes::{PlaneTable, Served, Trial, served_at};
+use staat_vec::V3;
 
 /// What serves along the last coordinate axis or along its opposite. The first two coordinate planes cross there, so
 /// that these are the first vertices of the planes of each set, and most sets come apart along one of them.
@@ -34,9 +34,5 @@ pub fn served_on_axis<T: Trial>(
         → IfNone result ((T.serves parts w last_axis → ⊥) × (T.serves parts w (negative last_axis) → ⊥)) }
 {
     let d = V3 { x: 0, y: 0, z: 1 };
-    match trial.ask(table, w, d) {
-        Tried::Neither => None,
-        Tried::Ahead(found) => Some(Served { d, found }),
-        Tried::Opposite(found) => Some(Served { d: neg(d), found }),
-    }
+    served_at(table, w, d, trial)
 }

@@ -10,7 +10,6 @@ ghost use Rattle.staat_core.specs.Cores.{IsCore};
 ghost use Rattle.staat_core.specs.Sources.{both_ways};
 
 use crate::cores::Core;
-use crate::decide::CoreAnswer;
 use crate::joins::Moving;
 use crate::source::PairSource;
 use staat_limits::MOST_PARTS;
@@ -80,18 +79,6 @@ impl Core {
     }
 }
 
-// A core to begin with, of two parts that have so many pairs: if they are few it has all of them, and no other is looked
-// for.
-fn core_of_two<S: PairSource>(source: &S, p: u32, q: u32, count: u32) -> Core
-    ensures { IsCore (S.pairs source.now) (S.speaks source.now) result }
-{
-    let mut core = Core::empty(count > FEW_LINKS);
-    if count <= FEW_LINKS {
-        core.take_links(source, p, q);
-    }
-    core
-}
-
 // whether the parts p and q are seen to hold each other along all directions
 fn is_bond<S: PairSource>(source: &S, links: &LinkCounts, p: u32, q: u32) -> bool
     requires p { p < MOST_PARTS }
@@ -105,36 +92,12 @@ fn is_bond<S: PairSource>(source: &S, links: &LinkCounts, p: u32, q: u32) -> boo
         return false;
     }
     let both = PartSet::single(p).union(PartSet::single(q));
-    let mut core = core_of_two(source, p, q, count);
-    match core.holds(source, both, Moving::AnySide) {
-        CoreAnswer::Held => true,
-        CoreAnswer::Open(_) => false,
+    // if the pairs are few the core has all of them, and no other is looked for
+    let mut core = Core::empty(count > FEW_LINKS);
+    if count <= FEW_LINKS {
+        core.take_links(source, p, q);
     }
-}
-
-// the parts that are bound, with q if it is one of some parts to which p is seen to be bound
-fn with_bond<S: PairSource>(
-    source: &S,
-    links: &LinkCounts,
-    p: u32,
-    q: u32,
-    among: PartSet,
-    bound: PartSet,
-) -> PartSet
-    requires p { p < MOST_PARTS }
-    requires q { q < MOST_PARTS }
-    ensures within { (x : ℕ) → Has result x → Has bound x ⊎ Has among x }
-    ensures bound { (parts : List PartValue) (w : PartSetValue) (d : Vector) (x : ℕ) → S.speaks source.now parts
-        → d ≢ origin → Has w p → Has w x → Has result x
-        → Has bound x ⊎ AreTogether parts (both_ways (S.pairs source.now)) w d p x }
-{
-    if !among.has(q) {
-        return bound;
-    }
-    if !is_bond(source, links, p, q) {
-        return bound;
-    }
-    bound.union(PartSet::single(q))
+    core.holds(source, both, Moving::AnySide)
 }
 
 // those of some parts that p is seen to be bound to
@@ -147,7 +110,9 @@ fn bound_to<S: PairSource>(source: &S, links: &LinkCounts, p: u32, among: PartSe
 {
     let mut bound = PartSet::empty();
     for q in 0..MOST_PARTS {
-        bound = with_bond(source, links, p, q, among, bound);
+        if among.has(q) && is_bond(source, links, p, q) {
+            bound = bound.union(PartSet::single(q));
+        }
     }
     bound
 }

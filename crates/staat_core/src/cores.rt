@@ -1,7 +1,7 @@
 // A core: pairs of pieces, and the planes of their facets.
-ghost use Rattle.std.specs.Prelude.{◌≡◌, ◌≢◌, ◌+◌, ◌<◌, ◌≤◌, ◌∷◌, [], ◌++◌, All, Contains, IfSome, IsTrue, MatchOption};
-ghost use Rattle.std.specs.Prelude.{false, length};
+ghost use Rattle.std.specs.Prelude.{◌≡◌, ◌≢◌, ◌⊎◌, ◌<◌, ◌≤◌, All, Contains, IfSome, IsTrue, MatchOption, length};
 ghost use Rattle.staat_vec.specs.Vectors.{IsWithin, origin};
+ghost use Rattle.staat_model.specs.declared.certificate.Arc.{Arc as ArcValue};
 ghost use Rattle.staat_core.specs.Cores.{
   GoesOn,
   HasCanons,
@@ -19,7 +19,7 @@ use staat_vec::{NORMAL, Normal, ORIGIN, V3, canon, is_same};
 const MOST_PAIRS: u32 = 2016;
 
 /// How many planes a core has at most.
-const MOST_CORE_PLANES: u32 = 96;
+pub(crate) const MOST_CORE_PLANES: u32 = 96;
 
 // One of 128 bits for a plane, the same for its normal and the negative. Planes may share one: it is a hint that saves
 // a look at all planes in use.
@@ -144,21 +144,6 @@ impl Core {
         wanting
     }
 
-    // puts a plane behind those in use
-    fn push_plane(&mut self, n: Normal)
-        requires room { length self.old.planes ≡ 96 }
-        requires few { self.old.used < MOST_CORE_PLANES }
-        ensures room { length self.new.planes ≡ 96 }
-        ensures used { self.new.used ≡ self.old.used + 1 }
-        ensures planes { core_planes self.new ≡ core_planes self.old ++ n ∷ [] }
-        ensures pairs { self.new.pairs ≡ self.old.pairs }
-        ensures count { self.new.count ≡ self.old.count }
-    {
-        self.planes[self.used as usize] = n;
-        self.used += 1;
-        self.bits |= bit_of(n.vector());
-    }
-
     // sees to it that the plane is in use; false where there is no room
     fn put_plane(&mut self, n: Normal) -> bool
         requires { HasRoom self.old }
@@ -173,7 +158,9 @@ impl Core {
         if self.used >= MOST_CORE_PLANES {
             return false;
         }
-        self.push_plane(n);
+        self.planes[self.used as usize] = n;
+        self.used += 1;
+        self.bits |= bit_of(n.vector());
         true
     }
 
@@ -199,8 +186,10 @@ impl Core {
         requires { HasRoom self.old }
         ensures room { HasRoom self.new }
         ensures planes { core_planes self.new ≡ core_planes self.old }
-        ensures pushed { IsTrue result → core_pairs self.new ≡ core_pairs self.old ++ pair ∷ [] }
-        ensures same { result ≡ false → core_pairs self.new ≡ core_pairs self.old }
+        ensures pairs { GoesOn (core_pairs self.old) (core_pairs self.new) }
+        ensures each { (x : ArcValue) → Contains (core_pairs self.new) x
+            → Contains (core_pairs self.old) x ⊎ (x ≡ pair) }
+        ensures pushed { IsTrue result → Contains (core_pairs self.new) pair }
     {
         if self.count >= MOST_PAIRS {
             return false;
@@ -217,9 +206,10 @@ impl Core {
         requires facets { All (λ n. n ≢ origin) facets.now }
         ensures room { HasRoom self.new }
         ensures planes { GoesOn (core_planes self.old) (core_planes self.new) }
-        ensures put { IsTrue result → HasCanons (core_planes self.new) facets.now }
-        ensures pushed { IsTrue result → core_pairs self.new ≡ core_pairs self.old ++ pair ∷ [] }
-        ensures same { result ≡ false → core_pairs self.new ≡ core_pairs self.old }
+        ensures pairs { GoesOn (core_pairs self.old) (core_pairs self.new) }
+        ensures each { (x : ArcValue) → Contains (core_pairs self.new) x
+            → Contains (core_pairs self.old) x ⊎ ((x ≡ pair) × HasCanons (core_planes self.new) facets.now) }
+        ensures pushed { IsTrue result → Contains (core_pairs self.new) pair }
     {
         if !self.put_facets(facets) {
             return false;

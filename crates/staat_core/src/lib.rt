@@ -15,7 +15,6 @@ mod table_pairs;
 
 pub use axis::served_on_axis;
 pub use cores::Core;
-pub use decide::CoreAnswer;
 pub use joins::Moving;
 pub use listed::PairList;
 pub use set_core::SetCore;

@@ -2,8 +2,7 @@
 ghost use Rattle.std.specs.Prelude.{◌≡◌, ◌⊎◌, ◌<◌, [], ◌∷◌, ◌++◌, All, Contains};
 ghost use Rattle.staat_model.specs.declared.certificate.Arc.{Arc as ArcValue};
 ghost use Rattle.staat_model.specs.Sets.{Has, IsSubset};
-ghost use Rattle.staat_pairs.specs.Tables.{pieces_of};
-ghost use Rattle.staat_core.specs.Listed.{HasListRoom, IsTablePair, pairs_in_use};
+ghost use Rattle.staat_core.specs.Listed.{AreTablePairs, HasListRoom, IsTablePair, pairs_in_use};
 
 use staat_limits::MOST_PARTS;
 use staat_model::{Arc, PartSet};
@@ -69,50 +68,17 @@ impl PairList {
         self.push(pair)
     }
 
-    // the pairs of piece i of the part a and each piece of b
-    fn put_from(&mut self, table: &PlaneTable, a: u32, i: u32, b: u32)
-        requires room { HasListRoom self.old }
-        requires pairs { All (IsTablePair table.now) (pairs_in_use self.old) }
-        requires a_in { Has table.now.of a }
-        requires b_in { Has table.now.of b }
-        requires order { a < b }
-        requires piece { i < pieces_of table.now a }
-        ensures room { HasListRoom self.new }
-        ensures pairs { All (IsTablePair table.now) (pairs_in_use self.new) }
-    {
-        for j in 0..table.pieces(b) {
-            self.put(Arc { a, i, b, j });
-        }
-    }
-
     // the pairs of each piece of a and each piece of b
     fn put_between(&mut self, table: &PlaneTable, a: u32, b: u32)
-        requires room { HasListRoom self.old }
-        requires pairs { All (IsTablePair table.now) (pairs_in_use self.old) }
+        requires pairs { AreTablePairs table.now self.old }
         requires a_in { Has table.now.of a }
         requires b_in { Has table.now.of b }
         requires order { a < b }
-        ensures room { HasListRoom self.new }
-        ensures pairs { All (IsTablePair table.now) (pairs_in_use self.new) }
+        ensures { AreTablePairs table.now self.new }
     {
         for i in 0..table.pieces(a) {
-            self.put_from(table, a, i, b);
-        }
-    }
-
-    // the pairs of a lesser part of w and the part b
-    fn put_to(&mut self, table: &PlaneTable, w: PartSet, b: u32)
-        requires room { HasListRoom self.old }
-        requires pairs { All (IsTablePair table.now) (pairs_in_use self.old) }
-        requires within { IsSubset w table.now.of }
-        requires b_in { Has table.now.of b }
-        requires small { b < MOST_PARTS }
-        ensures room { HasListRoom self.new }
-        ensures pairs { All (IsTablePair table.now) (pairs_in_use self.new) }
-    {
-        for a in 0..b {
-            if w.has(a) {
-                self.put_between(table, a, b);
+            for j in 0..table.pieces(b) {
+                self.put(Arc { a, i, b, j });
             }
         }
     }
@@ -125,8 +91,10 @@ impl PairList {
     {
         let mut list = PairList::none();
         for b in 0..MOST_PARTS {
-            if w.has(b) {
-                list.put_to(table, w, b);
+            for a in 0..b {
+                if w.has(a) && w.has(b) {
+                    list.put_between(table, a, b);
+                }
             }
         }
         list

@@ -13,7 +13,6 @@ ghost use Rattle.staat_core.specs.TableCores.{IsTableCore};
 
 use crate::bonds::stays_together;
 use crate::cores::Core;
-use crate::decide::CoreAnswer;
 use crate::joins::Moving;
 use crate::listed::PairList;
 use crate::table_pairs::TablePairs;
@@ -74,10 +73,7 @@ impl TableCore {
             pairs: self.list.pairs(),
             low: self.low,
         };
-        match self.core.holds_on(&source, w, moving, g) {
-            CoreAnswer::Held => true,
-            CoreAnswer::Open(_) => false,
-        }
+        self.core.holds_on(&source, w, moving, g)
     }
 
     // whether w has two parts, and a chain of parts that hold each other leads from the least one to each other
@@ -119,9 +115,6 @@ impl TableCore {
             pairs: self.list.pairs(),
             low: self.low,
         };
-        match self.core.holds(&source, w, moving) {
-            CoreAnswer::Held => true,
-            CoreAnswer::Open(_) => false,
-        }
+        self.core.holds(&source, w, moving)
     }
 }

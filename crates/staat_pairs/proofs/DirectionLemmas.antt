@@ -12,15 +12,10 @@ use Rattle.staat_model.specs.Planes.{crossings, vertices}
 use Rattle.staat_pairs.proofs.DropLemmas.{drop_at}
 use Rattle.staat_pairs.specs.Directions.{AddsListed, IsOfVersion, ListsBehind}
 use Rattle.staat_vec.proofs.Unique.{Contains-nothing, Contains-front}
+use Rattle.staat_vec.proofs.VectorLists.{one_of_two}
 use Rattle.staat_vec.proofs.ListLaws.{Contains-there, drop_end}
 
 -- ---- two opposite vectors
-
-of_two : (a b x : V3) → Contains (a ∷ b ∷ []) x → (a ≡ x) ⊎ (b ≡ x)
-of_two a b x c = ⊎_elim {C = (a ≡ x) ⊎ (b ≡ x)}
-    (λ h. ⊎_elim {C = (a ≡ x) ⊎ (b ≡ x)} (λ none. absurd (Contains-nothing x none)) (λ e. inl e) (Contains-push_cases [] a x h))
-    (λ e. inr e)
-    (Contains-push_cases (a ∷ []) b x c)
 
 first_of : (v : V3) → Contains (v ∷ negative v ∷ []) v
 first_of v = Contains-front v (negative v ∷ [])
@@ -31,9 +26,9 @@ second_of v = Contains-there v (negative v) (negative v ∷ []) (Contains-front 
 canon_of : (v : V3) → Contains (v ∷ negative v ∷ []) (canon v)
 canon_of v = ⊎_elim {C = Contains (v ∷ negative v ∷ []) (canon v)} (λ e. subst (Contains (v ∷ negative v ∷ [])) (sym e) (first_of v)) (λ e. subst (Contains (v ∷ negative v ∷ [])) (sym e) (second_of v)) (canon-either v)
 
-is_canon : (v x : V3) → IsCanon x → (v ≡ x) ⊎ (negative v ≡ x) → canon v ≡ x
-is_canon v x h (inl e) = canon-same v (subst IsCanon (sym e) h) ∙ e
-is_canon v x h (inr e) = canon-opposite v (subst IsCanon (sym e) h) ∙ e
+is_canon : (v x : V3) → IsCanon x → (x ≡ v) ⊎ (x ≡ negative v) → canon v ≡ x
+is_canon v x h (inl e) = canon-same v (subst IsCanon e h) ∙ sym e
+is_canon v x h (inr e) = canon-opposite v (subst IsCanon e h) ∙ sym e
 
 pub one_taken : (version : ℕ) (v : V3) (old new : List V3) → version ≡ 2 → v ≢ origin → new ≡ old ++ canon v ∷ [] → AddsListed version (v ∷ negative v ∷ []) old new
 one_taken version v old new two some is = record {
@@ -42,7 +37,7 @@ one_taken version v old new two some is = record {
       (λ same. inr (subst (Contains (v ∷ negative v ∷ [])) same (canon_of v), λ t. subst IsCanon same (IsCanon-canon v some)))
       (Contains-push_cases old (canon v) x (subst (λ l. Contains l x) is c));
   kept = λ x c. subst (λ l. Contains l x) (sym is) (Contains-append_left old (canon v ∷ []) x c);
-  all = λ x c t. subst (λ l. Contains l x) (sym is) (subst (Contains (old ++ canon v ∷ [])) (is_canon v x (t two) (of_two v (negative v) x c)) (Contains-push old (canon v)));
+  all = λ x c t. subst (λ l. Contains l x) (sym is) (subst (Contains (old ++ canon v ∷ [])) (is_canon v x (t two) (one_of_two v (negative v) x c)) (Contains-push old (canon v)));
 }
 
 pub two_taken : (version : ℕ) (v n : V3) (old between new : List V3) → version ≢ 2 → n ≡ negative v → between ≡ old ++ v ∷ [] → new ≡ between ++ n ∷ [] → AddsListed version (v ∷ negative v ∷ []) old new
@@ -56,9 +51,9 @@ two_taken version v n old between new other e first second = record {
       (Contains-push_cases between n x (subst (λ l. Contains l x) second c));
   kept = λ x c. later x (subst (λ l. Contains l x) (sym first) (Contains-append_left old (v ∷ []) x c));
   all = λ x c t. ⊎_elim {C = Contains new x}
-      (λ same. later x (subst (λ l. Contains l x) (sym first) (subst (Contains (old ++ v ∷ [])) same (Contains-push old v))))
-      (λ same. subst (λ l. Contains l x) (sym second) (subst (Contains (between ++ n ∷ [])) (e ∙ same) (Contains-push between n)))
-      (of_two v (negative v) x c);
+      (λ same. later x (subst (λ l. Contains l x) (sym first) (subst (Contains (old ++ v ∷ [])) (sym same) (Contains-push old v))))
+      (λ same. subst (λ l. Contains l x) (sym second) (subst (Contains (between ++ n ∷ [])) (e ∙ sym same) (Contains-push between n)))
+      (one_of_two v (negative v) x c);
 }
   where
     later : (x : V3) → Contains between x → Contains new x

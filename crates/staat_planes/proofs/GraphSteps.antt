@@ -10,6 +10,7 @@ use Rattle.staat_graph.specs.Graphs.{HasArc}
 use Rattle.staat_graph.proofs.Arcs.{empty_graph}
 use Rattle.staat_pairs.specs.Tables.{Table}
 use Rattle.staat_planes.specs.Tables.{GainsArcs, IsAhead, IsAheadIn}
+use Rattle.staat_planes.proofs.Gaining.{adds_both, adds_nothing, adds_same}
 
 -- ---- the arcs of two parts
 
@@ -20,49 +21,38 @@ module _ (R : ℕ → ℕ → Type 0) (old mid new : List ℕ) (a b : ℕ) (ahea
   moved x y u v ex ey r = subst (λ p. R p v) ex (subst (R x) ey r)
 
   pub pair_gained : GainsArcs R a (λ y. y ≡ b) old new
-  pair_gained x y = (
-    λ h. ⊎_elim {C = Gained}
-        (λ m. ⊎_elim {C = Gained} (λ o. inl o) (λ (ex, ey, t). inr (moved a b x y (sym ex) (sym ey) (is_ahead.0 t), inl (ex, ey))) ((first x y).0 m))
-        (λ (ex, ey, t). inr (moved b a x y (sym ex) (sym ey) (is_behind.0 t), inr (ey, ex))) ((second x y).0 h),
-    λ h. ⊎_elim {C = HasArc new x y}
-        (λ o. (second x y).1 (inl ((first x y).1 (inl o))))
-        (λ (r, which). ⊎_elim {C = HasArc new x y}
-        (λ (ex, ey). (second x y).1 (inl ((first x y).1 (inr (ex, ey, is_ahead.1 (moved x y a b ex ey r))))))
-        (λ (ey, ex). (second x y).1 (inr (ex, ey, is_behind.1 (moved x y b a ex ey r)))) which) h,
-  )
+  pair_gained x y = adds_same (adds_both (first x y) (second x y)) to from
     where
-      Gained : Type 0
-      Gained = HasArc old x y ⊎ (R x y × (((x ≡ a) × (y ≡ b)) ⊎ ((y ≡ a) × (x ≡ b))))
+      to : ((x ≡ a) × (y ≡ b) × IsTrue ahead) ⊎ ((x ≡ b) × (y ≡ a) × IsTrue behind) → R x y × (((x ≡ a) × (y ≡ b)) ⊎ ((y ≡ a) × (x ≡ b)))
+      to (inl (ex, ey, t)) = (moved a b x y (sym ex) (sym ey) (is_ahead.0 t), inl (ex, ey))
+      to (inr (ex, ey, t)) = (moved b a x y (sym ex) (sym ey) (is_behind.0 t), inr (ey, ex))
+
+      from : R x y × (((x ≡ a) × (y ≡ b)) ⊎ ((y ≡ a) × (x ≡ b))) → ((x ≡ a) × (y ≡ b) × IsTrue ahead) ⊎ ((x ≡ b) × (y ≡ a) × IsTrue behind)
+      from (r, inl (ex, ey)) = inl (ex, ey, is_ahead.1 (moved x y a b ex ey r))
+      from (r, inr (ey, ex)) = inr (ex, ey, is_behind.1 (moved x y b a ex ey r))
 
 -- ---- the arcs of a part and of several others
 
+-- y is the part a and P holds of x, or the other way round
+abbrev IsWith : (a : ℕ) → (ℕ → Type 0) → ℕ → ℕ → Type 0
+IsWith a P x y = ((x ≡ a) × P y) ⊎ ((y ≡ a) × P x)
+
 pub nothing_gained : (R : ℕ → ℕ → Type 0) (a : ℕ) (P : ℕ → Type 0) (rows : List ℕ) → ((y : ℕ) → P y → ⊥) → GainsArcs R a P rows rows
-nothing_gained R a P rows none x y = (
-  λ h. inl h,
-  λ h. ⊎_elim {C = HasArc rows x y} (λ o. o) (λ (r, which). ⊎_elim {C = HasArc rows x y} (λ (e, p). absurd (none y p)) (λ (e, p). absurd (none x p)) which) h,
-)
+nothing_gained R a P rows none x y = adds_nothing (λ h. ⊎_elim {C = ⊥} (λ at. none y at.1) (λ at. none x at.1) h.1)
 
 pub more_gained : (R : ℕ → ℕ → Type 0) (a : ℕ) (P Q S : ℕ → Type 0) (old mid new : List ℕ) → GainsArcs R a P old mid → GainsArcs R a Q mid new
     → ((y : ℕ) → S y ↔ (P y ⊎ Q y)) → GainsArcs R a S old new
-more_gained R a P Q S old mid new first second both x y = (
-  λ h. ⊎_elim {C = HasArc old x y ⊎ (R x y × Pair S)}
-      (λ m. ⊎_elim {C = HasArc old x y ⊎ (R x y × Pair S)} (λ o. inl o) (λ (r, which). inr (r, wider P (λ z p. (both z).1 (inl p)) which)) ((first x y).0 m))
-      (λ (r, which). inr (r, wider Q (λ z q. (both z).1 (inr q)) which)) ((second x y).0 h),
-  λ h. ⊎_elim {C = HasArc new x y}
-      (λ o. (second x y).1 (inl ((first x y).1 (inl o))))
-      (λ (r, which). ⊎_elim {C = HasArc new x y}
-      (λ (e, s). put r (λ p. inl (e, p)) (λ q. inl (e, q)) ((both y).0 s))
-      (λ (e, s). put r (λ p. inr (e, p)) (λ q. inr (e, q)) ((both x).0 s)) which) h,
-)
+more_gained R a P Q S old mid new first second both x y = adds_same (adds_both (first x y) (second x y)) to from
   where
-    Pair : (ℕ → Type 0) → Type 0
-    Pair T = ((x ≡ a) × T y) ⊎ ((y ≡ a) × T x)
+    to : (R x y × IsWith a P x y) ⊎ (R x y × IsWith a Q x y) → R x y × IsWith a S x y
+    to (inl (r, inl (e, p))) = (r, inl (e, (both y).1 (inl p)))
+    to (inl (r, inr (e, p))) = (r, inr (e, (both x).1 (inl p)))
+    to (inr (r, inl (e, q))) = (r, inl (e, (both y).1 (inr q)))
+    to (inr (r, inr (e, q))) = (r, inr (e, (both x).1 (inr q)))
 
-    wider : (T : ℕ → Type 0) → ((z : ℕ) → T z → S z) → Pair T → Pair S
-    wider T f which = ⊎_elim {C = Pair S} (λ (e, p). inl (e, f y p)) (λ (e, p). inr (e, f x p)) which
-
-    put : {A B : Type 0} → R x y → (A → Pair P) → (B → Pair Q) → A ⊎ B → HasArc new x y
-    put r in_first in_second which = ⊎_elim {C = HasArc new x y} (λ p. (second x y).1 (inl ((first x y).1 (inr (r, in_first p))))) (λ q. (second x y).1 (inr (r, in_second q))) which
+    from : R x y × IsWith a S x y → (R x y × IsWith a P x y) ⊎ (R x y × IsWith a Q x y)
+    from (r, inl (e, s)) = ⊎_elim (λ p. inl (r, inl (e, p))) (λ q. inr (r, inl (e, q))) ((both y).0 s)
+    from (r, inr (e, s)) = ⊎_elim (λ p. inl (r, inr (e, p))) (λ q. inr (r, inr (e, q))) ((both x).0 s)
 
 -- ---- sets of parts that are left
 

@@ -1,14 +1,12 @@
 pub mod FacetCounts
+pub mod Gaining
 pub mod BothWays
 pub mod GraphLaw
 pub mod GraphSteps
 pub mod NotFound
-pub mod Found
 pub mod Passing
 pub mod UsedLaw
 pub mod Marking
-pub mod BuildLemmas
 pub mod UsedPlanes
 pub mod PairSteps
 pub mod SearchSteps
-pub mod SetPlanes

@@ -17,6 +17,7 @@ use Rattle.staat_pairs.specs.Searches.{HasPlane, IsCanonOf}
 use Rattle.staat_pairs.specs.Tables.{AreTablePlanes, Table}
 use Rattle.staat_planes.specs.MarkedPlanes.{AddsMarks, AreUsedMarks, IsPlaneMarked}
 use Rattle.staat_planes.specs.Tables.{IsPlaneOf}
+use Rattle.staat_planes.proofs.Gaining.{adds_both, adds_nothing, adds_same}
 use Rattle.staat_planes.proofs.PairSteps.{whole_used}
 use Rattle.staat_planes.proofs.UsedLaw.{axis_used, other_used}
 use Rattle.staat_vec.proofs.Naturals.{lt_one_more_cases, same_or}
@@ -30,41 +31,24 @@ pub record IsBelow (P : ℕ → V3 → Type 0) (m : ℕ) (n : V3) : Type 0 where
   pub holds : P j n
 
 pub adds_as : (planes : List V3) (P R : V3 → Type 0) (old new : List Bool) → AddsMarks planes P old new → ((n : V3) → P n → R n) → ((n : V3) → R n → P n) → AddsMarks planes R old new
-adds_as planes P R old new adds to from = record {
-  each = λ k n le at. (
-    (λ m. ⊎_elim {C = IsPlaneMarked old k ⊎ R n} (λ o. inl o) (λ p. inr (to n p)) ((adds.each k n le at).0 m)),
-    (λ h. (adds.each k n le at).1 (⊎_elim {C = IsPlaneMarked old k ⊎ P n} (λ o. inl o) (λ r. inr (from n r)) h)),
-  );
-}
+adds_as planes P R old new adds to from = record { each = λ k n le at. adds_same (adds.each k n le at) (to n) (from n) }
 
-pub adds_none : (planes : List V3) (P : V3 → Type 0) (old : List Bool) → ((n : V3) → P n → ⊥) → AddsMarks planes P old old
-adds_none planes P old none = record {
-  each = λ k n le at. ((λ m. inl m), (λ h. ⊎_elim {C = IsPlaneMarked old k} (λ o. o) (λ p. absurd (none n p)) h));
-}
+adds_none : (planes : List V3) (P : V3 → Type 0) (old : List Bool) → ((n : V3) → P n → ⊥) → AddsMarks planes P old old
+adds_none planes P old none = record { each = λ k n le at. adds_nothing (none n) }
 
 -- beside a fact that holds
 pub adds_where : (planes : List V3) (H : Type 0) (P : V3 → Type 0) (old new : List Bool) → H → AddsMarks planes P old new → AddsMarks planes (λ n. H × P n) old new
 adds_where planes H P old new h adds = adds_as planes P (λ n. H × P n) old new adds (λ n p. (h, p)) (λ n b. b.1)
 
-below_more : (P : ℕ → V3 → Type 0) (m : ℕ) (n : V3) → IsBelow P (m + 1) n → IsBelow P m n ⊎ P m n
-below_more P m n b = ⊎_elim {C = IsBelow P m n ⊎ P m n} (λ lt. inl (record { j = b.j; lt = lt; holds = b.holds })) (λ e. inr (subst (λ j. P j n) e b.holds)) (lt_one_more_cases b.j m b.lt)
-
-below_old : (P : ℕ → V3 → Type 0) (m : ℕ) (n : V3) → IsBelow P m n → IsBelow P (m + 1) n
-below_old P m n b = record { j = b.j; lt = (let lt = b.lt in omega (arith, lt)); holds = b.holds }
-
 pub adds_more : (planes : List V3) (P : ℕ → V3 → Type 0) (m : ℕ) (old mid new : List Bool) → AddsMarks planes (IsBelow P m) old mid → AddsMarks planes (P m) mid new → AddsMarks planes (IsBelow P (m + 1)) old new
-adds_more planes P m old mid new before here = record {
-  each = λ k n le at. (
-    (λ h. ⊎_elim {C = IsPlaneMarked old k ⊎ IsBelow P (m + 1) n}
-        (λ h. ⊎_elim {C = IsPlaneMarked old k ⊎ IsBelow P (m + 1) n} (λ o. inl o) (λ b. inr (below_old P m n b)) ((before.each k n le at).0 h))
-        (λ p. inr (record { j = m; lt = omega arith; holds = p }))
-        ((here.each k n le at).0 h)),
-    (λ h. (here.each k n le at).1 (⊎_elim {C = IsPlaneMarked mid k ⊎ P m n}
-        (λ o. inl ((before.each k n le at).1 (inl o)))
-        (λ b. ⊎_elim {C = IsPlaneMarked mid k ⊎ P m n} (λ b. inl ((before.each k n le at).1 (inr b))) (λ p. inr p) (below_more P m n b))
-        h)),
-  );
-}
+adds_more planes P m old mid new before here = record { each = λ k n le at. adds_same (adds_both (before.each k n le at) (here.each k n le at)) (to n) (from n) }
+  where
+    to : (n : V3) → IsBelow P m n ⊎ P m n → IsBelow P (m + 1) n
+    to n (inl b) = record { j = b.j; lt = (let lt = b.lt in omega (arith, lt)); holds = b.holds }
+    to n (inr p) = record { j = m; lt = omega arith; holds = p }
+
+    from : (n : V3) → IsBelow P (m + 1) n → IsBelow P m n ⊎ P m n
+    from n b = ⊎_elim (λ lt. inl (record { j = b.j; lt = lt; holds = b.holds })) (λ e. inr (subst (λ j. P j n) e b.holds)) (lt_one_more_cases b.j m b.lt)
 
 pub adds_skip : (planes : List V3) (P : ℕ → V3 → Type 0) (m : ℕ) (old new : List Bool) → AddsMarks planes (IsBelow P m) old new → ((n : V3) → P m n → ⊥) → AddsMarks planes (IsBelow P (m + 1)) old new
 adds_skip planes P m old new before none = adds_more planes P m old new new before (adds_none planes (P m) new none)

@@ -1,12 +1,10 @@
 -- What a place among the pairs of planes has left.
-use Rattle.std.proofs.Common.{◌≡◌, ◌≢◌, ◌↔◌, inl, inr, ⊎_elim, ℕ, ◌+◌, ◌<◌, ◌≤◌, arith, ap, sym, subst, ◌∙◌, refl, Bool, List, [], ◌∷◌, ◌++◌, length, take, drop, Contains}
+use Rattle.std.proofs.Common.{◌≡◌, ◌≢◌, ◌↔◌, inl, inr, ⊎_elim, ℕ, ◌+◌, ◌*◌, ◌<◌, ◌≤◌, arith, ap, sym, subst, ◌∙◌, refl, Bool, List, [], ◌∷◌, ◌++◌, length, drop, Contains}
 use Rattle.std.specs.Prelude.{IsTrue, Some, slice_get, slice_index, slice_index_or}
-use Rattle.std.specs.Ordering.{nat_cmp}
-use Rattle.std.specs.List.Sorted.{IsStrictlySortedBy}
 use Rattle.std.proofs.Common.{length-append, pos, neg_ℤ}
 use Rattle.std.proofs.lemmas.List.{get_or_default, get_or-drop, get_or-take, length-drop, length-take-le}
-use Rattle.std.proofs.lemmas.List.Elements.{Contains-append_cases, Contains-append_left, Contains-append_right}
-use Rattle.std.proofs.lemmas.Option.{slice_get-get_or}
+use Rattle.std.proofs.lemmas.List.Elements.{Contains-append_cases}
+use Rattle.std.proofs.lemmas.Option.{get_or_from_slice_get, slice_get-get_or}
 use Rattle.staat_vec.specs.declared.vector.V3.{V3}
 use Rattle.staat_vec.specs.Primitives.{primitive}
 use Rattle.staat_vec.specs.Vectors.{cross, dot, negative, origin}
@@ -19,66 +17,17 @@ use Rattle.staat_model.specs.declared.assembly.Part.{Part}
 use Rattle.staat_model.specs.declared.set.PartSet.{PartSet}
 use Rattle.staat_model.specs.Planes.{ArePlanes, axes, crossings, vertices}
 use Rattle.staat_model.specs.Sets.{IsSubset}
-use Rattle.staat_model.proofs.Places.{place_within}
 use Rattle.staat_model.proofs.SetWords.{same_members}
 use Rattle.staat_pairs.specs.Tables.{AreTablePlanes, Table, WasMadeFrom}
 use Rattle.staat_pairs.proofs.DropLemmas.{drop_at}
 use Rattle.staat_planes.specs.declared.pairs.PlanePairs.{PlanePairs}
 use Rattle.staat_planes.specs.Tables.{IsPlaneOf}
-use Rattle.staat_planes.specs.PairOrder.{AreRisingNumbers, HasRowBefore, IsPlaceIn, numbers_of, planes_at, vertices_left}
-use Rattle.staat_planes.proofs.UsedPlanes.{numbered_are, places_rise}
-use Rattle.staat_vec.proofs.Naturals.{lt_one_more_cases}
+use Rattle.staat_planes.specs.PairOrder.{AreRisingNumbers, IsPlaceIn, numbers_of, plane_at, planes_at, rest_of_row, row_plane, vertices_left}
+use Rattle.staat_planes.proofs.UsedPlanes.{places_rise}
+use Rattle.staat_planes.specs.SetPlanes.{ArePlanesIn}
+use Rattle.staat_model.proofs.OneTable.{ArePlanes-unique}
 use Rattle.staat_vec.proofs.VectorLaws.{negative_some}
 use Rattle.staat_vec.proofs.ListLaws.{drop_end}
-use Rattle.staat_vec.proofs.Comparisons.{sorted_push}
-
--- ---- the numbers of the used planes, as far as they were looked at
-
-pub record AreUsedBelow (t : Table) (w : PartSet) (j : ℕ) (ks : List ℕ) : Type 0 where
-  pub ascending : IsStrictlySortedBy nat_cmp ks
-  pub small : (k : ℕ) → Contains ks k → k < j
-  pub used : (parts : List Part) (k : ℕ) (n : V3) → WasMadeFrom parts t → k < j → slice_get t.planes k ≡ Some n
-      → Contains ks k ↔ IsPlaneOf parts w n
-
-pub none_used : (t : Table) (w : PartSet) → AreUsedBelow t w 0 []
-unfolding IsStrictlySortedBy
-none_used t w = record {
-  ascending = tt;
-  small = λ k c. absurd (Contains-nothing k c);
-  used = λ parts k n made lt at. absurd (omega arith);
-}
-
-abbrev pub Tells : Table → PartSet → ℕ → Bool → Type 0
-Tells t w j r = (parts : List Part) (n : V3) → WasMadeFrom parts t → slice_get t.planes j ≡ Some n → IsTrue r ↔ IsPlaneOf parts w n
-
-pub one_used : (t : Table) (w : PartSet) (j : ℕ) (ks : List ℕ) (r : Bool) → AreUsedBelow t w j ks → Tells t w j r → IsTrue r → AreUsedBelow t w (j + 1) (ks ++ j ∷ [])
-one_used t w j ks r below tells told = record {
-  ascending = sorted_push ks j below.ascending below.small;
-  small = λ k c. ⊎_elim {C = k < j + 1} (λ h. let lt = below.small k h in omega (arith, lt)) (λ h. ⊎_elim {C = k < j + 1} (λ e. omega (arith, e)) (λ none. absurd (Contains-nothing k none)) (Contains-cases j [] k h)) (Contains-append_cases ks (j ∷ []) k c);
-  used = λ parts k n made lt at. ⊎_elim {C = Contains (ks ++ j ∷ []) k ↔ IsPlaneOf parts w n}
-      (λ lower. (
-        (λ c. (below.used parts k n made lower at).0 (⊎_elim {C = Contains ks k} (λ h. h) (λ h. ⊎_elim {C = Contains ks k} (λ e. absurd (omega (arith, e, lower))) (λ none. absurd (Contains-nothing k none)) (Contains-cases j [] k h)) (Contains-append_cases ks (j ∷ []) k c))),
-        (λ p. Contains-append_left ks (j ∷ []) k ((below.used parts k n made lower at).1 p)),
-      ))
-      (λ e. (
-        (λ c. (tells parts n made (subst (λ m. slice_get t.planes m ≡ Some n) e at)).0 told),
-        (λ p. Contains-append_right ks (j ∷ []) k (subst (Contains (j ∷ [])) (sym e) (Contains-front j []))),
-      ))
-      (lt_one_more_cases k j lt);
-}
-
-pub none_more : (t : Table) (w : PartSet) (j : ℕ) (ks : List ℕ) (r : Bool) → AreUsedBelow t w j ks → Tells t w j r → (IsTrue r → ⊥) → AreUsedBelow t w (j + 1) ks
-none_more t w j ks r below tells none = record {
-  ascending = below.ascending;
-  small = λ k c. let lt = below.small k c in omega (arith, lt);
-  used = λ parts k n made lt at. ⊎_elim {C = Contains ks k ↔ IsPlaneOf parts w n}
-      (λ lower. below.used parts k n made lower at)
-      (λ e. (
-        (λ c. absurd (let lt = below.small k c in omega (arith, lt, e))),
-        (λ p. absurd (none ((tells parts n made (subst (λ m. slice_get t.planes m ≡ Some n) e at)).1 p))),
-      ))
-      (lt_one_more_cases k j lt);
-}
 
 plane_of : (parts : List Part) (t : Table) (k : ℕ) (n : V3) → WasMadeFrom parts t → slice_get t.planes k ≡ Some n → IsPlaneOf parts t.of n
 plane_of parts t k n made at =
@@ -98,12 +47,11 @@ front : (planes : List V3) (ks : List ℕ) → crossings (slice_index_or planes 
 front planes [] = refl
 front planes (k ∷ ks) = refl
 
-pub first_vertices : (parts : List Part) (t : Table) (w : PartSet) (p : PlanePairs) (planes : List V3) → WasMadeFrom parts t → IsSubset w t.of → AreUsedBelow t w (length t.planes) (numbers_of p) → p.first ≡ 0 → p.second ≡ 1 → ArePlanes parts w planes → vertices_left t.planes p ≡ vertices planes
-first_vertices parts t w p planes made within used first second are =
+pub first_vertices : (t : Table) (w : PartSet) (p : PlanePairs) → p.first ≡ 0 → p.second ≡ 1 → ArePlanesIn t w (planes_at t.planes (numbers_of p))
+    → (parts : List Part) (planes : List V3) → WasMadeFrom parts t → ArePlanes parts w planes → vertices_left t.planes p ≡ vertices planes
+first_vertices t w p first second in' parts planes made are =
     (λ i. crossings (slice_index_or t.planes (slice_index (numbers_of p) (first i)) origin) (planes_at t.planes (drop (second i) (numbers_of p))) ++ vertices (planes_at t.planes (drop (first i + 1) (numbers_of p))))
-    ∙ (front t.planes (numbers_of p)
-    ∙ ap vertices (numbered_are parts t w (numbers_of p) made within (record { ascending = used.ascending; small = used.small })
-    (λ k n at. used.used parts k n made (place_within t.planes k n at) at) planes are))
+    ∙ (front t.planes (numbers_of p) ∙ ap vertices (ArePlanes-unique parts w (planes_at t.planes (numbers_of p)) planes (in'.are parts made) are))
 
 -- ---- the next place
 
@@ -112,29 +60,40 @@ pub nothing_left : (planes : List V3) (ks : List ℕ) (i j : ℕ) → length ks 
     → crossings (slice_index_or planes (slice_index ks i) origin) (planes_at planes (drop j ks)) ++ vertices (planes_at planes (drop (i + 1) ks)) ≡ []
 nothing_left planes ks i j le end = λ d. crossings (slice_index_or planes (slice_index ks i) origin) (planes_at planes (drop_end ks j le d)) ++ vertices (planes_at planes (drop_end ks (i + 1) end d))
 
--- a pair has the two directions in which its planes cross
-pub pair_left : (planes : List V3) (ks : List ℕ) (i j : ℕ) (g h : V3) → j < length ks
-    → slice_index_or planes (slice_index ks i) origin ≡ g → slice_index_or planes (slice_index ks j) origin ≡ h
-    → crossings (slice_index_or planes (slice_index ks i) origin) (planes_at planes (drop j ks)) ++ vertices (planes_at planes (drop (i + 1) ks))
-    ≡ primitive (cross g h) ∷ negative (primitive (cross g h)) ∷ (crossings (slice_index_or planes (slice_index ks i) origin) (planes_at planes (drop (j + 1) ks)) ++ vertices (planes_at planes (drop (i + 1) ks)))
-pair_left planes ks i j g h lt eg eh =
-    ap (λ l. crossings (slice_index_or planes (slice_index ks i) origin) (planes_at planes l) ++ vertices (planes_at planes (drop (i + 1) ks))) (drop_at ks j (slice_index ks j) (slice_get-get_or ks j 0 lt))
-    ∙ (λ d. primitive (cross (eg d) (eh d)) ∷ negative (primitive (cross (eg d) (eh d))) ∷ (crossings (slice_index_or planes (slice_index ks i) origin) (planes_at planes (drop (j + 1) ks)) ++ vertices (planes_at planes (drop (i + 1) ks))))
-
 -- ---- the numbers at a place
 
-pub number_at : (ns : List ℕ) (count i : ℕ) → i < count → slice_index (take count ns) i ≡ slice_index ns i
-number_at ns count i lt = get_or-take count ns i 0 lt
-
-pub length_used : (ns : List ℕ) (count : ℕ) → count ≤ length ns → length (take count ns) ≡ count
-length_used ns count le = length-take-le count ns le
-
 pub number_in : (ks : List ℕ) (i : ℕ) → i < length ks → Contains ks (slice_index ks i)
-number_in ks i lt = (i, lt, Rattle.std.proofs.lemmas.List.get_or_default ks i (slice_index ks i) 0 lt)
+number_in ks i lt = (i, lt, get_or_default ks i (slice_index ks i) 0 lt)
 
 pub apart_at : (planes : List V3) (ks : List ℕ) (i j : ℕ) (g h : V3) → AreTablePlanes planes → AreRisingNumbers planes ks → i < j → j < length ks
     → slice_get planes (slice_index ks i) ≡ Some g → slice_get planes (slice_index ks j) ≡ Some h → cross g h ≢ origin
 apart_at planes ks i j g h are numbers lt small eg eh = are.apart (slice_index ks i) (slice_index ks j) g h eg eh (λ e. let rise = places_rise ks i j numbers.ascending lt small in absurd (omega (arith, rise, e)))
+
+module _ (planes : List V3) (p : PlanePairs) (place : IsPlaceIn planes p) where
+  pub count_is : length (numbers_of p) ≡ p.count
+  count_is = length-take-le p.count p.numbers (let room = place.room in let most = place.most in omega (arith, room, most))
+
+  pub number_small : (i : ℕ) → i < p.count → slice_index p.numbers i < length planes
+  number_small i lt = subst (λ k. k < length planes) (get_or-take p.count p.numbers i 0 lt) (place.numbers.small (slice_index (numbers_of p) i) (number_in (numbers_of p) i (omega (arith, lt, count_is))))
+
+  pub plane_used : (i : ℕ) (g : V3) → i < p.count → slice_get planes (slice_index p.numbers i) ≡ Some g → slice_get planes (slice_index (numbers_of p) i) ≡ Some g
+  plane_used i g lt at = subst (λ k. slice_get planes k ≡ Some g) (sym (get_or-take p.count p.numbers i 0 lt)) at
+
+  module _ (g h : V3) (some : p.second < p.count) (at_first : slice_get planes (slice_index p.numbers p.first) ≡ Some g) (at_second : slice_get planes (slice_index p.numbers p.second) ≡ Some h) where
+    first : p.first < p.count
+    first = let order = place.order in omega (arith, order, some)
+
+    pub pair_apart : AreTablePlanes planes → cross g h ≢ origin
+    pair_apart are = apart_at planes (numbers_of p) p.first p.second g h are place.numbers place.order (omega (arith, some, count_is)) (plane_used p.first g first at_first) (plane_used p.second h some at_second)
+
+    -- a pair has the two directions in which its planes cross
+    pub pair_left : vertices_left planes p ≡ primitive (cross g h) ∷ negative (primitive (cross g h)) ∷ vertices_left planes (record { numbers = p.numbers; count = p.count; first = p.first; second = p.second + 1 })
+    pair_left =
+        let later = vertices (planes_at planes (drop (p.first + 1) (numbers_of p))) in
+        let eg = get_or_from_slice_get planes (slice_index (numbers_of p) p.first) g origin (plane_used p.first g first at_first) in
+        let eh = get_or_from_slice_get planes (slice_index (numbers_of p) p.second) h origin (plane_used p.second h some at_second) in
+        ap (λ l. crossings (row_plane planes p) (planes_at planes l) ++ later) (drop_at (numbers_of p) p.second (slice_index (numbers_of p) p.second) (slice_get-get_or (numbers_of p) p.second 0 (omega (arith, some, count_is))))
+        ∙ (λ d. primitive (cross (eg d) (eh d)) ∷ negative (primitive (cross (eg d) (eh d))) ∷ (crossings (row_plane planes p) (planes_at planes (drop (p.second + 1) (numbers_of p))) ++ later))
 
 -- ---- the vertices of a row
 
@@ -175,19 +134,24 @@ apart_behind planes ks i j g are numbers lt eg n (k, small, at) =
     apart_at planes ks i (j + k) g (slice_index_or planes n origin) are numbers (omega (arith, lt)) within eg
     (subst (λ m. slice_get planes m ≡ Some (slice_index_or planes n origin)) (sym place) is)
 
-row_some : (planes : List V3) (g : V3) (ns : List ℕ) → 0 < length ns → 0 < length (crossings g (planes_at planes ns))
-row_some planes g [] some = absurd (omega arith)
-row_some planes g (n ∷ ns) some = omega arith
+-- ---- how many vertices there are
 
--- behind the rest of a row less is left
-pub row_shorter : (planes : List V3) (p q : PlanePairs) (vs : List V3) → IsPlaceIn planes p → p.second < p.count → HasRowBefore planes p q
-    → vertices_left planes p ≡ vs → length (vertices_left planes q) < length vs
-row_shorter planes p q vs place some before is =
-    let row : List V3 = crossings (slice_index_or planes (slice_index (numbers_of p) p.first) origin) (planes_at planes (drop p.second (numbers_of p))) in
-    let long : length (numbers_of p) ≡ p.count = length_used p.numbers p.count (let a = place.room in let b = place.most in omega (arith, a, b)) in
-    let left = length-drop p.second (numbers_of p) in
-    let more : 0 < length row = row_some planes (slice_index_or planes (slice_index (numbers_of p) p.first) origin) (drop p.second (numbers_of p)) (omega (arith, left, long, some)) in
-    let sum = length-append row (vertices_left planes q) in
-    let same = ap length before in
-    let end = ap length is in
-    omega (arith, more, sum, same, end)
+row_length : (planes : List V3) (g : V3) (ks : List ℕ) → length (crossings g (planes_at planes ks)) ≡ 2 * length ks
+row_length planes g [] = refl
+row_length planes g (k ∷ ks) = let rest = row_length planes g ks in omega (arith, rest)
+
+few_vertices : (planes : List V3) (ks : List ℕ) → length ks ≤ 1024 → length (vertices (planes_at planes ks)) ≤ 2048 * length ks
+few_vertices planes [] few = omega arith
+few_vertices planes (k ∷ ks) few =
+    let row = row_length planes (plane_at planes k) ks in
+    let rest = few_vertices planes ks (omega (arith, few)) in
+    omega (arith, row, rest, few, length-append (crossings (plane_at planes k) (planes_at planes ks)) (vertices (planes_at planes ks)))
+
+pub few_left : (planes : List V3) (p : PlanePairs) → IsPlaceIn planes p → length (vertices_left planes p) ≤ 2099200
+few_left planes p place =
+    let ks = numbers_of p in
+    let most = place.most in
+    let long : length ks ≡ p.count = count_is planes p place in
+    let row = row_length planes (row_plane planes p) (drop p.second ks) in
+    let rest = few_vertices planes (drop (p.first + 1) ks) (omega (arith, long, most, length-drop (p.first + 1) ks)) in
+    omega (arith, long, most, row, rest, length-drop p.second ks, length-drop (p.first + 1) ks, length-append (rest_of_row planes p) (vertices (planes_at planes (drop (p.first + 1) ks))))

@@ -1,19 +1,16 @@
 -- What a search over directions has found.
-use Rattle.std.proofs.Common.{◌≡◌, inl, inr, ℕ, ◌+◌, ◌*◌, ◌<◌, ◌≤◌, arith, ap, sym, subst, ◌∙◌, refl, List, [], ◌∷◌, ◌++◌, length, length-append, All, Contains}
-use Rattle.std.specs.Prelude.{None, Option, Some}
+use Rattle.std.proofs.Common.{◌≡◌, inl, inr, ℕ, ◌+◌, ◌*◌, ◌≤◌, arith, ap, sym, subst, ◌∙◌, refl, Bool, false, List, [], ◌∷◌, ◌++◌, length, length-append, All, Contains}
 use Rattle.std.proofs.lemmas.List.{append-nil, append_assoc}
-use Rattle.std.proofs.lemmas.List.Elements.{All-append, All-cons, All-contains, All-nil}
+use Rattle.std.proofs.lemmas.List.Elements.{All-append, All-contains, All-nil}
 use Rattle.staat_vec.specs.declared.vector.V3.{V3}
 use Rattle.staat_vec.specs.Lists.{IsFirst}
 use Rattle.staat_vec.specs.Vectors.{negative}
 use Rattle.staat_model.proofs.Members.{All-from_members}
 use Rattle.staat_vec.proofs.Unique.{Contains-front, Contains-later}
+use Rattle.staat_planes.specs.declared.search.Search.{Search}
+use Rattle.staat_planes.specs.declared.search.Search.TheVariants.{First, Nothing, Undecided}
 use Rattle.staat_planes.specs.declared.search.Served.{Served}
-use Rattle.staat_planes.specs.VertexSearch.{ArePassed, IsFirstIfAny, IsFirstServed}
-
--- what is left behind a pair, or less, is less than what was left at it
-pub shorter : (left later less : List V3) (d : V3) → left ≡ d ∷ negative d ∷ later → length less ≤ length later → length less < length left
-shorter left later less d e le = let long = ap length e in omega (arith, long, le)
+use Rattle.staat_planes.specs.VertexSearch.{AreManyPassed, ArePassed, IsFirstServed, IsFirstUnless}
 
 module _ (serves : V3 → Type 0) where
   abbrev Not : V3 → Type 0
@@ -27,14 +24,6 @@ module _ (serves : V3 → Type 0) where
   first_before [] ys x h = absurd h
   first_before (y ∷ xs) ys x (inl h) = inl h
   first_before (y ∷ xs) ys x (inr h) = inr (h.0, first_before xs ys x h.1)
-
-  -- two more of which neither serves
-  pub two_passed : (vs left later : List V3) (d : V3) → (p : ArePassed serves vs left) → left ≡ d ∷ negative d ∷ later → All Not (d ∷ negative d ∷ []) → ArePassed serves vs later
-  two_passed vs left later d p e none = record {
-    before = p.before ++ d ∷ negative d ∷ [];
-    is = p.is ∙ (ap (λ l. p.before ++ l) e ∙ sym (append_assoc p.before (d ∷ negative d ∷ []) later));
-    none = All-append Not p.before (d ∷ negative d ∷ []) p.none none;
-  }
 
   -- a row more of which none serves
   pub row_passed : (vs left later row : List V3) → (p : ArePassed serves vs left) → left ≡ row ++ later → All Not row → ArePassed serves vs later
@@ -54,9 +43,26 @@ module _ (serves : V3 → Type 0) where
   pub none_passed : (vs : List V3) → ArePassed serves vs vs
   none_passed vs = record { before = []; is = refl; none = All-nil Not }
 
-  pub two_longer : (vs left later : List V3) (d : V3) (k : ℕ) → (p : ArePassed serves vs left) (e : left ≡ d ∷ negative d ∷ later) (none : All Not (d ∷ negative d ∷ [])) → length p.before ≡ 2 * k → length (two_passed vs left later d p e none).before ≡ 2 * (k + 1)
-  unfolding two_passed
-  two_longer vs left later d k p e none is = omega (arith, is, length-append p.before (d ∷ negative d ∷ []))
+  pub none_tried : (passes : Bool) (vs : List V3) → AreManyPassed passes serves vs vs 0
+  unfolding none_passed
+  none_tried passes vs = record { passed = none_passed vs; many = omega arith; exact = λ no. refl }
+
+  -- some passed over, or none, and a pair more of which neither serves
+  pub pair_tried : (passes : Bool) (vs left mid later : List V3) (d : V3) (k : ℕ) → AreManyPassed passes serves vs left k → ArePassed serves left mid → (passes ≡ false → mid ≡ left) → mid ≡ d ∷ negative d ∷ later
+      → All Not (d ∷ negative d ∷ []) → AreManyPassed passes serves vs later (k + 1)
+  unfolding row_passed passed_both
+  pair_tried passes vs left mid later d k tried p same e none =
+      let one = length-append tried.passed.before p.before in
+      let all = length-append (tried.passed.before ++ p.before) (d ∷ negative d ∷ []) in
+      let many = tried.many in record {
+        passed = row_passed vs mid later (d ∷ negative d ∷ []) (passed_both vs left mid tried.passed p) e none;
+        many = omega (arith, many, one, all);
+        exact = λ no.
+            let is = ap length p.is in
+            let long = length-append p.before mid in
+            let stays = ap length (same no) in
+            let told = tried.exact no in omega (arith, one, all, is, long, stays, told);
+      }
 
   pub all_passed : (vs left : List V3) → ArePassed serves vs left → left ≡ [] → All Not vs
   all_passed vs left p e = subst (All Not) (sym (p.is ∙ (ap (λ l. p.before ++ l) e ∙ append-nil p.before))) p.none
@@ -69,19 +75,15 @@ module _ (serves : V3 → Type 0) where
       found_is = h.found_is;
     }
 
-    -- a search that goes on where another one ended
-    pub searched_behind : (vs left : List V3) (r : Option (Served F)) → ArePassed serves vs left → IsFirstIfAny serves finds left r → IsFirstIfAny serves finds vs r
-    searched_behind vs left None p none = subst (All Not) (sym p.is) (All-append Not p.before left p.none none)
-    searched_behind vs left (Some s) p h = record {
-      first = subst (λ l. IsFirst serves l s.d) (sym p.is) (first_behind p.before left s.d (λ v c. All-contains Not p.before v p.none c) h.first);
-      found_is = h.found_is;
-    }
+    -- the same of the same directions, with less that is so where it ends undecided
+    pub unless_as : (Old New : Type 0) (vs us : List V3) (r : Search F) → vs ≡ us → (Old → New) → IsFirstUnless Old serves finds vs r → IsFirstUnless New serves finds us r
+    unless_as Old New vs us (First s) e weaker h = subst (λ l. IsFirstServed serves finds l s) e h
+    unless_as Old New vs us Nothing e weaker h = subst (All Not) e h
+    unless_as Old New vs us Undecided e weaker h = weaker h
 
-    pub neither : (d : V3) → (serves d → ⊥) × (serves (negative d) → ⊥) → IsFirstIfAny serves finds (d ∷ negative d ∷ []) None
-    neither d h = All-cons Not d (negative d ∷ []) h.0 (All-cons Not (negative d) [] h.1 (All-nil Not))
-
-    pub ahead : (d : V3) (s : Served F) → s.d ≡ d → serves d × finds d s.found → IsFirstIfAny serves finds (d ∷ negative d ∷ []) (Some s)
-    ahead d s e h = record { first = inl (e, h.0); found_is = subst (λ v. finds v s.found) (sym e) h.1 }
-
-    pub opposite : (d : V3) (s : Served F) → s.d ≡ negative d → (serves d → ⊥) × serves (negative d) × finds (negative d) s.found → IsFirstIfAny serves finds (d ∷ negative d ∷ []) (Some s)
-    opposite d s e h = record { first = inr (h.0, inl (e, h.1)); found_is = subst (λ v. finds v s.found) (sym e) h.2 }
+  -- so many directions stand there, if so many were passed
+  pub so_many : (passes : Bool) (vs us left : List V3) (pairs : ℕ) → vs ≡ us → AreManyPassed passes serves vs left pairs → 2 * pairs ≤ length us
+  so_many passes vs us left pairs e tried =
+      let is = ap length tried.passed.is in
+      let same = ap length e in
+      let many = tried.many in omega (arith, is, same, many, length-append tried.passed.before left)

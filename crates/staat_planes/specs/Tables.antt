@@ -17,18 +17,6 @@ IsPlaneOf parts w n = Contains axes n ⊎ IsFacetPlane parts w n
 
 -- ---- the graph at a direction
 
--- d leads ahead of all facets of piece i of the part a against some piece of the part b
-pub record IsAheadFrom (t : Table) (d : V3) (a i b : ℕ) : Type 0 where
-  pub j : ℕ
-  pub across : IsTableArc t (arc_of a i b j)
-  pub ahead : All (λ n. pos 0 <ℤ dot n d) (facets_of t (arc_of a i b j))
-
--- d leads ahead of all facets of some piece of the part b against piece i of the part a
-pub record IsBehindFrom (t : Table) (d : V3) (a i b : ℕ) : Type 0 where
-  pub j : ℕ
-  pub across : IsTableArc t (arc_of b j a i)
-  pub ahead : All (λ n. pos 0 <ℤ dot n d) (facets_of t (arc_of b j a i))
-
 -- d leads ahead of all facets of some piece of the part a against some piece of the part b
 pub record IsAhead (t : Table) (d : V3) (a b : ℕ) : Type 0 where
   pub i : ℕ

@@ -1,5 +1,5 @@
 -- What a search over directions finds: the first that serves.
-use Rattle.std.specs.Prelude.{◌≡◌, ◌≢◌, ℕ, ◌*◌, List, ◌++◌, All, Option, MatchOption, length, ⊤}
+use Rattle.std.specs.Prelude.{◌≡◌, ◌≢◌, ℕ, ◌*◌, ◌≤◌, Bool, false, List, ◌++◌, All, Option, MatchOption, length, ⊤}
 use Rattle.staat_vec.specs.declared.vector.V3.{V3}
 use Rattle.staat_vec.specs.declared.vector.TheConstants.{DIRECTION}
 use Rattle.staat_vec.specs.Lists.{IsFirst}
@@ -51,6 +51,12 @@ pub record ArePassed (serves : V3 → Type 0) (vs left : List V3) : Type 0 where
 -- those before them are the crossings of so many pairs of planes, two of each
 abbrev pub ArePairsPassed : (V3 → Type 0) → (vs left : List V3) → (pairs : ℕ) → Type 0
 ArePairsPassed serves vs left pairs = (p : ArePassed serves vs left) × (length p.before ≡ 2 * pairs)
+
+-- those before them are at least two for each of so many pairs of planes, and no more if none are passed over
+pub record AreManyPassed (passes : Bool) (serves : V3 → Type 0) (vs left : List V3) (pairs : ℕ) : Type 0 where
+  pub passed : ArePassed serves vs left
+  pub many : 2 * pairs ≤ length passed.before
+  pub exact : passes ≡ false → length passed.before ≡ 2 * pairs
 
 -- ---- what is known of what is found, whatever serves
 

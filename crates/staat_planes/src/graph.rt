@@ -5,9 +5,8 @@ ghost use Rattle.staat_model.specs.declared.assembly.Part.{Part as PartValue};
 ghost use Rattle.staat_model.specs.Sets.{Has, IsSubset};
 ghost use Rattle.staat_graph.specs.Blocking.{ShowsBlocking};
 ghost use Rattle.staat_graph.specs.Graphs.{HasArc};
-ghost use Rattle.staat_pairs.specs.Tables.{IsTableArc, WasMadeFrom, back, facets_of, pieces_of};
-ghost use Rattle.staat_planes.specs.Tables.{BlocksIn, GainsArcs, IsAhead, IsAheadFrom, IsAheadIn};
-ghost use Rattle.staat_planes.specs.Tables.{IsBehindFrom};
+ghost use Rattle.staat_pairs.specs.Tables.{IsTableArc, WasMadeFrom, back, facets_of};
+ghost use Rattle.staat_planes.specs.Tables.{BlocksIn, GainsArcs, IsAhead, IsAheadIn};
 
 use crate::leads::{Heading, Leads, is_ahead};
 use crate::table::PlaneTable;
@@ -60,26 +59,6 @@ impl PlaneTable {
         heading.past(self.kept_facets(arc))
     }
 
-    // the same of a piece of the part a and any pieces of the greater part b
-    fn leads_from(&self, a: u32, i: u32, b: u32, heading: &Heading) -> Leads
-        requires a_in { Has self.now.of a }
-        requires b_in { Has self.now.of b }
-        requires order { a < b }
-        requires piece { i < pieces_of self.now a }
-        requires far { IsTrue heading.now.fair → ⊥ }
-        ensures ahead { IsTrue result.ahead ↔ IsAheadFrom self.now heading.now.d a i b }
-        ensures behind { IsTrue result.behind ↔ IsBehindFrom self.now heading.now.d a i b }
-    {
-        let mut leads = Leads::neither();
-        for j in 0..self.pieces(b) {
-            leads = leads.or(self.leads_both_ways(Arc { a, i, b, j }, heading));
-            if leads.ahead && leads.behind {
-                return leads;
-            }
-        }
-        leads
-    }
-
     // the same of any pieces of the part a and any of the greater part b
     fn leads_between(&self, a: u32, b: u32, heading: &Heading) -> Leads
         requires a_in { Has self.now.of a }
@@ -91,9 +70,11 @@ impl PlaneTable {
     {
         let mut leads = Leads::neither();
         for i in 0..self.pieces(a) {
-            leads = leads.or(self.leads_from(a, i, b, heading));
-            if leads.ahead && leads.behind {
-                return leads;
+            for j in 0..self.pieces(b) {
+                leads = leads.or(self.leads_both_ways(Arc { a, i, b, j }, heading));
+                if leads.ahead && leads.behind {
+                    return leads;
+                }
             }
         }
         leads

@@ -2,14 +2,12 @@
 #![tactic(auto)]
 
 mod build;
-mod facet_planes;
 mod graph;
 mod leads;
 mod marked_planes;
 mod pairs;
 mod refusal;
 mod search;
-mod set_planes;
 mod steps;
 mod table;
 
@@ -18,7 +16,7 @@ pub use leads::{Heading, Leads};
 pub use pairs::PlanePairs;
 pub use refusal::PlanesRefusal;
 pub use search::{
-    FEW_PAIRS, Search, Served, Trial, Tried, first_few, first_left, first_passing, first_vertex,
+    FEW_PAIRS, Search, Served, Trial, Tried, first_few, first_passing, first_vertex, served_at,
 };
 pub use steps::Steps;
 pub use table::PlaneTable;

@@ -1,18 +1,22 @@
-// The planes of a smaller set of parts, marked in one pass over its facets.
+// The planes of a smaller set of parts. They are marked in one pass over its facets.
 ghost use Rattle.std.specs.Prelude.{◌≡◌, ◌<◌, ◌≤◌, ◌↔◌, ℕ, List, Contains, IsTrue, Some, false, length};
-ghost use Rattle.std.specs.Prelude.{slice_get, slice_index_or};
+ghost use Rattle.std.specs.Prelude.{IfOk, slice_get, slice_index_or};
 ghost use Rattle.staat_vec.specs.declared.vector.V3.{V3 as Vector};
 ghost use Rattle.staat_model.specs.declared.assembly.Part.{Part as PartValue};
 ghost use Rattle.staat_model.specs.Planes.{ArePlanes};
 ghost use Rattle.staat_model.specs.Sets.{Has, IsSubset};
-ghost use Rattle.staat_pairs.specs.Searches.{HasPlane, HasPlaneBetween, HasPlaneFrom, HasPlaneOf, IsCanonOf};
-ghost use Rattle.staat_pairs.specs.Tables.{IsTableArc, WasMadeFrom, facets_of, pieces_of};
+ghost use Rattle.staat_pairs.specs.Searches.{HasPlane, HasPlaneBetween, HasPlaneOf, IsCanonOf};
+ghost use Rattle.staat_pairs.specs.Tables.{IsTableArc, WasMadeFrom, facets_of};
 ghost use Rattle.staat_planes.specs.MarkedPlanes.{AddsMarks, AreUsedMarks, IsPlaneMarked};
+ghost use Rattle.staat_planes.specs.SetPlanes.{ArePlanesIn};
 ghost use Rattle.staat_planes.specs.Tables.{IsPlaneOf};
 
+use crate::pairs::PlanePairs;
 use crate::table::PlaneTable;
 use staat_limits::{MOST_PARTS, MOST_PLANES};
 use staat_model::{Arc, PartSet};
+use staat_vec::{Normal, OutOfMemory};
+use std::alloc::Global;
 
 // marks the coordinate planes
 fn mark_axes(marks: &mut [bool; 1024])
@@ -36,19 +40,6 @@ impl PlaneTable {
         }
     }
 
-    // marks those of the facets of a piece of the part a and all pieces of the part b
-    fn mark_from(&self, a: u32, i: u32, b: u32, marks: &mut [bool; 1024])
-        requires a_in { Has self.now.of a }
-        requires b_in { Has self.now.of b }
-        requires order { a < b }
-        requires piece { i < pieces_of self.now a }
-        ensures { AddsMarks self.now.planes (λ n. HasPlaneFrom self.now n a i b) marks.old marks.new }
-    {
-        for j in 0..self.pieces(b) {
-            self.mark_facets(Arc { a, i, b, j }, marks);
-        }
-    }
-
     // marks those of all pieces of the part a and all pieces of the part b
     fn mark_between(&self, a: u32, b: u32, marks: &mut [bool; 1024])
         requires a_in { Has self.now.of a }
@@ -57,7 +48,9 @@ impl PlaneTable {
         ensures { AddsMarks self.now.planes (λ n. HasPlaneBetween self.now n a b) marks.old marks.new }
     {
         for i in 0..self.pieces(a) {
-            self.mark_from(a, i, b, marks);
+            for j in 0..self.pieces(b) {
+                self.mark_facets(Arc { a, i, b, j }, marks);
+            }
         }
     }
 
@@ -121,5 +114,22 @@ impl PlaneTable {
     {
         let marks = self.used_marks(w);
         marks[k as usize]
+    }
+
+    /// The planes of the set `w` of parts, which lies in the table's set: the coordinate planes, then the others
+    /// ascending.
+    ///
+    /// They are those of the table that belong to `w`. Each facet of two pieces of `w` is looked up once, and no source
+    /// of facets is asked. It fails for want of memory alone.
+    pub fn planes_of(&self, alloc: Global, w: PartSet) -> Result<Vec<Normal>, OutOfMemory>
+        requires { IsSubset w self.now.of }
+        ensures { IfOk result (λ planes. ArePlanesIn self.now w planes.items) }
+    {
+        let pairs = PlanePairs::of(self, w);
+        let mut planes = Vec::new(alloc);
+        for k in pairs.numbers(self) {
+            planes.push(Normal::of(self.plane(*k)))?;
+        }
+        Ok(planes)
     }
 }

@@ -1,13 +1,14 @@
 // The pairs of the planes of a set of parts, in pair order.
-ghost use Rattle.std.specs.Prelude.{◌≡◌, ◌≢◌, ◌+◌, ◌<◌, ◌≤◌, List, []};
-ghost use Rattle.std.specs.Prelude.{◌∷◌, ◌++◌, IfSome, MatchOption, take};
+ghost use Rattle.std.specs.Prelude.{◌≡◌, ◌≢◌, ◌+◌, ◌<◌, ◌≤◌, List, [], ◌∷◌, IfSome, MatchOption};
 ghost use Rattle.staat_vec.specs.declared.vector.V3.{V3 as Vector};
 ghost use Rattle.staat_vec.specs.Vectors.{IsWithin, negative, origin};
 ghost use Rattle.staat_model.specs.declared.assembly.Part.{Part as PartValue};
 ghost use Rattle.staat_model.specs.Planes.{ArePlanes, vertices};
 ghost use Rattle.staat_model.specs.Sets.{IsSubset};
 ghost use Rattle.staat_pairs.specs.Tables.{WasMadeFrom};
-ghost use Rattle.staat_planes.specs.PairOrder.{HasRowBefore, IsPlaceIn, IsRowOf, vertices_left};
+ghost use Rattle.staat_planes.specs.PairOrder.{HasRowBefore, IsPlaceIn, IsRowOf, numbers_of, planes_at};
+ghost use Rattle.staat_planes.specs.PairOrder.{vertices_left};
+ghost use Rattle.staat_planes.specs.SetPlanes.{ArePlanesIn};
 
 use crate::table::PlaneTable;
 use staat_model::PartSet;
@@ -26,19 +27,12 @@ pub struct PlanePairs {
     second: u32,
 }
 
-// puts a number behind those in use
-fn push_number(numbers: &mut [u32; 1024], count: u32, k: u32)
-    requires { count < 1024 }
-    ensures { take (count + 1) numbers.new ≡ take count numbers.old ++ k ∷ [] }
-{
-    numbers[count as usize] = k;
-}
-
 impl PlanePairs {
     /// The first pair of the planes of `w`, which lies in the table's set.
     pub fn of(table: &PlaneTable, w: PartSet) -> PlanePairs
         requires { IsSubset w table.now.of }
         ensures place { IsPlaceIn table.now.planes result }
+        ensures planes { ArePlanesIn table.now w (planes_at table.now.planes (numbers_of result)) }
         ensures vertices { (parts : List PartValue) (planes : List Vector) → WasMadeFrom parts table.now →
             ArePlanes parts w planes → vertices_left table.now.planes result ≡ vertices planes }
     {
@@ -47,7 +41,7 @@ impl PlanePairs {
         let mut count = 0;
         for k in 0..table.len() {
             if marks[k as usize] {
-                push_number(&mut numbers, count, k);
+                numbers[count as usize] = k;
                 count += 1;
             }
         }
@@ -57,6 +51,14 @@ impl PlanePairs {
             first: 0,
             second: 1,
         }
+    }
+
+    /// The numbers of the planes of the set.
+    pub(crate) fn numbers(&self, table: &PlaneTable) -> &[u32]
+        requires { IsPlaceIn table.now.planes self.now }
+        ensures { result.now ≡ numbers_of self.now }
+    {
+        &self.numbers[..self.count as usize]
     }
 
     // goes on to the first pair of the next row where the row has ended

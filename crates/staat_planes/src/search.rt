@@ -1,5 +1,5 @@
 // The search for the first vertex of the planes of a set of parts that serves.
-ghost use Rattle.std.specs.Prelude.{◌≡◌, ◌≢◌, ◌≤◌, List, ◌∷◌, [], IfSome, IsTrue, length, pos, ⊤};
+ghost use Rattle.std.specs.Prelude.{◌≡◌, ◌≢◌, ◌≤◌, ◌*◌, List, ◌∷◌, [], IfSome, IsTrue, false, length, pos};
 ghost use Rattle.staat_vec.specs.declared.vector.V3.{V3 as Vector};
 ghost use Rattle.staat_vec.specs.Vectors.{IsWithin, dot, negative, origin};
 ghost use Rattle.staat_model.specs.declared.assembly.Part.{Part as PartValue};
@@ -8,8 +8,8 @@ ghost use Rattle.staat_model.specs.Planes.{ArePlanes, vertices};
 ghost use Rattle.staat_model.specs.Sets.{IsSubset};
 ghost use Rattle.staat_pairs.specs.Tables.{Table, WasMadeFrom};
 ghost use Rattle.staat_planes.specs.PairOrder.{IsPlaceIn, vertices_left};
-ghost use Rattle.staat_planes.specs.VertexSearch.{ArePairsPassed, ArePassed, IfFirst, IfFound, IsDirectionWith};
-ghost use Rattle.staat_planes.specs.VertexSearch.{IsFirstIfAny, IsFirstOfTwo, IsFirstUnless};
+ghost use Rattle.staat_planes.specs.VertexSearch.{AreManyPassed, ArePairsPassed, ArePassed, IfFirst, IfFound};
+ghost use Rattle.staat_planes.specs.VertexSearch.{IsDirectionWith, IsFirstIfAny, IsFirstOfTwo, IsFirstUnless};
 
 use crate::pairs::PlanePairs;
 use crate::table::PlaneTable;
@@ -103,9 +103,18 @@ pub trait Trial {
 /// How many pairs of planes are tried one by one before it is asked whether no direction serves.
 pub const FEW_PAIRS: u32 = 8;
 
-// Passes over the rows of pairs whose plane has no direction that serves, from a row that begins at the place. On a row
-// that is not passed over nothing changes.
-fn pass_rows<T: Trial>(pairs: &mut PlanePairs, table: &PlaneTable, w: PartSet, trial: &mut T)
+// more pairs than the planes of a table have
+const ALL_PAIRS: u32 = 1_049_601;
+
+// Passes over the rows of pairs whose plane has no direction that serves, from a row that begins at the place, if rows
+// are passed over at all. On a row that is not passed over nothing changes.
+fn pass_rows<T: Trial>(
+    pairs: &mut PlanePairs,
+    table: &PlaneTable,
+    w: PartSet,
+    trial: &mut T,
+    passes: bool,
+)
     requires place { IsPlaceIn table.now.planes pairs.old }
     requires fits { T.fits trial.old table.now w }
     requires within { IsSubset w table.now.of }
@@ -115,10 +124,17 @@ fn pass_rows<T: Trial>(pairs: &mut PlanePairs, table: &PlaneTable, w: PartSet, t
     ensures passed { (parts : List PartValue) → WasMadeFrom parts table.now → T.knows trial.old parts
         → ArePassed (T.serves parts w) (vertices_left table.now.planes pairs.old)
         (vertices_left table.now.planes pairs.new) }
-    ensures fewer { length (vertices_left table.now.planes pairs.new)
-        ≤ length (vertices_left table.now.planes pairs.old) }
+    ensures same { passes ≡ false
+        → vertices_left table.now.planes pairs.new ≡ vertices_left table.now.planes pairs.old }
 {
-    while let Some(g) = pairs.row_begun(table) {
+    if !passes {
+        return;
+    }
+    // there are no more rows than planes
+    for _k in 0..table.len() {
+        let Some(g) = pairs.row_begun(table) else {
+            return;
+        };
         if !trial.rules_out(table, w, g) {
             return;
         }
@@ -126,8 +142,8 @@ fn pass_rows<T: Trial>(pairs: &mut PlanePairs, table: &PlaneTable, w: PartSet, t
     }
 }
 
-// what a trial finds at a direction or at its opposite
-fn served_at<T: Trial>(
+/// What a trial finds at a direction or at its opposite. None exactly where neither serves.
+pub fn served_at<T: Trial>(
     table: &PlaneTable,
     w: PartSet,
     d: V3,
@@ -150,36 +166,44 @@ fn served_at<T: Trial>(
     }
 }
 
-/// The first of the vertices that are left that serves, and what is found there. None exactly where none of them
-/// serves.
-///
-/// The pairs were made for this table and this set, and the trial may be asked about them.
-pub fn first_left<T: Trial>(
+// The first of the vertices that are left that serves. It ends undecided after so many pairs of planes whose crossings
+// were tried, and the pairs stand at the next one.
+fn search_from<T: Trial>(
     pairs: &mut PlanePairs,
     table: &PlaneTable,
     w: PartSet,
     trial: &mut T,
-) -> Option<Served<T::Found>>
+    passes: bool,
+    limit: u32,
+) -> Search<T::Found>
     requires place { IsPlaceIn table.now.planes pairs.old }
     requires fits { T.fits trial.old table.now w }
     requires within { IsSubset w table.now.of }
+    ensures place { IsPlaceIn table.now.planes pairs.new }
     ensures fits { T.fits trial.new table.now w }
     ensures knows { (parts : List PartValue) → T.knows trial.old parts → T.knows trial.new parts }
-    ensures among { IfSome result (IsDirectionWith (T.among w)) }
+    ensures among { IfFirst result (IsDirectionWith (T.among w)) }
     ensures first { (parts : List PartValue) → WasMadeFrom parts table.now → T.knows trial.old parts
-        → IsFirstIfAny (T.serves parts w) (T.finds parts w) (vertices_left table.now.planes pairs.old) result }
+        → IsFirstUnless (AreManyPassed passes (T.serves parts w) (vertices_left table.now.planes pairs.old)
+        (vertices_left table.now.planes pairs.new) limit) (T.serves parts w) (T.finds parts w)
+        (vertices_left table.now.planes pairs.old) result }
 {
-    while let Some(d) = pairs.next_crossing(table) {
+    for _k in 0..limit {
+        pass_rows(pairs, table, w, trial, passes);
+        let Some(d) = pairs.next_crossing(table) else {
+            return Search::Nothing;
+        };
         if let Some(found) = served_at(table, w, d, trial) {
-            return Some(found);
+            return Search::First(found);
         }
-        pass_rows(pairs, table, w, trial);
     }
-    None
+    Search::Undecided
 }
 
-/// The same with a limit on the pairs of planes whose crossings are tried. Where it ends undecided, the pairs stand at
-/// the next one, so that [`first_left`] goes on from there.
+/// The first of the vertices that are left that serves, and what is found there, with a limit on the pairs of planes
+/// whose crossings are tried. Where it ends undecided, the pairs stand at the next one.
+///
+/// The pairs were made for this table and this set, and the trial may be asked about them.
 pub fn first_few<T: Trial>(
     pairs: &mut PlanePairs,
     table: &PlaneTable,
@@ -199,19 +223,11 @@ pub fn first_few<T: Trial>(
         (vertices_left table.now.planes pairs.new) limit) (T.serves parts w) (T.finds parts w)
         (vertices_left table.now.planes pairs.old) result }
 {
-    for _k in 0..limit {
-        let Some(d) = pairs.next_crossing(table) else {
-            return Search::Nothing;
-        };
-        if let Some(found) = served_at(table, w, d, trial) {
-            return Search::First(found);
-        }
-    }
-    Search::Undecided
+    search_from(pairs, table, w, trial, false, limit)
 }
 
 /// The first of the vertices of the planes of `w` that serves, where the trial passes over rows of pairs, the first one
-/// too. It ends undecided after so many pairs of planes whose crossings were tried.
+/// too. It ends undecided after so many pairs of planes whose crossings were tried, if there are so many.
 pub fn first_passing<T: Trial>(
     table: &PlaneTable,
     w: PartSet,
@@ -225,19 +241,11 @@ pub fn first_passing<T: Trial>(
     ensures among { IfFirst result (IsDirectionWith (T.among w)) }
     ensures first { (parts : List PartValue) (planes : List Vector) → WasMadeFrom parts table.now
         → T.knows trial.old parts → ArePlanes parts w planes
-        → IsFirstUnless ⊤ (T.serves parts w) (T.finds parts w) (vertices planes) result }
+        → IsFirstUnless (2 * limit ≤ length (vertices planes)) (T.serves parts w) (T.finds parts w)
+        (vertices planes) result }
 {
     let mut pairs = PlanePairs::of(table, w);
-    for _k in 0..limit {
-        pass_rows(&mut pairs, table, w, trial);
-        let Some(d) = pairs.next_crossing(table) else {
-            return Search::Nothing;
-        };
-        if let Some(found) = served_at(table, w, d, trial) {
-            return Search::First(found);
-        }
-    }
-    Search::Undecided
+    search_from(&mut pairs, table, w, trial, true, limit)
 }
 
 /// The first of the vertices of the planes of `w`, in pair order, that serves, and what is found there. None exactly
@@ -268,9 +276,12 @@ pub fn first_vertex<T: Trial>(
             if trial.rules_out_all(table, w) {
                 return None;
             }
-            let mut pairs = PlanePairs::of(table, w);
-            pass_rows(&mut pairs, table, w, trial);
-            first_left(&mut pairs, table, w, trial)
+            match first_passing(table, w, trial, ALL_PAIRS) {
+                Search::First(served) => Some(served),
+                Search::Nothing => None,
+                // no set has so many pairs
+                Search::Undecided => None,
+            }
         }
     }
 }

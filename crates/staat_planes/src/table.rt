@@ -1,5 +1,5 @@
 // The table of the planes of a set of parts and of the facets of their pieces, with a limit on planes.
-ghost use Rattle.std.specs.Prelude.{◌≡◌, ◌<◌, ◌≤◌, ◌+◌, ◌*◌, Some, length, slice_get};
+ghost use Rattle.std.specs.Prelude.{◌≡◌, ◌<◌, ◌≤◌, ◌+◌, ◌-◌, ◌*◌, Some, length, slice_get};
 ghost use Rattle.staat_vec.specs.declared.vector.V3.{V3 as Vector};
 ghost use Rattle.staat_vec.specs.Primitives.{canon};
 ghost use Rattle.staat_vec.specs.Vectors.{IsWithin, dot, sign};
@@ -121,6 +121,14 @@ impl PlaneTable {
     }
 }
 
+// the place of the facet m, of so many, where they stand the other way round
+fn turned_place(count: u32, m: u32) -> u32
+    requires { m < count }
+    ensures { result ≡ count - 1 - m }
+{
+    count - 1 - m
+}
+
 // a member of the reversed list
 fn reversed_at(facets: &[Normal], m: usize) -> V3
     requires { m < length facets.now }
@@ -191,6 +199,23 @@ impl PlaneTable {
             self.kept_facets(arc)[m as usize].vector()
         } else {
             reversed_at(self.kept_facets(back(arc)), m as usize)
+        }
+    }
+
+    /// The number of the plane of the facet `m` of an ordered pair of pieces of different parts of the set. `m` is
+    /// below [`facet_count`](PlaneTable::facet_count).
+    pub fn facet_plane(&self, arc: Arc, m: u32) -> u32
+        requires across { IsTableArc self.now arc }
+        requires place { m < length (facets_of self.now arc) }
+        ensures within { result < length self.now.planes }
+        ensures is { (n : Vector) → slice_get (facets_of self.now arc) m ≡ Some n
+            → slice_get self.now.planes result ≡ Some (canon n) }
+        ensures rules { AreTablePlanes self.now.planes }
+    {
+        if arc.a < arc.b {
+            self.kept_number(arc, m)
+        } else {
+            self.kept_number(back(arc), turned_place(self.kept_count(back(arc)), m))
         }
     }
 }

@@ -1,8 +1,8 @@
-use Rattle.std.proofs.Common.{subst, All}
+use Rattle.std.proofs.Common.{arith, ap, subst, All, length}
 use Rattle.staat_model.specs.Planes.{vertices}
-use Rattle.staat_planes.specs.PairOrder.{vertices_left}
-use Rattle.staat_planes.specs.VertexSearch.{IsFirstIfAny, IsFirstServed}
-use Rattle.staat_planes.proofs.SearchSteps.{none_serve, searched_behind}
+use Rattle.staat_planes.specs.VertexSearch.{IsFirstServed}
+use Rattle.staat_planes.proofs.PairSteps.{few_left}
+use Rattle.staat_planes.proofs.SearchSteps.{none_serve}
 use Rattle.staat_planes.proofs.search.first_vertex.Goals as goal
 
 pub returns-in-First-clause-first : goal.returns-in-First-clause-first
@@ -22,19 +22,17 @@ returns-then-rules_out_all-clause-first g c parts planes made knows are =
     none_serve (g.T.Trial.serves parts c.args.w) (vertices planes)
     (λ v. c.rules_out_all.ensures.none c.if-rules_out_all.true parts v made (c.first_few.ensures.knows parts knows))
 
-pub returns-else-rules_out_all-clause-first : goal.returns-else-rules_out_all-clause-first
-returns-else-rules_out_all-clause-first g c parts planes made knows are =
-    let serves = g.T.Trial.serves parts c.args.w in
-    let finds = g.T.Trial.finds parts c.args.w in
-    let left = vertices_left c.args.table.now.planes in
-    let known = c.rules_out_all.ensures.knows parts (c.first_few.ensures.knows parts knows) in
-    subst (λ vs. IsFirstIfAny serves finds vs c.first_left.result)
-    (c.of-pairs-in-Undecided.ensures.vertices parts planes made are)
-    (searched_behind serves finds (left c.of-pairs-in-Undecided.result) (left c.pass_rows.new.pairs) c.first_left.result
-    (c.pass_rows.ensures.passed parts made known) (c.first_left.ensures.first parts made (c.pass_rows.ensures.knows parts known)))
+pub returns-in-First-first_passing-clause-first : goal.returns-in-First-first_passing-clause-first
+returns-in-First-first_passing-clause-first g c parts planes made knows are =
+    c.in-First-first_passing.ensures.first parts planes made (c.rules_out_all.ensures.knows parts (c.first_few.ensures.knows parts knows)) are
 
-pub returns-in-First-clause-among : goal.returns-in-First-clause-among
-returns-in-First-clause-among g c = c.in-First.ensures.among
+pub returns-in-Nothing-first_passing-clause-first : goal.returns-in-Nothing-first_passing-clause-first
+returns-in-Nothing-first_passing-clause-first g c parts planes made knows are =
+    c.in-Nothing-first_passing.ensures.first parts planes made (c.rules_out_all.ensures.knows parts (c.first_few.ensures.knows parts knows)) are
 
-pub returns-else-rules_out_all-clause-among : goal.returns-else-rules_out_all-clause-among
-returns-else-rules_out_all-clause-among g c = c.first_left.ensures.among
+pub returns-in-Undecided-first_passing-clause-first : goal.returns-in-Undecided-first_passing-clause-first
+returns-in-Undecided-first_passing-clause-first g c parts planes made knows are =
+    let many = c.in-Undecided-first_passing.ensures.first parts planes made (c.rules_out_all.ensures.knows parts (c.first_few.ensures.knows parts knows)) are in
+    let few = few_left c.args.table.now.planes c.of-pairs.result c.of-pairs.ensures.place in
+    let same = ap length (c.of-pairs.ensures.vertices parts planes made are) in
+    absurd (omega (arith, many, few, same))

@@ -1,19 +1,15 @@
-use Rattle.std.proofs.Common.{◌≤◌, List, length}
+use Rattle.std.proofs.Common.{List}
 use Rattle.staat_model.specs.declared.assembly.Part.{Part}
 use Rattle.staat_pairs.specs.Tables.{WasMadeFrom}
 use Rattle.staat_planes.specs.PairOrder.{IsPlaceIn, vertices_left}
 use Rattle.staat_planes.specs.VertexSearch.{ArePassed}
 use Rattle.staat_planes.proofs.search.pass_rows.Given as goal
 
-abbrev pub invariant-loop-g : goal.invariant-loop-g
-invariant-loop-g g l = record {
+abbrev pub invariant-loop-k : goal.invariant-loop-k
+invariant-loop-k g l = record {
   place : IsPlaceIn l.table.planes l.pairs;
   fits : g.T.Trial.fits l.trial l.table l.w;
   knows : (parts : List Part) → g.T.Trial.knows l.initial.trial parts → g.T.Trial.knows l.trial parts;
   passed : (parts : List Part) → WasMadeFrom parts l.table → g.T.Trial.knows l.initial.trial parts
       → ArePassed (g.T.Trial.serves parts l.w) (vertices_left l.table.planes l.initial.pairs) (vertices_left l.table.planes l.pairs);
-  fewer : length (vertices_left l.table.planes l.pairs) ≤ length (vertices_left l.table.planes l.initial.pairs);
 }
-
-abbrev pub decreases-loop-g : goal.decreases-loop-g
-decreases-loop-g g l = length (vertices_left l.table.planes l.pairs)

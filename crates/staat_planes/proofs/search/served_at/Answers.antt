@@ -1,4 +1,4 @@
-use Rattle.std.proofs.Common.{◌∙◌, ◌∷◌, [], ap, inl, inr, refl, subst, sym}
+use Rattle.std.proofs.Common.{◌∙◌, ◌∷◌, [], ap, inl, inr, subst, sym}
 use Rattle.std.proofs.lemmas.List.Elements.{All-cons, All-nil}
 use Rattle.staat_vec.specs.declared.vector.V3.{V3}
 use Rattle.staat_vec.specs.Vectors.{negative}
@@ -6,23 +6,12 @@ use Rattle.staat_vec.specs.declared.vector.TheConstants.{DIRECTION}
 use Rattle.staat_vec.proofs.Canons.{negative-negative}
 use Rattle.staat_planes.proofs.search.served_at.Goals as goal
 
-pub returns-in-Neither-clause-among : goal.returns-in-Neither-clause-among
-returns-in-Neither-clause-among g c = tt
-
 pub returns-in-Neither-clause-served : goal.returns-in-Neither-clause-served
 returns-in-Neither-clause-served g c = λ parts made knows.
     let Not = λ (v : V3). g.T.Trial.serves parts c.args.w v → ⊥ in
     let d = c.args.d in
     let none = c.in-Neither.ensures.tried parts made knows in
     All-cons Not d (negative d ∷ []) none.0 (All-cons Not (negative d) [] none.1 (All-nil Not))
-
-pub returns-in-Ahead-clause-among : goal.returns-in-Ahead-clause-among
-returns-in-Ahead-clause-among g c = record { size = c.requires.size; some = c.requires.some; among = c.in-Ahead.ensures.among }
-
-pub returns-in-Ahead-clause-served : goal.returns-in-Ahead-clause-served
-returns-in-Ahead-clause-served g c = λ parts made knows.
-    let is = c.in-Ahead.ensures.tried parts made knows in
-    record { first = inl (refl, is.0); found_is = is.1 }
 
 pub returns-in-Opposite-clause-among : goal.returns-in-Opposite-clause-among
 returns-in-Opposite-clause-among g c = record {

@@ -1,14 +1,8 @@
-use Rattle.std.proofs.Common.{◌∙◌, ap, arith, sym}
+use Rattle.std.proofs.Common.{◌∙◌, ap, sym}
 use Rattle.std.specs.Prelude.{Some}
 use Rattle.staat_vec.specs.Vectors.{negative}
 use Rattle.staat_pairs.proofs.ReversedFacets.{reversed_at}
 use Rattle.staat_planes.proofs.table.reversed_at.Goals as goal
-
-pub overflow_sub-facets-2 : goal.overflow_sub-facets-2
-overflow_sub-facets-2 c = omega (arith, c.requires)
-
-pub bounds-facets-facets : goal.bounds-facets-facets
-bounds-facets-facets c = omega (arith, c.requires)
 
 pub returns : goal.returns
 returns c =

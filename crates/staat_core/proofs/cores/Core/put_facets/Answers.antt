@@ -4,7 +4,6 @@ use Rattle.std.proofs.lemmas.List.Elements.{All-more, All-nil}
 use Rattle.staat_vec.specs.Primitives.{canon}
 use Rattle.staat_core.specs.Cores.{HasCanons, core_planes}
 use Rattle.staat_core.proofs.Growing.{canons_kept, goes_further, goes_same}
-use Rattle.std.proofs.lemmas.Bool.{false≢true}
 use Rattle.staat_core.proofs.cores.Core.put_facets.Goals as goal
 
 pub loop-n-init : goal.loop-n-init
@@ -14,9 +13,6 @@ loop-n-init c = record {
   pairs = refl;
   put = All-nil (λ n. Contains (core_planes c.args.self.now) (canon n));
 }
-
-pub returns-then-not-put_plane-clause-planes : goal.returns-then-not-put_plane-clause-planes
-returns-then-not-put_plane-clause-planes c = goes_further (core_planes c.args.self.now) (core_planes c.loop-n.self) (core_planes c.put_plane.new.self) c.loop-n.invariant.planes c.put_plane.ensures.planes
 
 pub loop-n-preserved : goal.loop-n-preserved
 loop-n-preserved c =
@@ -35,9 +31,3 @@ loop-n-preserved c =
 
 pub returns-clause-put : goal.returns-clause-put
 returns-clause-put c told = subst (HasCanons (core_planes c.loop-n.self)) (take_all c.loop-n.n-index c.args.facets.now c.loop-n-test.false) c.loop-n.invariant.put
-
-pub returns-then-not-put_plane-clause-pairs : goal.returns-then-not-put_plane-clause-pairs
-returns-then-not-put_plane-clause-pairs c = c.put_plane.ensures.pairs ∙ c.loop-n.invariant.pairs
-
-pub returns-then-not-put_plane-clause-put : goal.returns-then-not-put_plane-clause-put
-returns-then-not-put_plane-clause-put c = λ t. absurd (false≢true t)

@@ -11,18 +11,15 @@ nowhere = record { a = 0; i = 0; b = 0; j = 0 }
 listed : (pairs some items : List Arc) (k : ℕ) (d : Arc) → items ≡ some → All (Contains pairs) some → k < length items → Contains pairs (get_or items k d)
 listed pairs some items k d e all lt = All-get_or (Contains pairs) items k d lt (subst (All (Contains pairs)) (sym e) all)
 
-pub loop-pair-init : goal.loop-pair-init
-loop-pair-init g c = record { reversed = c.requires.reversed; leads = λ parts speaks a b h. absurd (c.requires.none a b h) }
-
-pub put_pair-requires-clause-pair : goal.put_pair-requires-clause-pair
-put_pair-requires-clause-pair g c = listed (g.S.PairSource.pairs c.args.source.now) (core_pairs c.args.self.now) c.pairs-pair-items.result.now c.loop-pair.pair-index nowhere c.pairs-pair-items.ensures c.requires.core.among c.loop-pair-test.true
-
 pub put_pair-requires-clause-small : goal.put_pair-requires-clause-small
 put_pair-requires-clause-small g c =
     let items = c.pairs-pair-items.result.now in
     let pair : Arc = get_or items c.loop-pair.pair-index nowhere in
     let all = listed (g.S.PairSource.pairs c.args.source.now) (core_pairs c.args.self.now) items c.loop-pair.pair-index nowhere c.pairs-pair-items.ensures c.requires.core.among c.loop-pair-test.true in
     All-contains IsSmallPair c.pairs-pairs.result.now pair c.pairs-pairs.ensures.small (subst (λ xs. Contains xs pair) (sym c.pairs-pairs.ensures.is) all)
+
+pub put_pair-requires-clause-pair : goal.put_pair-requires-clause-pair
+put_pair-requires-clause-pair g c = listed (g.S.PairSource.pairs c.args.source.now) (core_pairs c.args.self.now) c.pairs-pair-items.result.now c.loop-pair.pair-index nowhere c.pairs-pair-items.ensures c.requires.core.among c.loop-pair-test.true
 
 pub loop-pair-preserved : goal.loop-pair-preserved
 loop-pair-preserved g c =

@@ -1,24 +1,26 @@
-use Rattle.std.proofs.Common.{refl, sym, subst, Contains}
+use Rattle.std.proofs.Common.{◌≡◌, ◌<◌, ◌+◌, ◌∙◌, ◌∷◌, ◌++◌, [], arith, refl, sym, subst, set, take, Contains}
+use Rattle.std.proofs.lemmas.List.Elements.{Contains-push}
+use Rattle.std.proofs.lemmas.List.{length-set, take_more_set}
 use Rattle.staat_core.specs.Cores.{core_planes}
-use Rattle.staat_core.proofs.Growing.{goes_one, goes_same, last_in, pairs_same, plane_pushed}
+use Rattle.staat_core.proofs.Growing.{axes_kept, goes_one}
 use Rattle.staat_core.proofs.cores.Core.put_plane.Goals as goal
 
-pub returns-then-has_plane-clause-planes : goal.returns-then-has_plane-clause-planes
-returns-then-has_plane-clause-planes c = goes_same (core_planes c.args.self.now) (core_planes c.args.self.now) refl
-
-pub returns-then-self-ge-MOST_CORE_PLANES-clause-planes : goal.returns-then-self-ge-MOST_CORE_PLANES-clause-planes
-returns-then-self-ge-MOST_CORE_PLANES-clause-planes c = goes_same (core_planes c.args.self.now) (core_planes c.args.self.now) refl
-
-pub returns-clause-room : goal.returns-clause-room
-returns-clause-room c =
-    let e = c.push_plane.ensures in
-    plane_pushed c.args.self.now c.push_plane.new.self c.args.n c.requires c.if-self-ge-MOST_CORE_PLANES.false e.room e.used e.planes e.pairs e.count
-
-pub returns-clause-planes : goal.returns-clause-planes
-returns-clause-planes c = goes_one (core_planes c.args.self.now) (core_planes c.push_plane.new.self) c.args.n c.push_plane.ensures.planes
-
-pub returns-clause-pairs : goal.returns-clause-pairs
-returns-clause-pairs c = pairs_same c.args.self.now c.push_plane.new.self c.push_plane.ensures.pairs c.push_plane.ensures.count
-
-pub returns-clause-put : goal.returns-clause-put
-returns-clause-put c told = subst (λ ns. Contains ns c.args.n) (sym c.push_plane.ensures.planes) (last_in (core_planes c.args.self.now) c.args.n)
+pub returns : goal.returns
+returns c =
+    let k = c.args.self.now in
+    let few : k.used < 96 = c.if-self-ge-MOST_CORE_PLANES.false in
+    let room = c.requires in
+    let pushed : take (k.used + 1) (set k.planes k.used c.args.n) ≡ core_planes k ++ c.args.n ∷ [] = take_more_set k.planes k.used c.args.n (subst (λ n. k.used < n) (sym room.room) few) in
+    let more = goes_one (core_planes k) (take (k.used + 1) (set k.planes k.used c.args.n)) c.args.n pushed in
+    record {
+      room = record {
+        long = room.long;
+        few = room.few;
+        room = length-set k.planes k.used c.args.n ∙ room.room;
+        most = omega (arith, few);
+        axes = axes_kept (core_planes k) (take (k.used + 1) (set k.planes k.used c.args.n)) more room.axes;
+      };
+      planes = more;
+      pairs = refl;
+      put = λ told. subst (λ ns. Contains ns c.args.n) (sym pushed) (Contains-push (core_planes k) c.args.n);
+    }

@@ -11,6 +11,6 @@ returns-then-is_same-clause-grows g c = grows_not c.args.self.now
 pub returns-then-is_same-clause-held : goal.returns-then-is_same-clause-held
 returns-then-is_same-clause-held g c told parts speaks apart = absurd (apart (sym c.cross_normal-d.ensures.value ∙ c.is_same.ensures.0 c.if-is_same.true))
 
-pub returns-then-settle-clause-held : goal.returns-then-settle-clause-held
-returns-then-settle-clause-held g c told parts speaks apart =
-    subst (HoldsMoves parts (both_ways (core_pairs c.settle.new.self)) c.args.moving c.args.w) c.cross_normal-d.ensures.value (c.settle.ensures.held c.if-settle.true parts speaks)
+pub returns-clause-held : goal.returns-clause-held
+returns-clause-held g c told parts speaks apart =
+    subst (HoldsMoves parts (both_ways (core_pairs c.settle.new.self)) c.args.moving c.args.w) c.cross_normal-d.ensures.value (c.settle.ensures.held told parts speaks)

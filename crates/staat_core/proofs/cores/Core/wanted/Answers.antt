@@ -8,20 +8,8 @@ use Rattle.staat_core.proofs.cores.Core.wanted.Goals as goal
 pub returns-in-Some-best : goal.returns-in-Some-best
 returns-in-Some-best g c = subst (λ (o : Option Wanted). IfSome o (λ b. Contains (g.S.PairSource.pairs c.args.source.now) b.pair)) c.in-Some-best.is c.loop-arc.invariant
 
-pub loop-arc-init : goal.loop-arc-init
-loop-arc-init g c = tt
-
-pub loop-arc-preserved : goal.loop-arc-preserved
-loop-arc-preserved g c = c.loop-arc.invariant
-
-pub loop-arc-preserved-then-is_link : goal.loop-arc-preserved-then-is_link
-loop-arc-preserved-then-is_link g c = c.better-found.ensures
-
 pub is_link-requires : goal.is_link-requires
 is_link-requires g c = All-contains IsSmallPair c.pairs-pairs.result.now c.in-Some-pair_at.pair c.pairs-pairs.ensures.small c.in-Some-pair_at.ensures
 
 pub better-found-requires-clause-pair : goal.better-found-requires-clause-pair
 better-found-requires-clause-pair g c = subst (λ xs. Contains xs c.in-Some-pair_at.pair) c.pairs-pairs.ensures.is c.in-Some-pair_at.ensures
-
-pub better-found-requires-clause-best : goal.better-found-requires-clause-best
-better-found-requires-clause-best g c = c.loop-arc.invariant

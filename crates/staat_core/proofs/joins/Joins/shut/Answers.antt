@@ -14,10 +14,6 @@ none_then (Some x) P Q f h = tt
 none_held : (R : ℕ → ℕ → Type 0) (w : PartSet) → ((p : ℕ) → Has w p → MovesPart R w p → ⊥) → IsHeldIn R OnePart w
 none_held R w none s (p, p_in, is) shut = none p p_in (⊎_elim (λ e. inl (subst (IsShut R w) e shut)) (λ e. inr (subst (IsShut R w) e shut)) is)
 
-pub returns-in-AnySide : goal.returns-in-AnySide
-returns-in-AnySide c =
-    subst (λ m. IfNone c.shut_side.result (IsHeldIn (HasArc c.args.self.now.ahead.rows) m c.args.w)) (sym c.in-AnySide.is) c.shut_side.ensures
-
 pub returns-in-OnePart : goal.returns-in-OnePart
 returns-in-OnePart c =
     let R = HasArc c.args.self.now.ahead.rows in

@@ -1,11 +1,11 @@
-use Rattle.std.proofs.Common.{◌≡◌, ◌∙◌, ◌++◌, ◌+◌, ◌<◌, ◌≤◌, ℕ, List, ap, arith, drop, length, refl, sym, ⊎_elim}
+use Rattle.std.proofs.Common.{◌≡◌, ◌∙◌, ◌++◌, ◌+◌, ◌<◌, ◌≤◌, ℕ, List, ap, arith, drop, length, sym, ⊎_elim}
 use Rattle.std.specs.Prelude.{slice_index}
 use Rattle.std.proofs.lemmas.Bool.{cases_lt}
 use Rattle.std.proofs.lemmas.List.{drop_all, drop_more}
 use Rattle.staat_vec.specs.declared.vector.V3.{V3}
 use Rattle.staat_model.specs.Planes.{crossings, vertices}
 use Rattle.staat_planes.specs.PairOrder.{numbers_of, plane_at, planes_at}
-use Rattle.staat_planes.proofs.PairSteps.{length_used, nothing_left}
+use Rattle.staat_planes.proofs.PairSteps.{count_is, nothing_left}
 use Rattle.staat_planes.proofs.pairs.PlanePairs.enter_row.Goals.{else-self-via-then-self+else-self-2, else-self-via-else-self}
 use Rattle.staat_planes.proofs.pairs.PlanePairs.enter_row.Goals as goal
 
@@ -20,23 +20,11 @@ next_row planes ks i j lt end =
     (λ last. nothing_left planes ks (i + 1) (i + 1 + 1) (omega arith) (omega arith) ∙ sym (nothing_left planes ks i j end last))
     (cases_lt (i + 1) (length ks))
 
-pub returns-then-self-2-clause-place : goal.returns-then-self-2-clause-place
-returns-then-self-2-clause-place c =
-    let p = c.requires in
-    record { room = p.room; most = p.most; numbers = p.numbers; first = omega arith; order = omega arith }
-
 pub returns-then-self-2-clause-left : goal.returns-then-self-2-clause-left
 returns-then-self-2-clause-left c =
     let p = c.args.self.now in
-    let place = c.requires in
-    let long : length (numbers_of p) ≡ p.count = length_used p.numbers p.count (omega (arith, place.room, place.most)) in
+    let long = count_is c.args.table.now.planes p c.requires in
     next_row c.args.table.now.planes (numbers_of p) p.first p.second (omega (arith, long, c.if-self-2.true)) (omega (arith, long, c.if-self.true))
-
-pub returns-then-self-2-clause-end : goal.returns-then-self-2-clause-end
-returns-then-self-2-clause-end c = λ h. h
-
-pub returns-else-self-clause-left : goal.returns-else-self-clause-left
-returns-else-self-clause-left c = refl
 
 pub returns-else-self-clause-end : goal.returns-else-self-clause-end
 returns-else-self-clause-end c =
@@ -44,9 +32,3 @@ returns-else-self-clause-end c =
       | else-self-via-then-self+else-self-2 w ↦ λ h. let le = w.if-self-2.false in omega (arith, le)
       | else-self-via-else-self w ↦ λ h. let lt = w.if-self.false in absurd (omega (arith, lt, h))
     ]
-
-pub overflow_add-self : goal.overflow_add-self
-overflow_add-self c = let first = c.requires.first in let most = c.requires.most in omega (arith, first, most)
-
-pub overflow_add-self-then-self-2 : goal.overflow_add-self-then-self-2
-overflow_add-self-then-self-2 c = let first = c.requires.first in let most = c.requires.most in omega (arith, first, most)

@@ -1,10 +1,10 @@
 use Rattle.std.proofs.Common.{◌≡◌, ◌≤◌, length, take}
-use Rattle.staat_planes.proofs.PairSteps.{AreUsedBelow}
+use Rattle.staat_planes.proofs.UsedPlanes.{AreMarkedBelow}
 use Rattle.staat_planes.proofs.pairs.PlanePairs.of.Given as goal
 
 abbrev pub invariant-loop-k : goal.invariant-loop-k
 invariant-loop-k l = record {
   room : length l.numbers ≡ 1024;
   few : l.count ≤ l.k;
-  used : AreUsedBelow l.table l.fn.w l.k (take l.count l.numbers);
+  marked : AreMarkedBelow l.marks l.k (take l.count l.numbers);
 }

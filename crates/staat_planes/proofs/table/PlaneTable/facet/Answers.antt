@@ -20,11 +20,6 @@ returns-then-arc-clause-is c =
     ∙ place_is c.kept_facets.result.now c.args.m c.index-kept_facets-m.result below c.index-kept_facets-m.is
     ∙ ap Some (sym c.vector.ensures.is)
 
-pub returns-then-arc-clause-rules : goal.returns-then-arc-clause-rules
-returns-then-arc-clause-rules c =
-    let rules : AreTableFacets c.args.self.now.planes (facets_of c.args.self.now c.args.arc) = c.kept_facets.ensures.table.facets c.args.arc c.requires.across in
-    All-contains (IsTableFacet c.args.self.now.planes) (facets_of c.args.self.now c.args.arc) c.vector.result rules.each (from_place (facets_of c.args.self.now c.args.arc) c.args.m c.vector.result (returns-then-arc-clause-is c))
-
 pub returns-else-arc-clause-is : goal.returns-else-arc-clause-is
 returns-else-arc-clause-is c =
     let is : facets_of c.args.self.now c.args.arc ≡ reversed_facets c.kept_facets-else-arc.result.now = facets_reversed c.args.self.now c.args.arc c.back.result c.kept_facets-else-arc.result.now c.requires.across c.if-arc.false c.back.ensures c.kept_facets-else-arc.ensures.is in

@@ -1,9 +1,8 @@
-use Rattle.staat_planes.specs.Tables.{IsAheadFrom, IsBehindFrom}
-use Rattle.staat_planes.proofs.Found.{IsFound}
+use Rattle.staat_planes.proofs.BothWays.{AreFound}
 use Rattle.staat_planes.proofs.table.PlaneTable.leads_between.Given as goal
 
 abbrev pub invariant-loop-i : goal.invariant-loop-i
-invariant-loop-i l = record {
-  ahead : IsFound (λ i. IsAheadFrom l.self l.heading.d l.a i l.b) l.i l.leads.ahead;
-  behind : IsFound (λ i. IsBehindFrom l.self l.heading.d l.a i l.b) l.i l.leads.behind;
-}
+invariant-loop-i l = AreFound l.self l.heading.d l.a l.b l.i 0 l.leads
+
+abbrev pub invariant-loop-j : goal.invariant-loop-j
+invariant-loop-j l = AreFound l.self l.heading.d l.a l.b l.i l.j l.leads

@@ -1,7 +1,7 @@
 use Rattle.std.proofs.Common.{List}
 use Rattle.staat_model.specs.declared.assembly.Part.{Part}
 use Rattle.staat_core.specs.Cores.{HasGrown, HoldsWithFirst, IsCore}
-use Rattle.staat_core.proofs.cores.Core.holds_on.Given as goal
+use Rattle.staat_core.proofs.cores.Core.holds_with_first.Given as goal
 
 abbrev pub invariant-loop-k : goal.invariant-loop-k
 invariant-loop-k g l = record {

@@ -1,9 +1,0 @@
-use Rattle.std.proofs.Common.{All}
-use Rattle.staat_core.specs.Listed.{HasListRoom, IsTablePair, pairs_in_use}
-use Rattle.staat_core.proofs.listed.PairList.put_to.Given as goal
-
-abbrev pub invariant-loop-a : goal.invariant-loop-a
-invariant-loop-a l = record {
-  room : HasListRoom l.self;
-  pairs : All (IsTablePair l.table) (pairs_in_use l.self);
-}
