@@ -9,8 +9,6 @@ pub mod Ordering
 pub mod NextVertexWithout
 pub mod Cycles
 pub mod WithoutLemmas
-pub mod CircleWithout
-pub mod RingWithout
 pub mod RingsWithout
 pub mod NextOnHalfCircle
 pub mod CircleFromHalf
@@ -29,17 +27,12 @@ pub mod Filters
 pub mod RingLemmas
 pub mod SoundLemmas
 pub mod Unlinking
-pub mod RingSteps
 pub mod Appending
 pub mod Rows
-pub mod Numbers
 pub mod Numbering
 pub mod Linkable
 pub mod RowRules
-pub mod EntryHomes
-pub mod EntrySteps
 pub mod StopSteps
-pub mod ArraySteps
 pub mod CircleSteps
 pub mod Built
 pub mod Made
@@ -54,7 +47,6 @@ pub mod PushLemmas
 pub mod Images
 pub mod IndexLemmas
 pub mod PairNumbers
-pub mod Starting
 pub mod Walking
 pub mod Leaving
 pub mod StepLaw
@@ -64,11 +56,9 @@ pub mod SignAll
 pub mod CircleStops
 pub mod StopLemmas
 pub mod WholeCircles
-pub mod FullPairs
 pub mod Entering
 pub mod CrossSteps
 pub mod Strength
-pub mod BlockSteps
 pub mod Turns
 pub mod StepSigns
 pub mod Taking

@@ -1,10 +1,13 @@
 -- A ring is linked node by node, and rings one after another.
-use Rattle.std.proofs.Common.{◌≡◌, ◌≢◌, ⊎_elim, ℕ, zero, suc, ◌+◌, ◌<◌, refl, sym, ap, subst, ◌∙◌, List, [], ◌∷◌, ◌++◌, length, get_or, take, All, Contains, arith}
+use Rattle.std.proofs.Common.{◌≡◌, ◌≢◌, ⊎_elim, ℕ, zero, suc, ◌+◌, ◌<◌, refl, sym, ap, subst, ◌∙◌, List, [], ◌∷◌, ◌++◌, length, get_or, set, take, All, Contains, arith}
+use Rattle.std.proofs.lemmas.List.{get_or-set_other, take_more}
+use Rattle.std.proofs.lemmas.Grind.{get_or-set_at}
 use Rattle.std.proofs.Math.ListN.{length-set}
-use Rattle.std.proofs.lemmas.List.Elements.{All-contains}
+use Rattle.std.proofs.lemmas.List.Elements.{All-cons, All-contains, All-get_or, All-more, All-take, All-weaker, Contains-get_or}
 use Rattle.staat_ring.specs.Links.{Apart, Chain, Distinct, Links, IsLinkedRing, append}
 use Rattle.staat_ring.proofs.Ends.{last_of}
-use Rattle.staat_ring.specs.Linking.{AreLinked, IsSameAt}
+use Rattle.staat_ring.specs.Linking.{AreHomedAt, AreLinked, IsSameAt}
+use Rattle.staat_ring.proofs.Mapped.{from_apart}
 use Rattle.staat_ring.specs.Rows.{Row, all_of, row_at}
 use Rattle.staat_ring.proofs.Appending.{apart_last, kept, prev_last, ring-append}
 use Rattle.staat_vec.proofs.Naturals.{same_or}
@@ -19,27 +22,22 @@ pub record AreRows (n : ℕ) (rows : List Row) : Type 0 where
 
 -- ---- lists
 
-pub apart_take : (y k : ℕ) (xs : List ℕ) → Apart y xs → Apart y (take k xs)
+apart_take : (y k : ℕ) (xs : List ℕ) → Apart y xs → Apart y (take k xs)
 apart_take y zero xs a = tt
 apart_take y (suc k) [] a = tt
 apart_take y (suc k) (x ∷ xs) a = (a.0, apart_take y k xs a.1)
 
-pub distinct_take : (k : ℕ) (xs : List ℕ) → Distinct xs → Distinct (take k xs)
+distinct_take : (k : ℕ) (xs : List ℕ) → Distinct xs → Distinct (take k xs)
 distinct_take zero xs d = tt
 distinct_take (suc k) [] d = tt
 distinct_take (suc k) (x ∷ xs) d = (apart_take x k xs d.0, distinct_take k xs d.1)
 
-pub apart_nth : (y k d : ℕ) (xs : List ℕ) → k < length xs → Apart y xs → get_or xs k d ≢ y
-apart_nth y k d [] lt a = absurd (omega arith)
-apart_nth y zero d (x ∷ xs) lt a = a.0
-apart_nth y (suc k) d (x ∷ xs) lt a = apart_nth y k d xs (omega arith) a.1
-
-pub nth_apart : (k d : ℕ) (xs : List ℕ) → k < length xs → Distinct xs → Apart (get_or xs k d) (take k xs)
+nth_apart : (k d : ℕ) (xs : List ℕ) → k < length xs → Distinct xs → Apart (get_or xs k d) (take k xs)
 nth_apart k d [] lt s = absurd (omega arith)
 nth_apart zero d (x ∷ xs) lt s = tt
-nth_apart (suc k) d (x ∷ xs) lt s = (λ e. apart_nth x k d xs (omega arith) s.0 (sym e), nth_apart k d xs (omega arith) s.1)
+nth_apart (suc k) d (x ∷ xs) lt s = (λ e. from_apart x xs (get_or xs k d) s.0 (Contains-get_or xs k d (omega arith)) (sym e), nth_apart k d xs (omega arith) s.1)
 
-pub apart_front : (y x : ℕ) (xs : List ℕ) → Apart y (xs ++ x ∷ []) → Apart y xs × (x ≢ y)
+apart_front : (y x : ℕ) (xs : List ℕ) → Apart y (xs ++ x ∷ []) → Apart y xs × (x ≢ y)
 apart_front y x [] a = (tt, a.0)
 apart_front y x (z ∷ xs) a = let r = apart_front y x xs a.1 in ((a.0, r.0), r.1)
 
@@ -67,25 +65,44 @@ pub record IsPartly (first s : Links) (h : ℕ) (done : List ℕ) : Type 0 where
 pub partly_none : (s : Links) (h : ℕ) → IsLinkedRing s h [] → length s.prev ≡ length s.next → IsPartly s s h []
 partly_none s h r e = record { ring = r; others = λ y a. record { next = refl; prev = refl }; size = refl; same = e }
 
-pub partly_more : (first s new : Links) (h x : ℕ) (done more : List ℕ) → new ≡ append h x s → more ≡ done ++ x ∷ [] → h < length s.next → x < length s.next → All (λ y. y < length s.next) done → Distinct (h ∷ done) → Apart x (h ∷ done)
-    → IsPartly first s h done → IsPartly first new h more
-partly_more first s new h x done more e em lh lx ld d a p = subst (λ (t : Links). IsPartly first t h more) (sym e) (subst (λ (m : List ℕ). IsPartly first (append h x s) h m) (sym em) (record {
-  ring = ring-append s h x done lx (let q = p.same in omega (arith, q, lx)) (subst (λ i. i < length s.next) (sym (prev_last s h h done p.ring)) within) (let q = p.same in omega (arith, q, lh)) d a p.ring;
-  others = λ y ay.
-      let f = apart_front y x done ay.1 in
-      let old = p.others y (ay.0, f.0) in
-      let now = same_append s h x done p.ring y ay in
-      record { next = now.next ∙ old.next; prev = now.prev ∙ old.prev };
-  size = length-set (Rattle.std.proofs.Common.set s.next x h) (get_or s.prev h 0) x ∙ (length-set s.next x h ∙ p.size);
-  same = length-set (Rattle.std.proofs.Common.set s.prev x (get_or s.prev h 0)) h x ∙ (length-set s.prev x (get_or s.prev h 0) ∙ (p.same ∙ sym (length-set (Rattle.std.proofs.Common.set s.next x h) (get_or s.prev h 0) x ∙ length-set s.next x h)));
-}))
+pub partly_more : (first s new : Links) (h x k : ℕ) (nodes : List ℕ) → k < length nodes → x ≡ get_or nodes k 0 → new ≡ append h x s → h < length first.next → All (λ y. y < length first.next) nodes → Distinct (h ∷ nodes)
+    → IsPartly first s h (take k nodes) → IsPartly first new h (take (k + 1) nodes)
+partly_more first s new h x k nodes lt x_is e lh inside d p =
+    subst (λ (t : Links). IsPartly first t h (take (k + 1) nodes)) (sym (e ∙ ap (λ y. append h y s) x_is)) (subst (IsPartly first (append h node s) h) (sym (take_more nodes k 0 lt)) (record {
+      ring = ring-append s h node done (omega (arith, node_in, p.size)) (omega (arith, node_in, p.size, p.same)) (omega (arith, last_in_links, p.size, prev_last s h h done p.ring)) (omega (arith, lh, p.size, p.same))
+          (apart_take h k nodes d.0, distinct_take k nodes d.1) ((λ e. from_apart h nodes node d.0 (Contains-get_or nodes k 0 lt) (sym e)), nth_apart k 0 nodes lt d.1) p.ring;
+      others = λ y ay.
+          let f = apart_front y node done ay.1 in
+          let old = p.others y (ay.0, f.0) in
+          let now = same_append s h node done p.ring y ay in
+          record { next = now.next ∙ old.next; prev = now.prev ∙ old.prev };
+      size = length-set (set s.next node h) (get_or s.prev h 0) node ∙ (length-set s.next node h ∙ p.size);
+      same = length-set (set s.prev node (get_or s.prev h 0)) h node ∙ (length-set s.prev node (get_or s.prev h 0) ∙ (p.same ∙ sym (length-set (set s.next node h) (get_or s.prev h 0) node ∙ length-set s.next node h)));
+    }))
   where
-    within : last_of h done < length s.next
-    within = inside (last_in h done)
-      where
-        inside : Contains (h ∷ done) (last_of h done) → last_of h done < length s.next
-        inside (zero, lt, q) = subst (λ i. i < length s.next) q lh
-        inside (suc k, lt, q) = All-contains (λ y. y < length s.next) done (last_of h done) ld (k, omega arith, q)
+    node : ℕ
+    node = get_or nodes k 0
+
+    done : List ℕ
+    done = take k nodes
+
+    node_in : node < length first.next
+    node_in = All-get_or (λ y. y < length first.next) nodes k 0 lt inside
+
+    last_in_links : last_of h done < length first.next
+    last_in_links = All-contains (λ y. y < length first.next) (h ∷ done) (last_of h done) (All-cons (λ y. y < length first.next) h done lh (All-take (λ y. y < length first.next) k nodes inside)) (last_in h done)
+
+-- the node v is the home of one entry more
+pub homed_more : (old now : List ℕ) (v x k : ℕ) (nodes : List ℕ) → k < length nodes → x ≡ get_or nodes k 0 → x < length now → AreHomedAt old now v (take k nodes) → AreHomedAt old (set now x v) v (take (k + 1) nodes)
+homed_more old now v x k nodes lt x_is lx h = record {
+  size = length-set now x v ∙ h.size;
+  here = All-more (λ y. get_or (set now x v) y 0 ≡ v) nodes k 0 lt
+      (All-weaker (λ y. get_or now y 0 ≡ v) (λ y. get_or (set now x v) y 0 ≡ v) (λ y e. ⊎_elim {C = get_or (set now x v) y 0 ≡ v} (λ q. get_or-set_at now x y v 0 q lx) (λ ne. get_or-set_other now x y v 0 ne ∙ e) (same_or y x)) (take k nodes) h.here)
+      (get_or-set_at now x (get_or nodes k 0) v 0 (sym x_is) lx);
+  others = λ y a.
+      let f = apart_front y (get_or nodes k 0) (take k nodes) (subst (Apart y) (take_more nodes k 0 lt) a) in
+      get_or-set_other now x y v 0 (λ q. f.1 (sym (q ∙ x_is))) ∙ h.others y f.0;
+}
 
 -- ---- rings
 

@@ -13,7 +13,8 @@ use Rattle.staat_model.specs.declared.set.PartSet.{PartSet}
 use Rattle.staat_graph.specs.Graphs.{IsStrong}
 use Rattle.staat_ring.specs.BlockCounts.{parts_at}
 use Rattle.staat_ring.proofs.Strength.{strong_same}
-use Rattle.staat_ring.specs.Pairs.{HasFullPair, blocks, gained, is_block, is_full, no_pair, occurs, pair_at}
+use Rattle.staat_ring.specs.WholeCircles.{HaveSameFull, IsFull}
+use Rattle.staat_ring.specs.Pairs.{AreFullAlike, HasFullPair, blocks, gained, is_block, is_full, no_pair, occurs, pair_at}
 use Rattle.staat_ring.specs.CountedSigns.{HasBlockingPair, IsBlockingPair, PlaneState, Signed, no_state, pairs_by, positive_pairs, positives, state_at}
 use Rattle.staat_ring.specs.SignChanges.{AreSigned, uses, emptied, with_sign}
 use Rattle.staat_vec.proofs.Truth.{and_split}
@@ -100,6 +101,24 @@ full_le p h = grind (arith, nat_tests)
 
 le_full : (p : PairCount) → p.wanted ≤ p.positive → is_full p ≡ true
 le_full p h = grind (arith, nat_tests)
+
+-- the counts tell of which pairs all facets are positive
+pub full_counted : (now : Signed) (states : List PlaneState) (pairs : List PairCount) → record { states = states; pairs = map emptied pairs } ≡ now → AreSigned states pairs → (q : ℕ) → IsFull now q ↔ (is_full (pair_at pairs q) ≡ true)
+full_counted now states pairs view is q =
+    let wanted = ap (λ (p : PairCount). p.wanted) (get_or-map emptied pairs q no_pair) in
+    let positive = is.each q in (
+      λ full. le_full (pair_at pairs q) (let here = subst (λ (s : Signed). IsFull s q) (sym view) full in omega (arith, here, wanted, positive)),
+      λ all. subst (λ (s : Signed). IsFull s q) view (let le = full_le (pair_at pairs q) all in omega (arith, le, wanted, positive)),
+    )
+
+pub same_counted : (now new : Signed) (states after : List PlaneState) (pairs counts : List PairCount) → record { states = states; pairs = map emptied pairs } ≡ now → AreSigned states pairs → record { states = after; pairs = map emptied counts } ≡ new → AreSigned after counts → AreFullAlike pairs counts → HaveSameFull now new
+same_counted now new states after pairs counts view is view_new is_new alike q =
+    let one = full_counted now states pairs view is q in
+    let two = full_counted new after counts view_new is_new q in
+    (λ h. two.1 (sym (alike q) ∙ one.0 h), λ h. one.1 (alike q ∙ two.0 h))
+
+pub same_full_trans : (s t u : Signed) → HaveSameFull s t → HaveSameFull t u → HaveSameFull s u
+same_full_trans s t u p r q = (λ h. (r q).0 ((p q).0 h), λ h. (p q).1 ((r q).1 h))
 
 -- a pair that is counted
 found : (x : ℕ) (pairs : List PairCount) → 0 < blocks x pairs → (q : ℕ) × (q < length pairs) × (is_block x (pair_at pairs q) ≡ true)

@@ -1,42 +1,23 @@
 -- Taking an entry out of the arrays takes it out of the lists that they stand for.
-use Rattle.std.proofs.Common.{◌≡◌, ◌≢◌, ℕ, zero, suc, ◌<◌, refl, sym, ap, subst, ◌∙◌, List, [], ◌∷◌, length, Bool, true, false, not, cond, if◌then◌else◌, eqb, ◌⊎◌, inl, inr, get_or, set, arith, Contains}
+use Rattle.std.proofs.Common.{◌≡◌, ◌≢◌, ℕ, ◌<◌, refl, sym, ap, subst, ◌∙◌, List, [], ◌∷◌, length, Bool, true, false, not, if◌then◌else◌, inl, inr, get_or, set, arith, Contains}
 use Rattle.std.proofs.lemmas.List.{get_or-set_other}
 use Rattle.std.proofs.lemmas.Grind.{get_or-set_at}
 use Rattle.std.proofs.Math.ListN.{length-set}
-use Rattle.staat_vec.proofs.ListLaws.{Contains-there}
+use Rattle.std.specs.Prelude.{◌==◌}
+use Rattle.staat_ring.proofs.WithoutLemmas.{filter_from, filter_in}
 use Rattle.staat_ring.specs.Links.{Links, Apart, Distinct, unlink, Arrays, is_bare, take, take_all}
 use Rattle.staat_ring.proofs.Taking.{CanTakeAll, CanTake}
-use Rattle.staat_ring.specs.Stands.{is_empty, Tagged, IsRing, Shape, RingLists, home_of, StandFor, IsPresent, AllPresent}
+use Rattle.staat_ring.specs.Stands.{is_empty, IsRing, Shape, RingLists, home_of, StandFor, IsPresent, AllPresent}
 use Rattle.staat_ring.specs.Within.{InRange}
 use Rattle.staat_ring.proofs.ListsWithout.{lists_without_all, lists_without, without}
-use Rattle.staat_ring.proofs.WithoutNumber.{without_other, without_none, node_between, tagged_apart, prev_tag, next_tag, ring_stays, ring_shrinks, bare_is}
-use Rattle.staat_vec.proofs.Naturals.{same_or}
-
-contains_cases : (z y : ℕ) (zs : List ℕ) → Contains (z ∷ zs) y → (z ≡ y) ⊎ Contains zs y
-contains_cases z y zs (zero, lt, e) = inl e
-contains_cases z y zs (suc k, lt, e) = inr (k, omega arith, e)
-
-contains_here : (z y : ℕ) (zs : List ℕ) → z ≡ y → Contains (z ∷ zs) y
-contains_here z y zs e = (zero, omega arith, e)
+use Rattle.staat_ring.proofs.WithoutNumber.{without_none, node_between, tagged_apart, tagged_in, prev_tag, next_tag, ring_stays, ring_shrinks, bare_is}
+use Rattle.staat_vec.proofs.Naturals.{eq_test_false, same_or}
 
 pub contains_before : (x y : ℕ) (xs : List ℕ) → Contains (without x xs) y → Contains xs y
-contains_before x y [] h = h
-contains_before x y (z ∷ xs) h = step (eqb z x) (contains_before x y xs) h
-  where
-    step : (b : Bool) → (Contains (without x xs) y → Contains xs y) → Contains (cond (not b) (z ∷ without x xs) (without x xs)) y → Contains (z ∷ xs) y
-    step true ih g = Contains-there z y xs (ih g)
-    step false ih g = elim (contains_cases z y (without x xs) g) [ inl e ↦ contains_here z y xs e | inr c ↦ Contains-there z y xs (ih c) ]
+contains_before x y xs h = (filter_from (λ z. not (z == x)) xs y h).0
 
-pub contains_after : (x y : ℕ) (xs : List ℕ) → y ≢ x → Contains xs y → Contains (without x xs) y
-contains_after x y [] n h = h
-contains_after x y (z ∷ xs) n h = elim (contains_cases z y xs h) [
-  | inl e ↦ subst (λ l. Contains l y) (sym (without_other x z xs (λ f. n (sym e ∙ f)))) (contains_here z y (without x xs) e)
-  | inr c ↦ step (eqb z x) (contains_after x y xs n c)
-]
-  where
-    step : (b : Bool) → Contains (without x xs) y → Contains (cond (not b) (z ∷ without x xs) (without x xs)) y
-    step true g = g
-    step false g = Contains-there z y (without x xs) g
+contains_after : (x y : ℕ) (xs : List ℕ) → y ≢ x → Contains xs y → Contains (without x xs) y
+contains_after x y xs n h = filter_in (λ z. not (z == x)) xs y h (ap not (eq_test_false y x n))
 
 -- a word of an array after a write
 pub word_below : (l : List ℕ) (i u x n : ℕ) → u < n → get_or l x 0 < n → i < length l → get_or (set l i u) x 0 < n
@@ -88,13 +69,8 @@ ring_after s tag x h' xs' h xs lt g c r' same r = elim (same_or (tag h) (tag h')
       (ring_stays s tag x h xs (λ e. d (sym e ∙ p)) (λ e. d (sym e ∙ n)) r)
 ]
   where
-    tag_in : (ys : List ℕ) → Contains ys x → Tagged tag (tag h') ys → tag x ≡ tag h'
-    tag_in [] (k, l, e) t = absurd (omega arith)
-    tag_in (y ∷ ys) (zero, l, e) t = ap tag (sym e) ∙ t.0
-    tag_in (y ∷ ys) (suc k, l, e) t = tag_in ys (k, omega arith, e) t.1
-
     tag_of : tag x ≡ tag h'
-    tag_of = tag_in xs' c r'.tagged.1
+    tag_of = tagged_in tag (tag h') xs' x r'.tagged.1 c
 
 -- the ring stands as it did where the vertex stays
 ring_if : (b : Bool) (s : Links) (tag : ℕ → ℕ) (x h' : ℕ) (xs' : List ℕ) (h : ℕ) (xs : List ℕ) → x < length s.next → InRange s → Contains xs' x → IsRing s tag h' xs'

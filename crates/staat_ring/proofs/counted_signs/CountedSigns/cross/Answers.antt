@@ -1,11 +1,9 @@
 use Rattle.std.proofs.Common.{◌-◌, ◌<◌, All, List, ap, arith, length, subst, sym, ◌∙◌, true, false}
-use Rattle.std.proofs.lemmas.Bool.{or_parts}
 use Rattle.staat_ring.specs.declared.entry.Entry.{Entry}
 use Rattle.staat_ring.specs.CountedSigns.{Signed}
 use Rattle.staat_ring.specs.StopSigns.{with_stop_signs}
 use Rattle.staat_ring.specs.WholeCircles.{AreSignsAt, stop_at, vertex_at}
 use Rattle.staat_ring.specs.Belonging.{BelongTo}
-use Rattle.staat_ring.proofs.FullPairs.{same_full_trans}
 use Rattle.staat_ring.proofs.StopSigns.{belong_same, stop_signs_same}
 use Rattle.staat_ring.proofs.WholeCircles.{crossed, entries_small}
 use Rattle.staat_ring.proofs.counted_signs.CountedSigns.cross.Goals as goal
@@ -40,8 +38,3 @@ returns-clause-signs c =
     let is = c.sign_entries-reached.ensures.signs ∙ ap (with_stop_signs false c.stop-2.result.now) c.sign_entries-left.ensures.signs
     ∙ (λ i. with_stop_signs false (c.stop-2.ensures i) (with_stop_signs true (c.stop.ensures i) c.args.self.now)) in
     subst (λ (s : Signed). AreSignsAt planes s (vertex_at planes r c.args.k)) (sym is) (crossed planes c.set-set.ensures.rules.planes r c.requires.circle c.args.k c.requires.later c.requires.place c.args.self.now c.requires.made.states c.requires.signs)
-
-pub returns-clause-same : goal.returns-clause-same
-returns-clause-same c none =
-    let (left, reached) = or_parts c.sign_entries-left.result c.sign_entries-reached.result none in
-    same_full_trans c.args.self.now c.sign_entries-left.new.signs c.sign_entries-reached.new.signs (c.sign_entries-left.ensures.same left) (c.sign_entries-reached.ensures.same reached)

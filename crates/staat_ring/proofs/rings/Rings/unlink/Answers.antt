@@ -1,7 +1,7 @@
 use Rattle.std.proofs.Common.{arith, take}
 use Rattle.staat_ring.proofs.Flags.{flags_unlinked}
 use Rattle.staat_ring.proofs.Made.{unlinked_made}
-use Rattle.staat_ring.proofs.RingSteps.{has_room, is_small, unlink_invariant, unlink_is}
+use Rattle.staat_ring.proofs.Unlinking.{has_room, is_small, unlink_invariant, unlink_is}
 use Rattle.staat_ring.proofs.rings.Rings.unlink.Goals as goal
 
 pub take_plane-requires-clause-plane : goal.take_plane-requires-clause-plane
