@@ -1,8 +1,8 @@
 -- The facets of a pair are put down one after another.
-use Rattle.std.proofs.Common.{◌≡◌, ◌≢◌, ⊎_elim, ℕ, zero, suc, ◌+◌, ◌*◌, ◌<◌, ◌≤◌, arith, ap, sym, subst, ◌∙◌, refl, List, [], ◌∷◌, ◌++◌, length, take, set, All, length-set, get_or-set_same, get_or-set_other, eq-eqb}
-use Rattle.std.specs.Prelude.{◌==◌, ◌&&◌, Bool, true, false, not, map, Result, Ok, Err, OnOk, Some, slice_get}
+use Rattle.std.proofs.Common.{◌≡◌, ◌≢◌, ⊎_elim, ℕ, ◌+◌, ◌*◌, ◌<◌, ◌≤◌, arith, ap, sym, subst, ◌∙◌, refl, List, [], ◌∷◌, ◌++◌, length, take, set, All, length-set, get_or-set_same, get_or-set_other, eq-eqb}
+use Rattle.std.specs.Prelude.{◌==◌, ◌&&◌, Bool, true, false, not, Result, Ok, Err, OnOk, Some, slice_get}
 use Rattle.std.specs.List.{count_by}
-use Rattle.std.proofs.lemmas.List.{get_or_past, length-map}
+use Rattle.std.proofs.lemmas.List.{length-map, length-take, map_push}
 use Rattle.std.proofs.lemmas.List.Elements.{All-append, All-cons, All-nil}
 use Rattle.std.proofs.lemmas.List.Sums.{sum_by_push, sum_by-cons}
 use Rattle.staat_vec.specs.declared.vector.V3.{V3}
@@ -134,15 +134,11 @@ partly_start planes facets s q z a b = record {
   others = λ p ne. record { pair = refl; along = λ k. refl; against = λ k. refl };
 }
 
-map_push : (planes : List V3) (by_plane : List PlaneFacet) (w : PlaneFacet) → map (facet_at planes) (by_plane ++ w ∷ []) ≡ map (facet_at planes) by_plane ++ facet_at planes w ∷ []
-map_push planes [] w = refl
-map_push planes (x ∷ by_plane) w = ap (λ r. facet_at planes x ∷ r) (map_push planes by_plane w)
-
 pub partly_more : (planes facets : List V3) (first s after : Signed) (q m : ℕ) (facet : V3) (w : PlaneFacet) → length s.states ≡ length planes → slice_get facets m ≡ Some facet → w.plane < length planes → facet_at planes w ≡ facet → after ≡ with_facet w q s → IsPartly planes facets first s q m → IsPartly planes facets first after q (m + 1)
 partly_more planes facets first s after q m facet w size at lt is e p = subst (λ (u : Signed). IsPartly planes facets first u q (m + 1)) (sym e) (record {
   index = record {
     by_plane = p.index.by_plane ++ w ∷ [];
-    are = map_push planes p.index.by_plane w ∙ ((λ i. p.index.are i ++ is i ∷ []) ∙ sym (take_next facets m facet at));
+    are = map_push (facet_at planes) p.index.by_plane w ∙ ((λ i. p.index.are i ++ is i ∷ []) ∙ sym (take_next facets m facet at));
     within = All-append (λ w. w.plane < length planes) p.index.by_plane (w ∷ []) p.index.within (All-cons (λ w. w.plane < length planes) w [] lt (All-nil (λ w. w.plane < length planes)));
     along = λ k. along_after s w q small q k ∙ ((λ i. p.index.along k i + one ((w.plane == k) && (own i && not w.turned))) ∙ sym (sum_by_push (λ w. one ((w.plane == k) && not w.turned)) p.index.by_plane w));
     against = λ k. against_after s w q small q k ∙ ((λ i. p.index.against k i + one ((w.plane == k) && (own i && w.turned))) ∙ sym (sum_by_push (λ w. one ((w.plane == k) && w.turned)) p.index.by_plane w));
@@ -167,13 +163,7 @@ partly_room planes facets first s q m n size few small p =
     let u = uses-by_plane planes (take m facets) s.states q p.index size in
     let e = ap length p.index.are in
     let l = length-map p.index.by_plane (facet_at planes) in
-    let t = length_take m facets in
-    omega (arith, u, e, l, t, few, small)
-  where
-    length_take : (m : ℕ) (xs : List V3) → length (take m xs) ≤ length xs
-    length_take zero xs = omega arith
-    length_take (suc m) [] = omega arith
-    length_take (suc m) (x ∷ xs) = let r = length_take m xs in omega (arith, r)
+    omega (arith, u, e, l, length-take m facets, few, small)
 
 -- ---- the pair of an arc is told
 

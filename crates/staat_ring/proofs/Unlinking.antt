@@ -1,7 +1,8 @@
 -- The invariant with the list of unlinked planes, and what unlink and relink do to it and to the view.
-use Rattle.std.proofs.Common.{◌≡◌, ◌≢◌, ℕ, zero, suc, ◌+◌, ◌<◌, ◌≤◌, refl, sym, ap, subst, ◌∙◌, arith, List, [], ◌∷◌, ◌++◌, map, length, take, drop, false, not, ◌&&◌, Contains, inl, inr, ◌-◌, set, get_or}
+use Rattle.std.proofs.Common.{◌≡◌, ◌≢◌, ℕ, zero, suc, ◌+◌, ◌<◌, refl, sym, ap, subst, ◌∙◌, arith, List, [], ◌∷◌, ◌++◌, map, length, take, drop, false, not, ◌&&◌, Contains, inl, inr, ◌-◌, set, get_or}
+use Rattle.std.proofs.lemmas.List.Elements.{filter_agree}
 use Rattle.std.specs.Prelude.{◌==◌}
-use Rattle.std.proofs.lemmas.List.{take_all as take_whole, drop_all, length_push, get_or-set_other, same_from_push, take-set-le, take_more_set}
+use Rattle.std.proofs.lemmas.List.{drop-append-le, length-append, take-append-le, take_all as take_whole, drop_all, length_push, get_or-set_other, same_from_push, take-set-le, take_more_set}
 use Rattle.staat_ring.proofs.WithoutLemmas.{filter_from}
 use Rattle.staat_ring.specs.Links.{Arrays, Apart, Distinct, take_all, give_all}
 use Rattle.staat_ring.specs.Stands.{RingLists}
@@ -9,7 +10,7 @@ use Rattle.staat_ring.proofs.ListsWithout.{without}
 use Rattle.staat_ring.specs.Views.{undo_all, unlinked_planes, lists_of}
 use Rattle.staat_ring.specs.RingViews.{rings_of, rings_at, undo, StandForCircles, CanBeUndone, still_linked, is_out, numbers_below, shape, arrangement_of}
 use Rattle.staat_ring.proofs.ViewLemmas.{undo-push, kept-push}
-use Rattle.staat_ring.proofs.RingLemmas.{listed-push, filter_by, eqb_turned, below_small}
+use Rattle.staat_ring.proofs.RingLemmas.{listed-push, eqb_turned, below_small}
 use Rattle.staat_ring.proofs.WithoutNumber.{split, without_mid, distinct_filter}
 use Rattle.staat_vec.proofs.Truth.{from_not_true}
 use Rattle.staat_vec.proofs.Naturals.{le_or_past, same_or}
@@ -23,16 +24,6 @@ use Rattle.staat_ring.specs.Without.{IsUnlinked, unlinked_plane, rings_without}
 use Rattle.staat_ring.specs.RingInvariant.{HaveTakenOut}
 use Rattle.staat_ring.proofs.SoundLemmas.{good-unlink, undone, rings-unlink}
 
-take-push : (k : ℕ) (out : List ℕ) (p : ℕ) → k ≤ length out → take k (out ++ p ∷ []) ≡ take k out
-take-push zero out p h = refl
-take-push (suc k) [] p h = absurd (omega arith)
-take-push (suc k) (x ∷ out) p h = ap (λ l. x ∷ l) (take-push k out p (omega arith))
-
-drop-push : (k : ℕ) (out : List ℕ) (p : ℕ) → k ≤ length out → drop k (out ++ p ∷ []) ≡ drop k out ++ p ∷ []
-drop-push zero out p h = refl
-drop-push (suc k) [] p h = absurd (omega arith)
-drop-push (suc k) (x ∷ out) p h = drop-push k out p (omega arith)
-
 pub sound_is_good : (n : ℕ) (out : List ℕ) (a : Arrays) → CanBeUndone n out a → StandForCircles n out a
 sound_is_good n out a s =
     subst (λ l. StandForCircles n l a) (take_whole (length out) out (omega arith))
@@ -40,8 +31,8 @@ sound_is_good n out a s =
 
 pub sound-push : (n p : ℕ) (out : List ℕ) (a b : Arrays) → undo n p b ≡ a → StandForCircles n (out ++ p ∷ []) b → CanBeUndone n out a → CanBeUndone n (out ++ p ∷ []) b
 sound-push n p out a b e good s k le = elim (le_or_past k (length out)) [
-  | inl h ↦ subst (λ l. StandForCircles n l (undo_all (undo n) (drop k (out ++ p ∷ [])) b)) (sym (take-push k out p h))
-      (subst (λ x. StandForCircles n (take k out) x) (sym (ap (λ l. undo_all (undo n) l b) (drop-push k out p h) ∙ (undo-push (undo n) (drop k out) p b ∙ ap (undo_all (undo n) (drop k out)) e))) (s k h))
+  | inl h ↦ subst (λ l. StandForCircles n l (undo_all (undo n) (drop k (out ++ p ∷ [])) b)) (sym (take-append-le k out (p ∷ []) h))
+      (subst (λ x. StandForCircles n (take k out) x) (sym (ap (λ l. undo_all (undo n) l b) (drop-append-le k out (p ∷ []) h) ∙ (undo-push (undo n) (drop k out) p b ∙ ap (undo_all (undo n) (drop k out)) e))) (s k h))
   | inr h ↦ let l = length_push out p in
       subst (λ l. StandForCircles n l (undo_all (undo n) (drop k (out ++ p ∷ [])) b)) (sym (take_whole k (out ++ p ∷ []) (omega arith)))
       (subst (λ l. StandForCircles n (out ++ p ∷ []) (undo_all (undo n) l b)) (sym (drop_all k (out ++ p ∷ []) (omega arith))) good)
@@ -50,8 +41,8 @@ sound-push n p out a b e good s k le = elim (le_or_past k (length out)) [
 pub sound-pop : (n p : ℕ) (out : List ℕ) (b : Arrays) → CanBeUndone n (out ++ p ∷ []) b → CanBeUndone n out (undo n p b)
 sound-pop n p out b s k h =
     let l = length_push out p in
-    subst (λ l. StandForCircles n l (undo_all (undo n) (drop k out) (undo n p b))) (take-push k out p h)
-    (subst (λ x. StandForCircles n (take k (out ++ p ∷ [])) x) (ap (λ l. undo_all (undo n) l b) (drop-push k out p h) ∙ undo-push (undo n) (drop k out) p b) (s k (omega arith)))
+    subst (λ l. StandForCircles n l (undo_all (undo n) (drop k out) (undo n p b))) (take-append-le k out (p ∷ []) h)
+    (subst (λ x. StandForCircles n (take k (out ++ p ∷ [])) x) (ap (λ l. undo_all (undo n) l b) (drop-append-le k out (p ∷ []) h) ∙ undo-push (undo n) (drop k out) p b) (s k (omega arith)))
 
 -- ---- the planes that are linked
 pub planes_of_rings : (n : ℕ) (out : List ℕ) (l : RingLists) → map (λ r. r.plane) (rings_of n out l) ≡ still_linked n out
@@ -65,10 +56,6 @@ pub linked_plane : (n : ℕ) (out : List ℕ) (p : ℕ) → Contains (still_link
 linked_plane n out p c =
     let f = filter_from (λ c. not (is_out out c)) (numbers_below n) p c in
     (below_small n p f.0, from_not_true (is_out out p) f.1)
-
-length_mid : (l : List ℕ) (x : ℕ) (r : List ℕ) → length (l ++ x ∷ r) ≡ length (l ++ r) + 1
-length_mid [] x r = omega arith
-length_mid (y ∷ l) x r = let h = length_mid l x r in omega arith
 
 apart_push : (x : ℕ) (xs : List ℕ) (y : ℕ) → Apart x xs → y ≢ x → Apart x (xs ++ y ∷ [])
 apart_push x [] y h n = (n, tt)
@@ -88,14 +75,13 @@ one_less n p out c =
     let s = split (still_linked n out) p c in
     let d' : Distinct (s.left ++ p ∷ s.right) = subst (λ xs. Distinct xs) s.is d in
     let w : still_linked n (out ++ p ∷ []) ≡ s.left ++ s.right = planes ∙ (ap (without p) s.is ∙ without_mid p s.left s.right d') in
-    let m = length_mid s.left p s.right in
     let lw = ap length w in
     let ls = ap length s.is in
-    omega arith
+    omega (arith, lw, ls, length-append s.left (p ∷ s.right), length-append s.left s.right)
   where
     planes : still_linked n (out ++ p ∷ []) ≡ without p (still_linked n out)
     planes =
-        filter_by (λ c. not (is_out (out ++ p ∷ []) c)) (λ c. not (is_out out c) && not (c == p)) (numbers_below n) (λ c. listed-push out p c ∙ (ap (λ b. not (is_out out c) && not b) (eqb_turned p c)))
+        filter_agree (λ c. not (is_out (out ++ p ∷ []) c)) (λ c. not (is_out out c) && not (c == p)) (λ c. listed-push out p c ∙ ap (λ b. not (is_out out c) && not b) (eqb_turned p c)) (numbers_below n)
         ∙ sym (filter_twice (λ c. not (is_out out c)) (λ c. not (c == p)) (numbers_below n))
 
 -- ---- unlink
