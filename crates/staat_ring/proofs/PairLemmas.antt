@@ -1,7 +1,7 @@
 -- One pair is written: how many pairs of its parts block, and how many of its facets are positive.
 use Rattle.std.proofs.Common.{◌≡◌, ◌≢◌, ⊎_elim, ℕ, zero, suc, ◌+◌, ◌<◌, ◌≤◌, Bool, true, false, ◌&&◌, arith, ap, sym, subst, ◌∙◌, refl, List, length, take, get_or, set, cond, eq-eqb, get_or-set_other, get_or-set_same, length-set}
 use Rattle.std.specs.Prelude.{IsTrue, ◌↔◌, ◌==◌, slice_index, slice_set, replicate}
-use Rattle.std.proofs.lemmas.List.{get_or-replicate, get_or_past, length-replicate}
+use Rattle.std.proofs.lemmas.List.{length-replicate}
 use Rattle.std.proofs.lemmas.List.Sums.{sum_by-cons, sum_by-set, get_or-le-sum_by, count_by_more_yes, sum_by-take-le}
 use Rattle.staat_ring.specs.declared.pairs.PairCount.{PairCount}
 use Rattle.staat_model.specs.declared.set.PartSet.{PartSet}
@@ -10,7 +10,7 @@ use Rattle.staat_graph.specs.Graphs.{IsStrong}
 use Rattle.staat_ring.specs.BlockCounts.{HasBlock, parts_at}
 use Rattle.staat_ring.proofs.Strength.{strong_same}
 use Rattle.staat_ring.specs.Pairs.{AreFullAlike, HasFullPair, CountBlocks, blocks, gained, is_block, is_full, no_pair, occurs, pair_at}
-use Rattle.staat_vec.proofs.Naturals.{lt_or_le, eq_test_false, same_or}
+use Rattle.staat_vec.proofs.Naturals.{eq_test_false, same_or}
 use Rattle.staat_vec.proofs.Truth.{and_false}
 
 abbrev pub one : Bool → ℕ
@@ -78,20 +78,19 @@ not_yet qs i lt =
     let le = sum_by-take-le (λ x. cond (x == q) 1 0) qs (i + 1) in
     omega (arith, m, le)
 
+pub at_replicate : {X : Type 0} (n : ℕ) (x : X) (k : ℕ) → get_or (replicate n x) k x ≡ x
+at_replicate zero x k = refl
+at_replicate (suc n) x zero = refl
+at_replicate (suc n) x (suc k) = at_replicate n x k
+
 pub counted_start : (n : ℕ) → n ≤ 4096 → CountBlocks (replicate n no_pair) (replicate 1024 0)
 counted_start n le = record {
   few = let e = length-replicate {A = PairCount} n no_pair in omega (arith, e, le);
-  homes = λ q. homes q;
+  homes = λ q. subst (λ (p : PairCount). p.parts < 1024) (sym (at_replicate n no_pair q)) (omega arith);
   size = length-replicate {A = ℕ} 1024 0;
-  each = λ x low. zero_at x ∙ sym (none x n);
+  each = λ x low. at_replicate 1024 0 x ∙ sym (none x n);
 }
   where
-    homes : (q : ℕ) → (pair_at (replicate n no_pair) q).parts < 1024
-    homes q = ⊎_elim {C = (pair_at (replicate n no_pair) q).parts < 1024} (λ lt. subst (λ (p : PairCount). p.parts < 1024) (sym (get_or-replicate n q no_pair no_pair lt)) (omega arith)) (λ past. subst (λ (p : PairCount). p.parts < 1024) (sym (get_or_past (replicate n no_pair) q no_pair (let e = length-replicate {A = PairCount} n no_pair in omega (arith, e, past)))) (omega arith)) (lt_or_le q n)
-
-    zero_at : (x : ℕ) → slice_index (replicate 1024 0) x ≡ 0
-    zero_at x = ⊎_elim {C = slice_index (replicate 1024 0) x ≡ 0} (λ lt. get_or-replicate 1024 x 0 0 lt) (λ past. get_or_past (replicate 1024 0) x 0 (let e = length-replicate {A = ℕ} 1024 0 in omega (arith, e, past))) (lt_or_le x 1024)
-
     none : (x n : ℕ) → blocks x (replicate n no_pair) ≡ 0
     none x zero = refl
     none x (suc n) = let r = none x n in let b = ap one (and_false (0 == x)) in omega (arith, r, b, sum_by-cons (λ p. one (is_block x p)) no_pair (replicate n no_pair))

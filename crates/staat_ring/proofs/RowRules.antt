@@ -106,7 +106,6 @@ module _ (n c : ℕ) (lc : c < n) (stops : List (List Entry)) (can : CanBeLinked
   rows = record {
     within = λ k lt. subst (λ (r : Row). All (λ x. x < 4 * (n * n)) (all_of r)) (sym (row_is k (back k lt)))
         (All-from_members (λ x. x < 4 * (n * n)) (all_of (vertex_row n c (slot k))) (λ y cy. row_within k y (back k lt) cy));
-    distinct = λ k lt. subst (λ (r : Row). Distinct (all_of r)) (sym (row_is k (back k lt))) (row_distinct k (back k lt));
     apart = λ i k y li lk ne cy. subst (λ (r : Row). Apart y (all_of r)) (sym (row_is k (back k lk)))
         (apart_from y (all_of (vertex_row n c (slot k))) (λ z cz. row_apart i k y z (back i li) (back k lk) ne (node_of_row i y (subst (λ (r : Row). Contains (all_of r) y) (row_is i (back i li)) cy)) (node_of_row k z cz)));
   }

@@ -10,12 +10,13 @@ use Rattle.staat_ring.specs.Linking.{AreHomedAt, AreLinked, IsSameAt}
 use Rattle.staat_ring.proofs.Mapped.{from_apart}
 use Rattle.staat_ring.specs.Rows.{Row, all_of, row_at}
 use Rattle.staat_ring.proofs.Appending.{apart_last, kept, prev_last, ring-append}
+use Rattle.staat_vec.proofs.ListLaws.{only_one}
+use Rattle.staat_vec.proofs.Unique.{Contains-front, Contains-later}
 use Rattle.staat_vec.proofs.Naturals.{same_or}
 
--- each row's nodes are distinct and below n, and no two rows have a node in common
+-- each row's nodes are below n, and no two rows have a node in common
 pub record AreRows (n : ℕ) (rows : List Row) : Type 0 where
   pub within : (k : ℕ) → k < length rows → All (λ x. x < n) (all_of (row_at rows k))
-  pub distinct : (k : ℕ) → k < length rows → Distinct (all_of (row_at rows k))
   pub apart : (i k : ℕ) (y : ℕ) → i < length rows → k < length rows → i ≢ k
       → Contains (all_of (row_at rows i)) y
       → Apart y (all_of (row_at rows k))
@@ -106,45 +107,25 @@ homed_more old now v x k nodes lt x_is lx h = record {
 
 -- ---- rings
 
-chain_same : (s t : Links) (a : ℕ) (xs : List ℕ) (b : ℕ) → ((y : ℕ) → Contains (b ∷ a ∷ xs) y → IsSameAt s t y) → Chain s a xs b → Chain t a xs b
-chain_same s t a [] b same c = ((same a (1, omega arith, refl)).next ∙ c.0, (same b (0, omega arith, refl)).prev ∙ c.1)
-chain_same s t a (x ∷ xs) b same c = (
-  (same a (1, omega arith, refl)).next ∙ c.0,
-  ((same x (2, omega arith, refl)).prev ∙ c.1.0, chain_same s t x xs b (λ y cy. same y (further y cy)) c.1.1),
-)
-  where
-    further : (y : ℕ) → Contains (b ∷ x ∷ xs) y → Contains (b ∷ a ∷ x ∷ xs) y
-    further y (zero, lt, e) = (zero, omega arith, e)
-    further y (suc k, lt, e) = (suc (suc k), omega arith, e)
+chain_same : (s t : Links) (a : ℕ) (xs : List ℕ) (b : ℕ) → IsSameAt s t a → IsSameAt s t b → ((y : ℕ) → Contains xs y → IsSameAt s t y) → Chain s a xs b → Chain t a xs b
+chain_same s t a [] b at_a at_b same c = (at_a.next ∙ c.0, at_b.prev ∙ c.1)
+chain_same s t a (x ∷ xs) b at_a at_b same c =
+    let at_x = same x (Contains-front x xs) in
+    (at_a.next ∙ c.0, (at_x.prev ∙ c.1.0, chain_same s t x xs b at_x at_b (λ y cy. same y (Contains-later x xs y cy)) c.1.1))
 
 pub ring_same : (s t : Links) (h : ℕ) (xs : List ℕ) → ((y : ℕ) → Contains (h ∷ xs) y → IsSameAt s t y) → IsLinkedRing s h xs → IsLinkedRing t h xs
-ring_same s t h xs same c = chain_same s t h xs h (λ y cy. same y (once y cy)) c
-  where
-    once : (y : ℕ) → Contains (h ∷ h ∷ xs) y → Contains (h ∷ xs) y
-    once y (zero, lt, e) = (zero, omega arith, e)
-    once y (suc k, lt, e) = (k, omega arith, e)
-
-head_in : (r : Row) (y : ℕ) → Contains (r.head ∷ []) y → Contains (all_of r) y
-head_in r y (zero, lt, e) = (zero, omega arith, e)
-head_in r y (suc k, lt, e) = absurd (omega arith)
+ring_same s t h xs same c = chain_same s t h xs h (same h (Contains-front h xs)) (same h (Contains-front h xs)) (λ y cy. same y (Contains-later h xs y cy)) c
 
 pub linked_more : (s t : Links) (rows : List Row) (m n : ℕ) → m < length rows → AreRows n rows → IsLinkedRing t (row_at rows m).head (row_at rows m).nodes → ((y : ℕ) → Apart y (all_of (row_at rows m)) → IsSameAt s t y) → AreLinked s rows m → AreLinked t rows (m + 1)
 linked_more s t rows m n lm rules ring others l = record {
   linked = λ k lt lk. ⊎_elim {C = IsLinkedRing t (row_at rows k).head (row_at rows k).nodes}
       (λ e. subst (λ i. IsLinkedRing t (row_at rows i).head (row_at rows i).nodes) (sym e) ring)
-      (λ ne. ring_same s t (row_at rows k).head (row_at rows k).nodes (λ y cy. others y (rules.apart k m y lk lm ne cy)) (l.linked k (before k lt ne) lk))
+      (λ ne. ring_same s t (row_at rows k).head (row_at rows k).nodes (λ y cy. others y (rules.apart k m y lk lm ne cy)) (l.linked k (omega (arith, lt, ne)) lk))
       (same_or k m);
-  alone = λ k no lk. ring_same s t (row_at rows k).head [] (λ y cy. others y (rules.apart k m y lk lm (λ e. no (below k e)) (head_in (row_at rows k) y cy))) (l.alone k (λ lt. no (further k lt)) lk);
+  alone = λ k no lk. ring_same s t (row_at rows k).head []
+      (λ y cy. others y (rules.apart k m y lk lm (λ e. no (omega (arith, e))) (subst (Contains (all_of (row_at rows k))) (sym (only_one (row_at rows k).head y cy)) (Contains-front (row_at rows k).head (row_at rows k).nodes))))
+      (l.alone k (λ lt. no (omega (arith, lt))) lk);
 }
-  where
-    before : (k : ℕ) → k < m + 1 → k ≢ m → k < m
-    before k lt ne = omega (arith, lt, ne)
-
-    below : (k : ℕ) → k ≡ m → k < m + 1
-    below k e = omega (arith, e)
-
-    further : (k : ℕ) → k < m → k < m + 1
-    further k lt = omega (arith, lt)
 
 pub linked_row : (s t : Links) (rows : List Row) (r : Row) (m n : ℕ) → m < length rows → row_at rows m ≡ r → AreRows n rows → IsLinkedRing t r.head r.nodes → ((y : ℕ) → Apart y (all_of r) → IsSameAt s t y) → AreLinked s rows m → AreLinked t rows (m + 1)
 linked_row s t rows r m n lm e rules ring others l = linked_more s t rows m n lm rules (subst (λ (x : Row). IsLinkedRing t x.head x.nodes) (sym e) ring) (λ y a. others y (subst (λ (x : Row). Apart y (all_of x)) e a)) l

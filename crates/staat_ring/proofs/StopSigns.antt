@@ -108,35 +108,28 @@ stop_signs_other leaves (e ∷ es) s j none =
     ∙ ap (λ x. x.sign) (get_or-set_other s.states e.plane j (with_sign (stop_sign leaves e.turned) (state_at s.states e.plane)) no_state (λ q. none e (Contains-front e es) (sym q)))
 
 -- one through which some entry goes gets the sign that all of them give
-pub stop_signs_there : (leaves : Bool) (es : List Entry) (s : Signed) (j : ℕ) (sign : Sign) → j < length s.states → ((e : Entry) → Contains es e → e.plane ≡ j → stop_sign leaves e.turned ≡ sign) → (x : Entry) → Contains es x → x.plane ≡ j
-    → (state_at (with_stop_signs leaves es s).states j).sign ≡ sign
-stop_signs_there leaves [] s j sign lt all x c is = absurd (Contains-nothing x c)
-stop_signs_there leaves (e ∷ es) s j sign lt all x c is = by (stop_signs_there leaves es next j sign small (λ y cy. all y (Contains-later e es y cy))) (some_or es j)
+sign_given : (leaves : Bool) (es : List Entry) (s : Signed) (j : ℕ) (sign : Sign) → j < length s.states → ((e : Entry) → Contains es e → e.plane ≡ j → stop_sign leaves e.turned ≡ sign)
+    → ((x : Entry) × Contains es x × (x.plane ≡ j)) ⊎ ((state_at s.states j).sign ≡ sign) → (state_at (with_stop_signs leaves es s).states j).sign ≡ sign
+sign_given leaves [] s j sign lt all some = ⊎_elim {C = (state_at s.states j).sign ≡ sign} (λ (x, c, q). absurd (Contains-nothing x c)) (λ h. h) some
+sign_given leaves (e ∷ es) s j sign lt all some =
+    sign_given leaves es next j sign (subst (λ n. j < n) (sym (length-set s.states e.plane (with_sign (stop_sign leaves e.turned) (state_at s.states e.plane)))) lt) (λ y cy. all y (Contains-later e es y cy))
+    (⊎_elim {C = Given} here (λ ne. ⊎_elim {C = Given} (there ne) (λ h. inr (ap (λ x. x.sign) (get_or-set_other s.states e.plane j (with_sign (stop_sign leaves e.turned) (state_at s.states e.plane)) no_state (λ q. ne (sym q))) ∙ h)) some) (same_or e.plane j))
   where
     next : Signed
     next = with_plane_sign e.plane (stop_sign leaves e.turned) s
 
-    small : j < length next.states
-    small = subst (λ n. j < n) (sym (length-set s.states e.plane (with_sign (stop_sign leaves e.turned) (state_at s.states e.plane)))) lt
+    Given : Type 0
+    Given = ((x : Entry) × Contains es x × (x.plane ≡ j)) ⊎ ((state_at next.states j).sign ≡ sign)
 
-    some_or : (es : List Entry) (j : ℕ) → ((x : Entry) × Contains es x × (x.plane ≡ j)) ⊎ ((x : Entry) → Contains es x → x.plane ≢ j)
-    some_or [] j = inr (λ x c e. Contains-nothing x c)
-    some_or (y ∷ ys) j = ⊎_elim {C = ((x : Entry) × Contains (y ∷ ys) x × (x.plane ≡ j)) ⊎ ((x : Entry) → Contains (y ∷ ys) x → x.plane ≢ j)} (λ e. inl (y, Contains-front y ys, e))
-        (λ ne. ⊎_elim {C = ((x : Entry) × Contains (y ∷ ys) x × (x.plane ≡ j)) ⊎ ((x : Entry) → Contains (y ∷ ys) x → x.plane ≢ j)} (λ h. inl (h.0, Contains-later y ys h.0 h.1, h.2))
-        (λ none. inr (λ x c e. ⊎_elim (λ q. ne (sym (ap (λ z. z.plane) q) ∙ e)) (λ l. none x l e) (Contains-cases y ys x c)))
-        (some_or ys j))
-        (same_or y.plane j)
+    here : e.plane ≡ j → Given
+    here is = inr (ap (λ i. (state_at next.states i).sign) (sym is) ∙ (sign_of_set s.states e.plane (stop_sign leaves e.turned) (subst (λ i. i < length s.states) (sym is) lt) ∙ all e (Contains-front e es) is))
 
-    first : ((x : Entry) → Contains es x → x.plane ≢ j) → (state_at (with_stop_signs leaves es next).states j).sign ≡ sign
-    first none =
-        let e_is : e.plane ≡ j = ⊎_elim (λ q. sym (ap (λ z. z.plane) q) ∙ is) (λ l. absurd (none x l is)) (Contains-cases e es x c) in
-        stop_signs_other leaves es next j none
-        ∙ (ap (λ i. (state_at next.states i).sign) (sym e_is)
-        ∙ (sign_of_set s.states e.plane (stop_sign leaves e.turned) (subst (λ i. i < length s.states) (sym e_is) lt) ∙ all e (Contains-front e es) e_is))
+    there : e.plane ≢ j → (x : Entry) × Contains (e ∷ es) x × (x.plane ≡ j) → Given
+    there ne (x, c, is) = ⊎_elim {C = Given} (λ q. absurd (ne (sym (ap (λ z. z.plane) q) ∙ is))) (λ l. inl (x, l, is)) (Contains-cases e es x c)
 
-    by : ((x : Entry) → Contains es x → x.plane ≡ j → (state_at (with_stop_signs leaves es next).states j).sign ≡ sign) → ((x : Entry) × Contains es x × (x.plane ≡ j)) ⊎ ((x : Entry) → Contains es x → x.plane ≢ j) → (state_at (with_stop_signs leaves es next).states j).sign ≡ sign
-    by rest (inl (y, cy, ey)) = rest y cy ey
-    by rest (inr none) = first none
+pub stop_signs_there : (leaves : Bool) (es : List Entry) (s : Signed) (j : ℕ) (sign : Sign) → j < length s.states → ((e : Entry) → Contains es e → e.plane ≡ j → stop_sign leaves e.turned ≡ sign) → (x : Entry) → Contains es x → x.plane ≡ j
+    → (state_at (with_stop_signs leaves es s).states j).sign ≡ sign
+stop_signs_there leaves es s j sign lt all x c is = sign_given leaves es s j sign lt all (inl (x, c, is))
 
 -- ---- the first entry with a property
 
