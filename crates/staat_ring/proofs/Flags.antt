@@ -1,4 +1,5 @@
 -- The flags of the linked planes.
+use Rattle.std.proofs.Common.{rules}
 use Rattle.std.proofs.Common.{◌≡◌, ◌≢◌, ⊎_elim, ℕ, ◌+◌, ◌-◌, ◌<◌, arith, ap, sym, subst, ◌∙◌, List, [], ◌∷◌, ◌++◌, length, get_or, set, take, Bool, true, false, not, ◌&&◌, eq-eqb}
 use Rattle.std.proofs.Math.ListN.{length-set}
 use Rattle.std.proofs.lemmas.List.{get_or-set_other, take_more_set}
@@ -22,22 +23,10 @@ pub all_linked : (n : ℕ) (flags : List Bool) → length flags ≡ n → ((p : 
 all_linked n flags size each = record { size = size; each = each }
 
 pushed : (n p : ℕ) (out : List ℕ) (flags : List Bool) → p < n → AreFlags n out flags → AreFlags n (out ++ p ∷ []) (set flags p false)
-pushed n p out flags lp are = record {
-  size = length-set flags p false ∙ are.size;
-  each = λ q lq. ⊎_elim {C = get_or (set flags p false) q false ≡ not (is_out (out ++ p ∷ []) q)}
-      (λ e. get_or-set_at flags p q false false (sym e) (let s = are.size in omega (arith, lp, s)) ∙ sym (self_out out p q e))
-      (λ ne. get_or-set_other flags p q false false (λ e. ne (sym e)) ∙ (are.each q lq ∙ sym (other_stays out p q ne)))
-      (same_or p q);
-}
+pushed n p out flags lp are = search (rules, ⊎_elim, length-set, get_or-set_other, get_or-set_at, same_or, other_stays, self_out)
 
 popped : (n p : ℕ) (out : List ℕ) (flags : List Bool) → p < n → is_out out p ≡ false → AreFlags n (out ++ p ∷ []) flags → AreFlags n out (set flags p true)
-popped n p out flags lp free are = record {
-  size = length-set flags p true ∙ are.size;
-  each = λ q lq. ⊎_elim {C = get_or (set flags p true) q false ≡ not (is_out out q)}
-      (λ e. get_or-set_at flags p q true false (sym e) (let s = are.size in omega (arith, lp, s)) ∙ sym (ap (λ k. not (is_out out k)) (sym e) ∙ ap not free))
-      (λ ne. get_or-set_other flags p q true false (λ e. ne (sym e)) ∙ (are.each q lq ∙ other_stays out p q ne))
-      (same_or p q);
-}
+popped n p out flags lp free are = search (rules, ⊎_elim, length-set, get_or-set_other, get_or-set_at, same_or, other_stays)
 
 -- the plane that was unlinked last was linked before
 once_out : (n count : ℕ) (order : List ℕ) (a : Arrays) (p : ℕ) → HaveTakenOut n count order a → 0 < count → take count order ≡ take (count - 1) order ++ p ∷ [] → is_out (take (count - 1) order) p ≡ false

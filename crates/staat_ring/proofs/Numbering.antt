@@ -1,12 +1,13 @@
 -- The numbers of entries, of heads and of vertices: each tells its circle, and an entry its plane and its sense, and stands
 -- at one stop of its circle.
-use Rattle.std.proofs.Common.{◌≡◌, ℕ, ◌+◌, ◌*◌, ◌/◌, ◌<◌, ◌≤◌, sym, ap, ◌∙◌, arith, ◌%◌, refl, Bool, true, false, if◌then◌else◌, zero, [], ◌∷◌, List, All, Contains, eq-eqb}
+use Rattle.std.proofs.Common.{rules}
+use Rattle.std.proofs.Common.{◌≡◌, ℕ, ◌+◌, ◌*◌, ◌/◌, ◌<◌, ◌≤◌, sym, ap, ◌∙◌, arith, refl, Bool, true, false, if◌then◌else◌, zero, [], ◌∷◌, List, All, Contains, eq-eqb}
 use Rattle.std.proofs.Math.Nat.{add-mod_left, mod-eq_of_lt, mul-le-mul}
 use Rattle.std.proofs.lemmas.Nat.{div-mul-add}
 use Rattle.staat_ring.specs.RingViews.{shape}
 use Rattle.staat_ring.specs.Numbered.{plane_of, HasEntry, head_number, node_number, entry_number, entry_numbered}
 use Rattle.staat_ring.proofs.SoundLemmas.{plane_of_entry}
-use Rattle.std.specs.Prelude.{Some, map, slice_get, ◌==◌}
+use Rattle.std.specs.Prelude.{Some, map, slice_get}
 use Rattle.std.proofs.lemmas.List.Elements.{All-contains, All-map, All-weaker}
 use Rattle.staat_vec.specs.declared.vector.V3.{V3}
 use Rattle.staat_ring.specs.declared.entry.Entry.{Entry}
@@ -19,10 +20,7 @@ abbrev number : ℕ → ℕ → ℕ → ℕ → ℕ
 number n c p s = 2 * (c * n + p) + s
 
 number_small : (n c p s : ℕ) → c < n → p < n → s < 2 → number n c p s < 2 * (n * n)
-number_small n c p s hc hp hs =
-    let m : (c + 1) * n ≤ n * n = mul-le-mul (let a : c + 1 ≤ n = omega arith in a) (let b : n ≤ n = omega arith in b) in
-    let e : (c + 1) * n ≡ c * n + n = grind arith in
-    omega (arith, m, e, hp, hs)
+number_small n c p s hc hp hs = search (rules, mul-le-mul)
 
 half : (n c p s : ℕ) → s < 2 → number n c p s / 2 ≡ c * n + p
 half n c p s hs = omega arith
@@ -79,14 +77,7 @@ entry_circle n c e lc le = circle_of_number n c e.plane (bit e.turned) lc le (bi
 
 -- the entry that a number tells
 pub entry_back : (n c : ℕ) (e : Entry) → e.plane < n → entry_numbered n (entry_number n c e) ≡ e
-entry_back n c e le = λ i. record { plane = plane_of_entry n e.plane c (bit e.turned) le (bit_small e.turned) i; turned = odd e.turned i }
-  where
-    rest : (x s : ℕ) → s < 2 → (2 * x + s) % 2 ≡ s
-    rest x s lt = omega arith
-
-    odd : (b : Bool) → ((2 * (c * n + e.plane) + bit b) % 2 == 1) ≡ b
-    odd true = eq-eqb ((2 * (c * n + e.plane) + 1) % 2) 1 (rest (c * n + e.plane) 1 (omega arith))
-    odd false = eq_test_false ((2 * (c * n + e.plane) + 0) % 2) 1 (λ q. let r = rest (c * n + e.plane) 0 (omega arith) in omega (arith, q, r))
+entry_back n c e le = search (rules, eq-eqb, plane_of_entry, eq_test_false, bit_small)
 
 -- ---- the nodes of a circle
 

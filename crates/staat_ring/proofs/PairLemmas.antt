@@ -1,5 +1,6 @@
 -- One pair is written: how many pairs of its parts block, and how many of its facets are positive.
-use Rattle.std.proofs.Common.{◌≡◌, ◌≢◌, ⊎_elim, ℕ, zero, suc, ◌+◌, ◌<◌, ◌≤◌, Bool, true, false, ◌&&◌, arith, ap, sym, subst, ◌∙◌, refl, List, length, take, get_or, set, cond, eq-eqb, get_or-set_other, get_or-set_same, length-set}
+use Rattle.std.proofs.Common.{rules}
+use Rattle.std.proofs.Common.{◌≡◌, ⊎_elim, ℕ, zero, suc, ◌+◌, ◌<◌, ◌≤◌, Bool, true, ◌&&◌, arith, ap, sym, subst, ◌∙◌, refl, List, length, take, get_or, set, cond, eq-eqb, get_or-set_other, get_or-set_same, length-set}
 use Rattle.std.specs.Prelude.{IsTrue, ◌↔◌, ◌==◌, slice_index, slice_set, replicate}
 use Rattle.std.proofs.lemmas.List.{length-replicate}
 use Rattle.std.proofs.lemmas.List.Sums.{sum_by-cons, sum_by-set, get_or-le-sum_by, count_by_more_yes, sum_by-take-le}
@@ -9,7 +10,7 @@ use Rattle.staat_model.specs.Sets.{Has}
 use Rattle.staat_graph.specs.Graphs.{IsStrong}
 use Rattle.staat_ring.specs.BlockCounts.{HasBlock, parts_at}
 use Rattle.staat_ring.proofs.Strength.{strong_same}
-use Rattle.staat_ring.specs.Pairs.{AreFullAlike, HasFullPair, CountBlocks, blocks, gained, is_block, is_full, no_pair, occurs, pair_at}
+use Rattle.staat_ring.specs.Pairs.{HasFullPair, CountBlocks, blocks, is_block, is_full, no_pair, occurs, pair_at}
 use Rattle.staat_vec.proofs.Naturals.{eq_test_false, same_or}
 use Rattle.staat_vec.proofs.Truth.{and_false}
 
@@ -18,11 +19,7 @@ one b = cond b 1 0
 
 -- a pair that is among those of the parts y where all its facets are positive
 block_is : (x y : ℕ) (p : PairCount) → (is_full p ≡ true → y ≡ p.parts) → is_block x p ≡ ((y == x) && is_full p)
-block_is x y p h = go (is_full p) h
-  where
-    go : (b : Bool) → (b ≡ true → y ≡ p.parts) → ((p.parts == x) && b) ≡ ((y == x) && b)
-    go true h = ap (λ z. (z == x) && true) (sym (h refl))
-    go false h = and_false (p.parts == x) ∙ sym (and_false (y == x))
+block_is x y p h = search (rules, and_false)
 
 -- a pair is written, and the count of its parts
 module _ (pairs : List PairCount) (counts : List ℕ) (q : ℕ) (is : CountBlocks pairs counts) (lt : q < length pairs) (p : PairCount) (small : p.parts < 1024) (home : is_full (pair_at pairs q) ≡ true → p.parts ≡ (pair_at pairs q).parts) where
@@ -30,45 +27,13 @@ module _ (pairs : List PairCount) (counts : List ℕ) (q : ℕ) (is : CountBlock
   old = pair_at pairs q
 
   pub counted : (n : ℕ) → n + one (is_full old) ≡ slice_index counts p.parts + one (is_full p) → CountBlocks (set pairs q p) (slice_set counts p.parts n)
-  counted n step = record {
-    few = let e = length-set pairs q p in let f = is.few in omega arith;
-    homes = λ r. ⊎_elim {C = (pair_at (set pairs q p) r).parts < 1024}
-        (λ e. subst (λ (z : PairCount). z.parts < 1024) (sym (ap (pair_at (set pairs q p)) e ∙ get_or-set_same pairs q p no_pair lt)) small)
-        (λ ne. subst (λ (z : PairCount). z.parts < 1024) (sym (get_or-set_other pairs q r p no_pair ne)) (is.homes r))
-        (same_or r q);
-    size = length-set counts p.parts n ∙ is.size;
-    each = λ x low.
-        let w = sum_by-set (λ r. one (is_block x r)) pairs q p no_pair lt in
-        let b = ap one (block_is x p.parts old home) in
-        ⊎_elim {C = slice_index (slice_set counts p.parts n) x ≡ blocks x (set pairs q p)} (here x (is.each x low) w b) (there x (is.each x low) w b) (same_or p.parts x);
-  }
-    where
-      here : (x : ℕ) → slice_index counts x ≡ blocks x pairs → blocks x (set pairs q p) + one (is_block x old) ≡ blocks x pairs + one (is_block x p) → one (is_block x old) ≡ one ((p.parts == x) && is_full old) → p.parts ≡ x → slice_index (slice_set counts p.parts n) x ≡ blocks x (set pairs q p)
-      here x e w b same =
-          let z = ap (slice_index (slice_set counts p.parts n)) (sym same) ∙ get_or-set_same counts p.parts n 0 (let s = is.size in omega (arith, s, small)) in
-          let t = eq-eqb p.parts x same in
-          omega (arith, e, w, b, z, step, ap (slice_index counts) same, ap (λ b. one (b && is_full old)) t, ap (λ b. one (b && is_full p)) t)
-
-      there : (x : ℕ) → slice_index counts x ≡ blocks x pairs → blocks x (set pairs q p) + one (is_block x old) ≡ blocks x pairs + one (is_block x p) → one (is_block x old) ≡ one ((p.parts == x) && is_full old) → p.parts ≢ x → slice_index (slice_set counts p.parts n) x ≡ blocks x (set pairs q p)
-      there x e w b ne =
-          let t = eq_test_false p.parts x ne in
-          omega (arith, e, w, b, get_or-set_other counts p.parts x n 0 (λ e. ne (sym e)), ap (λ b. one (b && is_full old)) t, ap (λ b. one (b && is_full p)) t)
+  counted n step = search (rules, ⊎_elim, eq-eqb, get_or-set_other, get_or-set_same, length-set, sum_by-set, eq_test_false, same_or, block_is)
 
   -- a full pair is among those counted
   pub some_block : is_full old ≡ true → 0 < slice_index counts p.parts
   some_block full =
       let le = get_or-le-sum_by (λ r. one (is_block p.parts r)) pairs q no_pair lt in
       omega (arith, le, is.each p.parts small, ap one (block_is p.parts p.parts old home ∙ (λ i. eq-eqb p.parts p.parts refl i && full i)))
-
--- ---- so many more facets
-
-pub gained_sum : (x y z : PairCount) (a b n : ℕ) → x ≡ gained a y → y ≡ gained b z → a + b ≡ n → x ≡ gained n z
-gained_sum x y z a b n e f s = e ∙ ap (gained a) f ∙ ap (λ k. record { positive = k; wanted = z.wanted; parts = z.parts }) (let g : z.positive + b + a ≡ z.positive + n = omega arith in g)
-
--- ---- pairs that are full alike
-
-pub alike_trans : (a b c : List PairCount) → AreFullAlike a b → AreFullAlike b c → AreFullAlike a c
-alike_trans a b c p r q = p q ∙ r q
 
 -- before its place, the number at place i stands less often in the list
 pub not_yet : (qs : List ℕ) (i : ℕ) → i < length qs → occurs (get_or qs i 0) (take i qs) < occurs (get_or qs i 0) qs

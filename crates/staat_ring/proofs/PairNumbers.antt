@@ -1,4 +1,5 @@
 -- The numbers of pairs, one after another.
+use Rattle.std.proofs.Common.{rules}
 use Rattle.std.proofs.Common.{◌≡◌, ◌⊎◌, inl, inr, ⊎_elim, ℕ, ◌+◌, ◌*◌, ◌/◌, ◌%◌, ◌<◌, ◌≤◌, arith, ap, sym, subst, ◌∙◌, refl, length, take, get_or}
 use Rattle.std.specs.Prelude.{Result, Ok, Err, OnOk, replicate, sum}
 use Rattle.std.proofs.lemmas.List.{length-replicate, take-take}
@@ -28,12 +29,7 @@ unused_same : (s u : Signed) (q : ℕ) → IsPairKept s u q → IsUnused s q →
 unused_same s u q same f = record { wanted = (let e = ap (λ p. p.wanted) same.pair in let w = f.wanted in omega (arith, e, w)); along = λ k. same.along k ∙ f.along k; against = λ k. same.against k ∙ f.against k }
 
 pair_same : (t : Table) (s u : Signed) (arc : Arc) → length u.pairs ≡ length s.pairs → IsPairKept s u (slot t.pieces arc) → IsPairOf t s arc → IsPairOf t u arc
-pair_same t s u arc size same p = record {
-  within = subst (λ n. slot t.pieces arc < n) (sym size) p.within;
-  parts = ap (λ x. x.parts) same.pair ∙ p.parts;
-  wanted = ap (λ x. x.wanted) same.pair ∙ p.wanted;
-  index = record { by_plane = p.index.by_plane; are = p.index.are; within = p.index.within; along = λ k. same.along k ∙ p.index.along k; against = λ k. same.against k ∙ p.index.against k };
-}
+pair_same t s u arc size same p = search (rules)
 
 told_same : (t : Table) (s u : Signed) (q : ℕ) → length u.pairs ≡ length s.pairs → IsPairKept s u q → IsTold t s q → IsTold t u q
 told_same t s u q size same (inl (arc, across, e, p)) = inl (arc, across, e, pair_same t s u arc size (subst (IsPairKept s u) (sym e) same) p)

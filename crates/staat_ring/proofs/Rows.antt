@@ -1,4 +1,7 @@
 -- A ring is linked node by node, and rings one after another.
+use Rattle.std.proofs.Common.{rules}
+use Rattle.std.proofs.lemmas.Grind.{common_steps}
+use Rattle.std.proofs.lemmas.Bool.Decides.{nat_tests}
 use Rattle.std.proofs.Common.{◌≡◌, ◌≢◌, ⊎_elim, ℕ, zero, suc, ◌+◌, ◌<◌, refl, sym, ap, subst, ◌∙◌, List, [], ◌∷◌, ◌++◌, length, get_or, set, take, All, Contains, arith}
 use Rattle.std.proofs.lemmas.List.{get_or-set_other, take_more}
 use Rattle.std.proofs.lemmas.Grind.{get_or-set_at}
@@ -49,12 +52,7 @@ last_in a (x ∷ xs) = let r = last_in x xs in (suc r.0, omega (arith, r.1), r.2
 -- ---- one node more
 
 same_append : (s : Links) (h x : ℕ) (xs : List ℕ) → IsLinkedRing s h xs → (y : ℕ) → Apart y (h ∷ xs ++ x ∷ []) → IsSameAt s (append h x s) y
-same_append s h x xs ring y a =
-    let f = apart_front y x xs a.1 in
-    record {
-      next = kept s.next x h (get_or s.prev h 0) x y (λ e. f.1 (sym e)) (λ e. apart_last y h xs (a.0, f.0) (e ∙ prev_last s h h xs ring));
-      prev = kept s.prev x (get_or s.prev h 0) h x y (λ e. f.1 (sym e)) (λ e. a.0 (sym e));
-    }
+same_append s h x xs ring y a = search (rules, apart_last, kept, prev_last, apart_front)
 
 -- so far: the ring goes over the nodes done, and the words of others are as at first
 pub record IsPartly (first s : Links) (h : ℕ) (done : List ℕ) : Type 0 where
@@ -62,9 +60,6 @@ pub record IsPartly (first s : Links) (h : ℕ) (done : List ℕ) : Type 0 where
   pub others : (y : ℕ) → Apart y (h ∷ done) → IsSameAt first s y
   pub size : length s.next ≡ length first.next
   pub same : length s.prev ≡ length s.next
-
-pub partly_none : (s : Links) (h : ℕ) → IsLinkedRing s h [] → length s.prev ≡ length s.next → IsPartly s s h []
-partly_none s h r e = record { ring = r; others = λ y a. record { next = refl; prev = refl }; size = refl; same = e }
 
 pub partly_more : (first s new : Links) (h x k : ℕ) (nodes : List ℕ) → k < length nodes → x ≡ get_or nodes k 0 → new ≡ append h x s → h < length first.next → All (λ y. y < length first.next) nodes → Distinct (h ∷ nodes)
     → IsPartly first s h (take k nodes) → IsPartly first new h (take (k + 1) nodes)
@@ -95,15 +90,7 @@ partly_more first s new h x k nodes lt x_is e lh inside d p =
 
 -- the node v is the home of one entry more
 pub homed_more : (old now : List ℕ) (v x k : ℕ) (nodes : List ℕ) → k < length nodes → x ≡ get_or nodes k 0 → x < length now → AreHomedAt old now v (take k nodes) → AreHomedAt old (set now x v) v (take (k + 1) nodes)
-homed_more old now v x k nodes lt x_is lx h = record {
-  size = length-set now x v ∙ h.size;
-  here = All-more (λ y. get_or (set now x v) y 0 ≡ v) nodes k 0 lt
-      (All-weaker (λ y. get_or now y 0 ≡ v) (λ y. get_or (set now x v) y 0 ≡ v) (λ y e. ⊎_elim {C = get_or (set now x v) y 0 ≡ v} (λ q. get_or-set_at now x y v 0 q lx) (λ ne. get_or-set_other now x y v 0 ne ∙ e) (same_or y x)) (take k nodes) h.here)
-      (get_or-set_at now x (get_or nodes k 0) v 0 (sym x_is) lx);
-  others = λ y a.
-      let f = apart_front y (get_or nodes k 0) (take k nodes) (subst (Apart y) (take_more nodes k 0 lt) a) in
-      get_or-set_other now x y v 0 (λ q. f.1 (sym (q ∙ x_is))) ∙ h.others y f.0;
-}
+homed_more old now v x k nodes lt x_is lx h = grind (arith, common_steps, nat_tests, ⊎_elim, get_or-set_other, take_more, get_or-set_at, length-set, All-more, All-weaker, same_or, apart_front)
 
 -- ---- rings
 

@@ -1,5 +1,6 @@
 -- All linked planes get their signs.
-use Rattle.std.proofs.Common.{◌≡◌, ⊎_elim, ℕ, ◌+◌, ◌<◌, ◌≤◌, arith, ap, subst, ◌∙◌, List, [], ◌∷◌, length, cond, Contains, get_or-set_other}
+use Rattle.std.proofs.Common.{rules}
+use Rattle.std.proofs.Common.{◌≡◌, ⊎_elim, ℕ, ◌+◌, ◌<◌, ◌≤◌, arith, ap, subst, List, [], ◌∷◌, length, cond, Contains, get_or-set_other}
 use Rattle.std.specs.Prelude.{Some, ◌==◌, nat_lt, slice_get}
 use Rattle.std.proofs.lemmas.List.Sums.{sum_by-cons, count_by-le-length, get_or-le-sum_by}
 use Rattle.std.proofs.lemmas.Bool.Decides.{nat_tests}
@@ -9,8 +10,8 @@ use Rattle.staat_vec.specs.declared.vector.V3.{V3}
 use Rattle.staat_vec.specs.declared.vector.Sign.{Sign}
 use Rattle.staat_vec.specs.Vectors.{dot, sign}
 use Rattle.staat_model.specs.Circles.{IsLinked}
-use Rattle.staat_ring.specs.SignChanges.{with_plane_sign, with_sign}
-use Rattle.staat_ring.specs.CountedSigns.{Signed, no_state, state_at}
+use Rattle.staat_ring.specs.SignChanges.{with_plane_sign}
+use Rattle.staat_ring.specs.CountedSigns.{Signed, state_at}
 use Rattle.staat_ring.specs.Stepping.{count_below}
 use Rattle.staat_ring.proofs.StopSigns.{sign_of_set}
 use Rattle.staat_vec.proofs.Naturals.{same_or}
@@ -19,10 +20,7 @@ abbrev pub Done : List V3 → List ℕ → V3 → Signed → ℕ → Type 0
 Done planes linked d s k = (j : ℕ) (n : V3) → j < k → IsLinked planes linked j n → (state_at s.states j).sign ≡ sign (dot n d)
 
 pub more_done : (planes : List V3) (linked : List ℕ) (d : V3) (now new : Signed) (k : ℕ) (sg : Sign) → k < length now.states → ((n : V3) → slice_get planes k ≡ Some n → sg ≡ sign (dot n d)) → new ≡ with_plane_sign k sg now → Done planes linked d now k → Done planes linked d new (k + 1)
-more_done planes linked d now new k sg lt is set done j n small h = ap (λ s. (state_at s.states j).sign) set ∙ ⊎_elim {C = (state_at (with_plane_sign k sg now).states j).sign ≡ sign (dot n d)}
-    (λ e. ap (λ i. (state_at (with_plane_sign k sg now).states i).sign) e ∙ (sign_of_set now.states k sg lt ∙ is n (subst (λ i. slice_get planes i ≡ Some n) e h.is)))
-    (λ ne. ap (λ s. s.sign) (get_or-set_other now.states k j (with_sign sg (state_at now.states k)) no_state ne) ∙ done j n (omega arith) h)
-    (same_or j k)
+more_done planes linked d now new k sg lt is set done j n small h = search (rules, ⊎_elim, get_or-set_other, sign_of_set, same_or)
 
 pub same_done : (planes : List V3) (linked : List ℕ) (d : V3) (now : Signed) (k : ℕ) → (Contains linked k → ⊥) → Done planes linked d now k → Done planes linked d now (k + 1)
 same_done planes linked d now k none done j n small h = ⊎_elim {C = (state_at now.states j).sign ≡ sign (dot n d)} (λ e. absurd (none (subst (Contains linked) e h.listed))) (λ ne. done j n (omega arith) h) (same_or j k)

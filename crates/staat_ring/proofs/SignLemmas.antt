@@ -1,9 +1,8 @@
 -- One plane gets another sign.
-use Rattle.std.proofs.Common.{◌≡◌, ℕ, zero, suc, ◌+◌, ◌<◌, ◌≤◌, arith, ap, sym, subst, ◌∙◌, refl, List, [], ◌∷◌, length, set, cond, All, get_or-set_same}
+use Rattle.std.proofs.Common.{◌≡◌, ℕ, zero, suc, ◌+◌, ◌<◌, ◌≤◌, arith, ap, sym, subst, ◌∙◌, refl, List, [], ◌∷◌, length, set, cond, get_or-set_same}
 use Rattle.std.specs.Prelude.{IsTrue, ◌==◌, ◌↔◌, Bool, true, false, map}
 use Rattle.std.proofs.Math.ListN.{get_or-map}
 use Rattle.std.proofs.lemmas.List.{ext_get_or, length-map}
-use Rattle.std.proofs.lemmas.List.Elements.{All-set, All-get_or}
 use Rattle.std.proofs.lemmas.List.Sums.{sum_by-set, sum_by-cons, get_or-le-sum_by}
 use Rattle.std.proofs.lemmas.Bool.Decides.{nat_tests, Decides-eqb}
 use Rattle.staat_vec.specs.declared.vector.Sign.{Sign}
@@ -13,8 +12,7 @@ use Rattle.staat_model.specs.declared.set.PartSet.{PartSet}
 use Rattle.staat_graph.specs.Graphs.{IsStrong}
 use Rattle.staat_ring.specs.BlockCounts.{parts_at}
 use Rattle.staat_ring.proofs.Strength.{strong_same}
-use Rattle.staat_ring.specs.WholeCircles.{HaveSameFull, IsFull}
-use Rattle.staat_ring.specs.Pairs.{AreFullAlike, HasFullPair, blocks, gained, is_block, is_full, no_pair, occurs, pair_at}
+use Rattle.staat_ring.specs.Pairs.{HasFullPair, blocks, gained, is_block, is_full, no_pair, occurs, pair_at}
 use Rattle.staat_ring.specs.CountedSigns.{HasBlockingPair, IsBlockingPair, PlaneState, Signed, no_state, pairs_by, positive_pairs, positives, state_at}
 use Rattle.staat_ring.specs.SignChanges.{AreSigned, uses, emptied, with_sign}
 use Rattle.staat_vec.proofs.Truth.{and_split}
@@ -53,14 +51,6 @@ module _ (states : List PlaneState) (k : ℕ) (sign : Sign) (lt : k < length sta
     room q = let e = positives-set q in let l = left q in let u = uses-set q in let m = positives-le-uses q after in let f = is.few q in omega (arith, e, l, u, m, f)
 
     module _ (new : List PairCount) (more : (q : ℕ) → pair_at new q ≡ gained (occurs q (positive_pairs (with_sign sign there))) (pair_at lost q)) (same : length new ≡ length old) where
-      pub set_signed : AreSigned after new
-      set_signed = record {
-        each = λ q. let e = positives-set q in let l = left q in let m = ap (λ p. p.positive) (more q) in omega (arith, e, l, m);
-        few = λ q. subst (λ n. n < 65536) (sym (uses-set q)) (is.few q);
-        along = subst (λ n. All (λ s. All (λ q. q < n) s.along) after) (sym same) (All-set (λ s. All (λ q. q < length old) s.along) states k (with_sign sign there) (All-get_or (λ s. All (λ q. q < length old) s.along) states k no_state lt is.along) is.along);
-        against = subst (λ n. All (λ s. All (λ q. q < n) s.against) after) (sym same) (All-set (λ s. All (λ q. q < length old) s.against) states k (with_sign sign there) (All-get_or (λ s. All (λ q. q < length old) s.against) states k no_state lt is.against) is.against);
-      }
-
       pub set_pairs : map emptied new ≡ map emptied old
       set_pairs = ext_get_or no_pair (map emptied new) (map emptied old) (length-map new emptied ∙ same ∙ sym (length-map old emptied))
           (λ q small. get_or-map emptied new q no_pair ∙ ap emptied (more q) ∙ ap emptied (sym (less q)) ∙ sym (get_or-map emptied old q no_pair))
@@ -86,9 +76,6 @@ module _ (now : Signed) (states after : List PlaneState) (old lost : List PairCo
     more_is : (q : ℕ) → pair_at new q ≡ gained (occurs q (positive_pairs (with_sign sign (state_at states k)))) (pair_at lost q)
     more_is q = more q ∙ ap (λ qs. gained (occurs q qs) (pair_at lost q)) second_by
 
-    pub step_signed : AreSigned after new
-    step_signed = subst (λ xs. AreSigned xs new) (sym after_is) (set_signed states k sign place old lost is less_is new more_is (same ∙ short))
-
     pub step_value : ◌≡◌ {A = Signed} (record { states = after; pairs = map emptied new }) (record { states = set now.states k (with_sign sign (state_at now.states k)); pairs = now.pairs })
     step_value =
         (λ i. record { states = after_is i; pairs = set_pairs states k sign place old lost is less_is new more_is (same ∙ short) i })
@@ -101,24 +88,6 @@ full_le p h = grind (arith, nat_tests)
 
 le_full : (p : PairCount) → p.wanted ≤ p.positive → is_full p ≡ true
 le_full p h = grind (arith, nat_tests)
-
--- the counts tell of which pairs all facets are positive
-pub full_counted : (now : Signed) (states : List PlaneState) (pairs : List PairCount) → record { states = states; pairs = map emptied pairs } ≡ now → AreSigned states pairs → (q : ℕ) → IsFull now q ↔ (is_full (pair_at pairs q) ≡ true)
-full_counted now states pairs view is q =
-    let wanted = ap (λ (p : PairCount). p.wanted) (get_or-map emptied pairs q no_pair) in
-    let positive = is.each q in (
-      λ full. le_full (pair_at pairs q) (let here = subst (λ (s : Signed). IsFull s q) (sym view) full in omega (arith, here, wanted, positive)),
-      λ all. subst (λ (s : Signed). IsFull s q) view (let le = full_le (pair_at pairs q) all in omega (arith, le, wanted, positive)),
-    )
-
-pub same_counted : (now new : Signed) (states after : List PlaneState) (pairs counts : List PairCount) → record { states = states; pairs = map emptied pairs } ≡ now → AreSigned states pairs → record { states = after; pairs = map emptied counts } ≡ new → AreSigned after counts → AreFullAlike pairs counts → HaveSameFull now new
-same_counted now new states after pairs counts view is view_new is_new alike q =
-    let one = full_counted now states pairs view is q in
-    let two = full_counted new after counts view_new is_new q in
-    (λ h. two.1 (sym (alike q) ∙ one.0 h), λ h. one.1 (alike q ∙ two.0 h))
-
-pub same_full_trans : (s t u : Signed) → HaveSameFull s t → HaveSameFull t u → HaveSameFull s u
-same_full_trans s t u p r q = (λ h. (r q).0 ((p q).0 h), λ h. (p q).1 ((r q).1 h))
 
 -- a pair that is counted
 found : (x : ℕ) (pairs : List PairCount) → 0 < blocks x pairs → (q : ℕ) × (q < length pairs) × (is_block x (pair_at pairs q) ≡ true)

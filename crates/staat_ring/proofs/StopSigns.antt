@@ -1,4 +1,7 @@
 -- The signs of the planes through a stop.
+use Rattle.std.proofs.Common.{rules}
+use Rattle.std.proofs.lemmas.Grind.{common_steps}
+use Rattle.std.proofs.lemmas.Bool.Decides.{nat_tests}
 use Rattle.std.proofs.Common.{◌≡◌, ◌≢◌, ℕ, zero, suc, ◌+◌, ◌<◌, ◌≤◌, Bool, arith, ap, sym, subst, ◌∙◌, refl, List, [], ◌∷◌, length, drop, take, set, ◌⊎◌, inl, inr, ⊎_elim, Contains, length-set, get_or-set_same, get_or-set_other}
 use Rattle.std.specs.Prelude.{Some, slice_get}
 use Rattle.std.proofs.lemmas.Option.{get_or_from_slice_get, slice_get_within}
@@ -9,11 +12,8 @@ use Rattle.std.proofs.Math.ListN.{drop_of_length-le}
 use Rattle.staat_vec.specs.declared.vector.Sign.{Sign}
 use Rattle.staat_vec.specs.Lists.{IsFirst}
 use Rattle.staat_vec.proofs.Unique.{Contains-cases, Contains-front, Contains-later, Contains-nothing}
-use Rattle.staat_model.specs.declared.certificate.Arc.{Arc}
-use Rattle.staat_pairs.specs.Tables.{IsTableArc, Table, slot}
-use Rattle.staat_ring.specs.declared.pairs.PairCount.{PairCount}
-use Rattle.staat_ring.specs.Pairs.{occurs, pair_at}
-use Rattle.staat_ring.specs.Belonging.{BelongTo, IsUnused}
+use Rattle.staat_pairs.specs.Tables.{Table}
+use Rattle.staat_ring.specs.Belonging.{BelongTo}
 use Rattle.staat_ring.specs.CountedSigns.{PlaneState, Signed, no_state, state_at}
 use Rattle.staat_ring.specs.SignChanges.{with_sign, with_plane_sign}
 use Rattle.staat_ring.specs.StopSigns.{stop_sign, with_stop_signs}
@@ -54,12 +54,7 @@ kept_at {X = X} f states k sign j same = ⊎_elim {C = f (state_at (set states k
     (same_or j k)
 
 pub signed_same : (k : ℕ) (sign : Sign) (s : Signed) → SameLists (with_plane_sign k sign s) s
-signed_same k sign s = record {
-  size = length-set s.states k (with_sign sign (state_at s.states k));
-  along = λ j. kept_at (λ x. x.along) s.states k sign j (λ x. refl);
-  against = λ j. kept_at (λ x. x.against) s.states k sign j (λ x. refl);
-  pairs = refl;
-}
+signed_same k sign s = grind (arith, common_steps, nat_tests, length-set, kept_at)
 
 pub stop_signs_same : (leaves : Bool) (es : List Entry) (s : Signed) → SameLists (with_stop_signs leaves es s) s
 stop_signs_same leaves [] s = same_itself s
@@ -69,31 +64,7 @@ stop_signs_same leaves (e ∷ es) s =
 
 -- signs that belong to a table still do
 pub belong_same : (t : Table) (s u : Signed) → SameLists u s → BelongTo t s → BelongTo t u
-belong_same t s u same to = record {
-  states = same.size ∙ to.states;
-  all = λ arc across.
-      let p = to.all arc across in
-      let i = p.index in
-      record {
-        within = subst (λ (ps : List PairCount). slot t.pieces arc < length ps) (sym same.pairs) p.within;
-        parts = ap (λ ps. (pair_at ps (slot t.pieces arc)).parts) same.pairs ∙ p.parts;
-        wanted = ap (λ ps. (pair_at ps (slot t.pieces arc)).wanted) same.pairs ∙ p.wanted;
-        index = record {
-          by_plane = i.by_plane;
-          are = i.are;
-          within = i.within;
-          along = λ k. ap (occurs (slot t.pieces arc)) (same.along k) ∙ i.along k;
-          against = λ k. ap (occurs (slot t.pieces arc)) (same.against k) ∙ i.against k;
-        };
-      };
-  only = λ q lt. ⊎_elim {C = ((arc : Arc) × IsTableArc t arc × (slot t.pieces arc ≡ q)) ⊎ IsUnused u q} (λ h. inl h)
-      (λ n. inr (record {
-        wanted = subst (λ (ps : List PairCount). 1 ≤ (pair_at ps q).wanted) (sym same.pairs) n.wanted;
-        along = λ k. ap (occurs q) (same.along k) ∙ n.along k;
-        against = λ k. ap (occurs q) (same.against k) ∙ n.against k;
-      }))
-      (to.only q (subst (λ (ps : List PairCount). q < length ps) same.pairs lt));
-}
+belong_same t s u same to = search (rules, ⊎_elim)
 
 -- ---- the signs
 

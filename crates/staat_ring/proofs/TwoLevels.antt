@@ -1,4 +1,5 @@
 -- Taking an entry out of the arrays takes it out of the lists that they stand for.
+use Rattle.std.proofs.Common.{rules}
 use Rattle.std.proofs.Common.{◌≡◌, ◌≢◌, ℕ, ◌<◌, refl, sym, ap, subst, ◌∙◌, List, [], ◌∷◌, length, Bool, true, false, not, if◌then◌else◌, inl, inr, get_or, set, arith, Contains}
 use Rattle.std.proofs.lemmas.List.{get_or-set_other}
 use Rattle.std.proofs.lemmas.Grind.{get_or-set_at}
@@ -21,25 +22,10 @@ contains_after x y xs n h = filter_in (λ z. not (z == x)) xs y h (ap not (eq_te
 
 -- a word of an array after a write
 pub word_below : (l : List ℕ) (i u x n : ℕ) → u < n → get_or l x 0 < n → i < length l → get_or (set l i u) x 0 < n
-word_below l i u x n hu hx hi = elim (same_or x i) [
-  | inl e ↦ subst (λ w. w < n) (sym (get_or-set_at l i x u 0 e hi)) hu
-  | inr d ↦ subst (λ w. w < n) (sym (get_or-set_other l i x u 0 d)) hx
-]
+word_below l i u x n hu hx hi = search (rules, get_or-set_other, get_or-set_at, same_or)
 
 pub range_unlink : (s : Links) (x : ℕ) → x < length s.next → InRange s → InRange (unlink x s)
-range_unlink s x lt h =
-    let lp = length-set s.prev (get_or s.next x 0) (get_or s.prev x 0) in
-    let ln = length-set s.next (get_or s.prev x 0) (get_or s.next x 0) in
-    let hp = h.prev_within x lt in
-    let hn = h.next_within x lt in
-    let hs = h.same in
-    record {
-      same = omega (arith, hs);
-      next_within = λ y ly. let ly' : y < length s.next = omega arith in
-          let w = word_below s.next (get_or s.prev x 0) (get_or s.next x 0) y (length s.next) hn (h.next_within y ly') hp in omega arith;
-      prev_within = λ y ly. let ly' : y < length s.next = omega arith in
-          let w = word_below s.prev (get_or s.next x 0) (get_or s.prev x 0) y (length s.next) hp (h.prev_within y ly') (omega (arith, hs)) in omega arith;
-    }
+range_unlink s x lt h = search (rules, length-set, word_below)
 
 node_in_range : (s : Links) (x : ℕ) → x < length s.next → InRange s → (get_or s.prev x 0 < length s.next) × (get_or s.next x 0 < length s.prev)
 node_in_range s x lt h = (h.prev_within x lt, let n = h.next_within x lt in let e = h.same in omega (arith, n, e))

@@ -1,4 +1,7 @@
 -- The invariant with the list of unlinked planes, and what unlink and relink do to it and to the view.
+use Rattle.std.proofs.Common.{rules}
+use Rattle.std.proofs.lemmas.Grind.{common_steps}
+use Rattle.std.proofs.lemmas.Bool.Decides.{nat_tests}
 use Rattle.std.proofs.Common.{◌≡◌, ◌≢◌, ℕ, zero, suc, ◌+◌, ◌<◌, refl, sym, ap, subst, ◌∙◌, arith, List, [], ◌∷◌, ◌++◌, map, length, take, drop, false, not, ◌&&◌, Contains, inl, inr, ◌-◌, set, get_or}
 use Rattle.std.proofs.lemmas.List.Elements.{filter_agree}
 use Rattle.std.specs.Prelude.{◌==◌}
@@ -93,11 +96,7 @@ pub is_small : (n : ℕ) (out : List ℕ) (a : Arrays) (v : Arrangement) (p : �
 is_small n out a v p e c = (linked_plane n out p (is_linked n out a v p e c)).0
 
 pub has_room : (n count : ℕ) (order : List ℕ) (a : Arrays) (v : Arrangement) (p : ℕ) → HaveTakenOut n count order a → arrangement_of n (take count order) a ≡ v → Contains (map (λ r. r.plane) v.rings) p → count < n
-has_room n count order a v p k e c =
-    let l = is_linked n (take count order) a v p e c in
-    let s = l.1 in
-    let t = k.all count (omega arith) in
-    omega arith
+has_room n count order a v p k e c = grind (arith, common_steps, nat_tests, is_linked)
 
 module _ (n count : ℕ) (order : List ℕ) (a b : Arrays) (v : Arrangement) (p : ℕ) (k : HaveTakenOut n count order a) (e : arrangement_of n (take count order) a ≡ v) (c : Contains (map (λ r. r.plane) v.rings) p) (is : b ≡ take_all (entries_of n p n) a) where
   linked : Contains (still_linked n (take count order)) p
@@ -120,11 +119,7 @@ module _ (n count : ℕ) (order : List ℕ) (a b : Arrays) (v : Arrangement) (p 
       ∙ ap (λ x. rings_without p x.rings) e))
 
   pub unlink_kept : unlinked_planes (undo n) (rings_at n) [] (take (count + 1) (set order count p)) b ≡ v.unlinked ++ (record { plane = p; before = v.rings }) ∷ []
-  unlink_kept =
-      ap (λ o. unlinked_planes (undo n) (rings_at n) [] o b) (take_more_set order count p room)
-      ∙ (kept-push (undo n) (rings_at n) [] (take count order) p b
-      ∙ (ap (λ x. unlinked_planes (undo n) (rings_at n) [] (take count order) x ++ (record { plane = p; before = rings_at n (take count order) x }) ∷ []) back
-      ∙ ap (λ x. x.unlinked ++ (record { plane = p; before = x.rings }) ∷ []) e))
+  unlink_kept = search (rules, take_more_set, kept-push, room, back)
 
   pub unlink_is : IsUnlinked p v (arrangement_of n (take (count + 1) (set order count p)) b)
   unlink_is = record { rings = unlink_rings; unlinked = unlink_kept }
@@ -168,32 +163,17 @@ not_nil (y ∷ xs) x e = cc
 module _ (n count : ℕ) (order : List ℕ) (a : Arrays) (v : Arrangement) (p : ℕ) (k : HaveTakenOut n count order a) (e : arrangement_of n (take count order) a ≡ v)
     (u : List (UnlinkedPlane (List Ring))) (before : List Ring) (last : v.unlinked ≡ u ++ unlinked_plane p before ∷ []) where
   pub some : 0 < count
-  some = go count refl
-    where
-      go : (m : ℕ) → m ≡ count → 0 < count
-      go zero q = absurd (not_nil u (record { plane = p; before = before }) (ap (λ m. unlinked_planes (undo n) (rings_at n) [] (take m order) a) q ∙ (ap (λ x. x.unlinked) e ∙ last)))
-      go (suc m) q = omega arith
+  some = search (rules, not_nil)
 
   split_order : take count order ≡ take (count - 1) order ++ get_or order (count - 1) 0 ∷ []
-  split_order =
-      let s = some in
-      let q : count ≡ suc (count - 1) = omega arith in
-      let z = k.size in
-      let m = k.most in
-      ap (λ i. take i order) q ∙ take-suc order (count - 1) 0 (omega arith)
+  split_order = grind (arith, common_steps, nat_tests, take-suc, some)
 
   pushed : v.unlinked ≡ unlinked_planes (undo n) (rings_at n) [] (take (count - 1) order) (undo n (get_or order (count - 1) 0) a)
       ++ (record { plane = get_or order (count - 1) 0; before = rings_at n (take (count - 1) order) (undo n (get_or order (count - 1) 0) a) }) ∷ []
-  pushed =
-      ap (λ x. x.unlinked) (sym e)
-      ∙ (ap (λ o. unlinked_planes (undo n) (rings_at n) [] o a) split_order
-      ∙ kept-push (undo n) (rings_at n) [] (take (count - 1) order) (get_or order (count - 1) 0) a)
+  pushed = search (rules, kept-push, split_order)
 
   pub is_last : get_or order (count - 1) 0 ≡ p
-  is_last = ap (λ x. x.plane) (same_last
-      (unlinked_planes (undo n) (rings_at n) [] (take (count - 1) order) (undo n (get_or order (count - 1) 0) a)) u
-      (record { plane = get_or order (count - 1) 0; before = rings_at n (take (count - 1) order) (undo n (get_or order (count - 1) 0) a) }) (record { plane = p; before = before })
-      (sym pushed ∙ last))
+  is_last = search (rules, same_last, pushed)
 
   pub split_is : take count order ≡ take (count - 1) order ++ p ∷ []
   split_is = split_order ∙ ap (λ q. take (count - 1) order ++ q ∷ []) is_last
@@ -203,10 +183,7 @@ module _ (n count : ℕ) (order : List ℕ) (a : Arrays) (v : Arrangement) (p : 
 
   pub relink_kept : (b : Arrays) → b ≡ give_all (entries_of n p n) a
       → v.unlinked ≡ unlinked_planes (undo n) (rings_at n) [] (take (count - 1) order) b ++ (record { plane = p; before = rings_at n (take (count - 1) order) b }) ∷ []
-  relink_kept b is =
-      pushed
-      ∙ (ap (λ q. unlinked_planes (undo n) (rings_at n) [] (take (count - 1) order) (undo n q a) ++ (record { plane = q; before = rings_at n (take (count - 1) order) (undo n q a) }) ∷ []) is_last
-      ∙ ap (λ x. unlinked_planes (undo n) (rings_at n) [] (take (count - 1) order) x ++ (record { plane = p; before = rings_at n (take (count - 1) order) x }) ∷ []) (sym is))
+  relink_kept b is = search (rules, pushed, is_last)
 
   pub relink_invariant : (b : Arrays) → b ≡ give_all (entries_of n p n) a → length b.home ≡ length a.home → HaveTakenOut n (count - 1) order b
   relink_invariant b is h =

@@ -1,4 +1,6 @@
 -- Lists without one number.
+use Rattle.std.proofs.lemmas.Grind.{common_steps}
+use Rattle.std.proofs.lemmas.Bool.Decides.{nat_tests}
 use Rattle.std.proofs.Common.{◌≡◌, ◌≢◌, ℕ, zero, suc, refl, sym, ap, subst, ◌∙◌, List, [], ◌∷◌, ◌++◌, Bool, true, false, not, cond, eq-eqb, get_or, arith, Contains}
 use Rattle.std.specs.List.{filter}
 use Rattle.std.specs.Prelude.{◌==◌}
@@ -106,12 +108,7 @@ next_tag s tag x h xs c r =
 
 -- a ring with another tag stays
 pub ring_stays : (s : Links) (tag : ℕ → ℕ) (x h : ℕ) (xs : List ℕ) → tag (get_or s.prev x 0) ≢ tag h → tag (get_or s.next x 0) ≢ tag h → IsRing s tag h xs → IsRing (unlink x s) tag h xs
-ring_stays s tag x h xs p n r = record {
-  ring = chain_stays s (get_or s.prev x 0) (get_or s.next x 0) (get_or s.next x 0) (get_or s.prev x 0) h xs h
-      (λ e. p (ap tag (sym e))) (tagged_apart tag (tag h) _ xs r.tagged.1 p) (tagged_apart tag (tag h) _ xs r.tagged.1 n) (λ e. n (ap tag (sym e))) r.ring;
-  distinct = r.distinct;
-  tagged = r.tagged;
-}
+ring_stays s tag x h xs p n r = grind (arith, common_steps, nat_tests, chain_stays, tagged_apart)
 
 -- the ring of the node goes over the list without it
 pub ring_shrinks : (s : Links) (tag : ℕ → ℕ) (x h : ℕ) (xs : List ℕ) → NodeInRange s x → Contains xs x → IsRing s tag h xs → IsRing (unlink x s) tag h (without x xs)
