@@ -2,15 +2,13 @@ use Rattle.std.proofs.Common.{◌+◌, ◌*◌, arith, ap, ◌∙◌, refl, leng
 use Rattle.staat_pairs.specs.Tables.{facets_of}
 use Rattle.staat_ring.proofs.IndexLemmas.{no_positives, partly_more, partly_room, same_but, told_start}
 use Rattle.staat_ring.proofs.index.add_pair.Goals as goal
+use Rattle.std.proofs.Common.{rules}
 
 pub want-requires-clause-none : goal.want-requires-clause-none
 want-requires-clause-none c = no_positives c.args.signs.now c.args.q c.requires.fresh
 
 pub loop-m-init : goal.loop-m-init
-loop-m-init c = record {
-  all = c.facet_count-count.ensures.is;
-  partly = told_start c.args.table.now.planes (facets_of c.args.table.now c.args.arc) c.args.signs.now c.want.new.self c.args.q c.facet_count-count.result (32 * c.args.arc.a + c.args.arc.b) c.want.ensures c.requires.zero c.requires.fresh;
-}
+loop-m-init c = search (rules, told_start)
 
 pub push_facet-requires-clause-room : goal.push_facet-requires-clause-room
 push_facet-requires-clause-room c =

@@ -1,21 +1,17 @@
-use Rattle.std.proofs.Common.{ap, arith, get_or, subst, sym, ◌∙◌, ◌<◌, [], length}
+use Rattle.std.proofs.Common.{ap, get_or, subst, sym, ◌∙◌, ◌<◌, length}
 use Rattle.std.proofs.lemmas.List.Elements.{All-from_get_or}
-use Rattle.staat_ring.specs.Links.{Arrays, IsLinkedRing}
+use Rattle.staat_ring.specs.Links.{Arrays}
 use Rattle.staat_ring.specs.Linking.{AreSized, IsKeptAt}
-use Rattle.staat_ring.specs.Numbered.{head_number}
 use Rattle.staat_ring.proofs.Numbering.{head_circle, head_small}
 use Rattle.staat_ring.proofs.StopSteps.{alone_rows, holds_now, homes_now, others_now}
 use Rattle.staat_ring.proofs.arrays.RingArrays.link_circle.Goals as goal
+use Rattle.std.proofs.Common.{rules}
 
 pub link-requires-clause-alone : goal.link-requires-clause-alone
-link-requires-clause-alone c =
-    let h = head_small c.args.planes c.args.c c.requires.circle in
-    subst (λ (a : Arrays). IsLinkedRing a.circles (head_number c.args.planes c.args.c) []) (sym c.self.view_is)
-    (c.requires.alone (head_number c.args.planes c.args.c) (omega (arith, h)) (head_circle c.args.planes c.args.c c.requires.circle)).circles
+link-requires-clause-alone c = search (rules, head_circle, head_small)
 
 pub link_stops-requires-clause-alone : goal.link_stops-requires-clause-alone
-link_stops-requires-clause-alone c = alone_rows c.args.planes c.args.c c.requires.circle c.args.stops.now c.requires.stops c.self.inside.vertices
-    (λ y ly e. subst (λ (a : Arrays). IsLinkedRing a.vertices y []) (sym c.self.view_is) (c.requires.alone y ly e).vertices)
+link_stops-requires-clause-alone c = search (rules, alone_rows)
 
 pub link_stops-requires-clause-within : goal.link_stops-requires-clause-within
 link_stops-requires-clause-within c = All-from_get_or (λ x. x < length c.self.inside.home.items) c.self.inside.home.items 0 c.self.invariant.home_in_vertices
