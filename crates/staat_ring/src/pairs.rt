@@ -72,8 +72,8 @@ impl PairCounts {
         self.pairs[q as usize]
     }
 
-    // The pair of the number q is this one now. It blocks, or the one before did and was of the same parts, but not
-    // both, exactly where that is told.
+    // The pair q is this one now, of the same parts as before if all facets were positive. It is told whether all are
+    // positive in one of the two alone.
     fn write(&mut self, q: u16, pair: PairCount, told: bool)
         requires place { q < length self.old }
         requires parts { pair.parts < part_pairs }
