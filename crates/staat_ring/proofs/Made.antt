@@ -1,4 +1,5 @@
 -- Unlinking and relinking keep what rings were made from, and what lists of them do.
+use Rattle.std.proofs.Common.{rules}
 use Rattle.std.proofs.Common.{◌≡◌, ◌⊎◌, inl, inr, ⊎_elim, ℕ, suc, ◌≤◌, not, arith, ap, refl, sym, subst, ◌∙◌, List, [], ◌∷◌, ◌++◌, length, take, Contains}
 use Rattle.std.specs.Prelude.{◌==◌, Some, slice_get}
 use Rattle.std.proofs.lemmas.List.{append-nil, append_assoc, map_push, same_from_push, take-append-le, take_at}
@@ -55,9 +56,7 @@ relinked_made planes p a b is made = record {
 -- ---- lists of unlinks and relinks
 
 pub relinked_back : (p : ℕ) (a m b : Arrangement) → IsUnlinked p a m → IsRelinked p m b → b ≡ a
-relinked_back p a m b u r =
-    let (us, k) = same_from_push b.unlinked a.unlinked (unlinked_plane p b.rings) (unlinked_plane p a.rings) (sym r ∙ u.unlinked) in
-    λ i. record { rings = (ap (λ (x : UnlinkedPlane (List Ring)). x.before) k) i; unlinked = us i }
+relinked_back p a m b u r = search (rules, same_from_push)
 
 pub undone : (ps : List ℕ) (a b c : Arrangement) → AreUnlinked ps a b → AreRelinked ps b c → c ≡ a
 undone [] a b c u r = sym r ∙ sym u

@@ -62,9 +62,7 @@ bit_once true false e = absurd (omega (arith, e))
 bit_once false true e = absurd (omega (arith, e))
 
 pub one_entry : (n c : ℕ) (e f : Entry) → e.plane < n → f.plane < n → entry_number n c e ≡ entry_number n c f → e ≡ f
-one_entry n c e f le lf q =
-    let (_, p, b) = number_once n c e.plane (bit e.turned) c f.plane (bit f.turned) le lf (bit_small e.turned) (bit_small f.turned) q in
-    λ i. record { plane = p i; turned = bit_once e.turned f.turned b i }
+one_entry n c e f le lf q = search (rules, number_once, bit_small, bit_once)
 
 pub entry_small : (n c : ℕ) (e : Entry) → c < n → e.plane < n → entry_number n c e < 2 * (n * n)
 entry_small n c e lc le = number_small n c e.plane (bit e.turned) lc le (bit_small e.turned)

@@ -31,9 +31,7 @@ module _ (pairs : List PairCount) (counts : List ℕ) (q : ℕ) (is : CountBlock
 
   -- a full pair is among those counted
   pub some_block : is_full old ≡ true → 0 < slice_index counts p.parts
-  some_block full =
-      let le = get_or-le-sum_by (λ r. one (is_block p.parts r)) pairs q no_pair lt in
-      omega (arith, le, is.each p.parts small, ap one (block_is p.parts p.parts old home ∙ (λ i. eq-eqb p.parts p.parts refl i && full i)))
+  some_block full = search (rules, eq-eqb, get_or-le-sum_by, block_is)
 
 -- before its place, the number at place i stands less often in the list
 pub not_yet : (qs : List ℕ) (i : ℕ) → i < length qs → occurs (get_or qs i 0) (take i qs) < occurs (get_or qs i 0) qs

@@ -1,4 +1,5 @@
 -- Going round a ring.
+use Rattle.std.proofs.Common.{rules}
 use Rattle.std.proofs.Common.{◌≡◌, ◌≢◌, ⊎_elim, ℕ, zero, suc, ◌+◌, ◌<◌, ◌≤◌, arith, ap, sym, subst, ◌∙◌, not, List, [], ◌∷◌, ◌++◌, length, get_or, take, Contains, Bool, true, false}
 use Rattle.std.specs.Prelude.{map, nat_lt}
 use Rattle.std.proofs.lemmas.Bool.Decides.{nat_tests}
@@ -46,9 +47,7 @@ pub goes_on : (head : ℕ) (xs : List ℕ) (node k : ℕ) → IsAtPlace head xs 
 goes_on head xs node k at ne = ⊎_elim {C = k < length xs} (λ lt. lt) (λ e. absurd (ne (at.is ∙ at_end head xs k e))) (lt_one_more_cases k (length xs) (omega (arith, at.within)))
 
 pub ends : (s : Links) (head : ℕ) (xs : List ℕ) (node k : ℕ) → IsShortRing s head xs → IsAtPlace head xs node k → node ≡ head → k ≡ length xs
-ends s head xs node k short at e = ⊎_elim {C = k ≡ length xs}
-    (λ lt. absurd (from_apart head xs (get_or xs k 0) short.apart (k, lt, Rattle.std.proofs.lemmas.List.get_or_default xs k (get_or xs k 0) 0 lt) (sym (before_end head xs k lt) ∙ (sym at.is ∙ e))))
-    (λ q. q) (lt_one_more_cases k (length xs) (omega (arith, at.within)))
+ends s head xs node k short at e = search (rules, ⊎_elim, from_apart, lt_one_more_cases, before_end)
 
 pub at_next : (s : Links) (head : ℕ) (xs : List ℕ) (node k : ℕ) → IsShortRing s head xs → IsAtPlace head xs node k → node ≢ head → IsAtPlace head xs (get_or s.next node 0) (k + 1)
 at_next s head xs node k short at ne =

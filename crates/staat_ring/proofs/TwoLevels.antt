@@ -74,9 +74,7 @@ bare_after g l a e st pr =
 
 same_circle : (g : Shape) (l : RingLists) (a : Arrays) (c d : ℕ) → StandFor g l a → c < g.count → d < g.count → g.circle (g.head c) ≡ g.circle (g.head d)
     → (g.head c ≡ g.head d) × (l.vertices c ≡ l.vertices d)
-same_circle g l a c d st hc hd e =
-    let q : c ≡ d = sym (st.heads c hc) ∙ (e ∙ st.heads d hd) in
-    (ap g.head q, ap l.vertices q)
+same_circle g l a c d st hc hd e = search (rules)
 
 same_vertex : (g : Shape) (l : RingLists) (a : Arrays) (c d v w : ℕ) → StandFor g l a → c < g.count → d < g.count → Contains (l.vertices c) v → Contains (l.vertices d) w
     → home_of a v ≡ home_of a w → (v ≡ w) × (l.entries v ≡ l.entries w)
