@@ -7,7 +7,8 @@ use Rattle.staat_ring.specs.Stands.{is_empty, Shape, RingLists, home_of, StandFo
 use Rattle.staat_ring.proofs.ListsWithout.{lists_without_plane, lists_without_all, lists_without, without, AreSame}
 use Rattle.staat_ring.proofs.WithoutNumber.{without_none, tagged_apart}
 use Rattle.staat_ring.proofs.TwoLevels.{stands-take, all-after, contains_before}
-use Rattle.staat_vec.proofs.Naturals.{eqb_false, same_or}
+use Rattle.staat_ring.proofs.WithoutLemmas.{filter_from}
+use Rattle.staat_vec.proofs.Naturals.{apart_from_test, eqb_false, same_or}
 use Rattle.staat_vec.proofs.ListLaws.{filter_inside, filter_twice, contains_or}
 
 abbrev dropped : List ℕ → List ℕ → List ℕ
@@ -74,15 +75,7 @@ abbrev pub AreFull : Shape → RingLists → Type 0
 AreFull g l = (c v : ℕ) → c < g.count → Contains (l.vertices c) v → is_empty (l.entries v) ≡ false
 
 not_in_without : (x : ℕ) (xs : List ℕ) → Contains (without x xs) x → ⊥
-not_in_without x [] (k, lt, q) = omega arith
-not_in_without x (y ∷ xs) h = elim (same_or y x) [
-  | inl q ↦ not_in_without x xs (subst (λ b. Contains (cond (not b) (y ∷ without x xs) (without x xs)) x) (eq-eqb y x q) h)
-  | inr n ↦ later n (subst (λ b. Contains (cond (not b) (y ∷ without x xs) (without x xs)) x) (eqb_false y x n) h) (not_in_without x xs)
-]
-  where
-    later : y ≢ x → Contains (y ∷ without x xs) x → (Contains (without x xs) x → ⊥) → ⊥
-    later n (zero, lt, q) ih = n q
-    later n (suc k, lt, q) ih = ih (k, omega arith, q)
+not_in_without x xs h = apart_from_test x x (filter_from (λ y. not (y == x)) xs x h).1 refl
 
 full-after : (g : Shape) (l : RingLists) (a : Arrays) (e : ℕ) → StandFor g l a → IsPresent g l a e → AreFull g l → AreFull g (lists_without (home_of a e) e l)
 full-after g l a e st pr full c w hc cw = go (is_empty (without e (l.entries (home_of a e)))) refl cw

@@ -1,8 +1,11 @@
 -- The facets of a pair are put down one after another.
-use Rattle.std.proofs.Common.{◌≡◌, ◌≢◌, ⊎_elim, ℕ, zero, suc, ◌+◌, ◌*◌, ◌<◌, ◌≤◌, arith, ap, sym, subst, ◌∙◌, refl, List, [], ◌∷◌, ◌++◌, length, take, set, All, length-set, get_or-set_same, get_or-set_other, eq-eqb}
-use Rattle.std.specs.Prelude.{◌==◌, ◌&&◌, Bool, true, false, not, map, Result, Ok, Err, OnOk, Some, slice_get}
+use Rattle.std.proofs.Common.{rules}
+use Rattle.std.proofs.lemmas.Grind.{common_steps}
+use Rattle.std.proofs.lemmas.Bool.Decides.{nat_tests}
+use Rattle.std.proofs.Common.{◌≡◌, ◌≢◌, ⊎_elim, ℕ, ◌+◌, ◌*◌, ◌<◌, ◌≤◌, arith, ap, sym, subst, ◌∙◌, refl, List, [], ◌∷◌, ◌++◌, length, take, set, All, length-set, get_or-set_same, get_or-set_other, eq-eqb}
+use Rattle.std.specs.Prelude.{◌==◌, ◌&&◌, Bool, true, false, not, Result, Ok, Err, OnOk, Some, slice_get}
 use Rattle.std.specs.List.{count_by}
-use Rattle.std.proofs.lemmas.List.{get_or_past, length-map}
+use Rattle.std.proofs.lemmas.List.{length-map, length-take, map_push}
 use Rattle.std.proofs.lemmas.List.Elements.{All-append, All-cons, All-nil}
 use Rattle.std.proofs.lemmas.List.Sums.{sum_by_push, sum_by-cons}
 use Rattle.staat_vec.specs.declared.vector.V3.{V3}
@@ -18,7 +21,7 @@ use Rattle.staat_ring.specs.Index.{AreSameBut, AreZero, IsFresh, IsPairKept, wit
 use Rattle.staat_ring.specs.Pairs.{fresh, no_pair, occurs, pair_at}
 use Rattle.staat_ring.specs.CountedSigns.{PlaneState, Signed, no_state, positives, state_at}
 use Rattle.staat_ring.specs.SignChanges.{uses, with_pair}
-use Rattle.staat_ring.specs.Belonging.{IsPairIndexed, IsPairOf, PlaneFacet, facet_at}
+use Rattle.staat_ring.specs.Belonging.{IsPairIndexed, PlaneFacet, facet_at}
 use Rattle.staat_ring.proofs.SumsBelow.{is_positive, hits, sum_by-total, total-hits, total-plus, total-same}
 use Rattle.staat_ring.specs.Rings.{facet_by}
 use Rattle.staat_ring.proofs.ArcLaw.{positives-none}
@@ -69,33 +72,17 @@ module _ (s : Signed) (w : PlaneFacet) (q : ℕ) (lt : w.plane < length s.states
   elsewhere k ne = get_or-set_other s.states w.plane k (with_pair w.turned q (state_at s.states w.plane)) no_state ne
 
   pub along_after : (p k : ℕ) → occurs p (state_at new.states k).along ≡ occurs p (state_at s.states k).along + one ((w.plane == k) && ((q == p) && not w.turned))
-  along_after p k = ⊎_elim {C = occurs p (state_at new.states k).along ≡ occurs p (state_at s.states k).along + one ((w.plane == k) && ((q == p) && not w.turned))}
-      (λ e. subst (λ k. occurs p (state_at new.states k).along ≡ occurs p (state_at s.states k).along + one ((w.plane == k) && ((q == p) && not w.turned))) (sym e)
-      (ap (λ x. occurs p x.along) at_plane ∙ (along_with p q w.turned (state_at s.states w.plane) ∙ ap (λ b. occurs p (state_at s.states w.plane).along + one (b && ((q == p) && not w.turned))) (sym (eq-eqb w.plane w.plane refl)))))
-      (λ ne. ap (λ x. occurs p x.along) (elsewhere k ne) ∙ (add_none (occurs p (state_at s.states k).along) ∙ ap (λ b. occurs p (state_at s.states k).along + one (b && ((q == p) && not w.turned))) (sym (eq_test_false w.plane k (λ e. ne (sym e))))))
-      (same_or k w.plane)
+  along_after p k = search (rules, ⊎_elim, eq-eqb, one, add_none, same_or, eq_test_false, along_with, at_plane, elsewhere)
 
   pub against_after : (p k : ℕ) → occurs p (state_at new.states k).against ≡ occurs p (state_at s.states k).against + one ((w.plane == k) && ((q == p) && w.turned))
-  against_after p k = ⊎_elim {C = occurs p (state_at new.states k).against ≡ occurs p (state_at s.states k).against + one ((w.plane == k) && ((q == p) && w.turned))}
-      (λ e. subst (λ k. occurs p (state_at new.states k).against ≡ occurs p (state_at s.states k).against + one ((w.plane == k) && ((q == p) && w.turned))) (sym e)
-      (ap (λ x. occurs p x.against) at_plane ∙ (against_with p q w.turned (state_at s.states w.plane) ∙ ap (λ b. occurs p (state_at s.states w.plane).against + one (b && ((q == p) && w.turned))) (sym (eq-eqb w.plane w.plane refl)))))
-      (λ ne. ap (λ x. occurs p x.against) (elsewhere k ne) ∙ (add_none (occurs p (state_at s.states k).against) ∙ ap (λ b. occurs p (state_at s.states k).against + one (b && ((q == p) && w.turned))) (sym (eq_test_false w.plane k (λ e. ne (sym e))))))
-      (same_or k w.plane)
+  against_after p k = search (rules, ⊎_elim, eq-eqb, one, add_none, same_or, eq_test_false, against_with, at_plane, elsewhere)
 
   pub zero_after : AreZero s → AreZero new
   zero_after z k = ⊎_elim {C = (state_at new.states k).sign ≡ Zero} (λ e. subst (λ k. (state_at new.states k).sign ≡ Zero) (sym e) (ap (λ x. x.sign) at_plane ∙ (sign_with w.turned q (state_at s.states w.plane) ∙ z w.plane))) (λ ne. ap (λ x. x.sign) (elsewhere k ne) ∙ z k) (same_or k w.plane)
 
   -- other pairs keep theirs
   pub others_after : (p : ℕ) → p ≢ q → IsPairKept s new p
-  others_after p ne = record {
-    pair = refl;
-    along = λ k. let e = along_after p k in let z = off (w.plane == k) (not w.turned) (eq_test_false q p (λ x. ne (sym x))) in omega (arith, e, z);
-    against = λ k. let e = against_after p k in let z = off (w.plane == k) w.turned (eq_test_false q p (λ x. ne (sym x))) in omega (arith, e, z);
-  }
-    where
-      off : (a c : Bool) → (q == p) ≡ false → one (a && ((q == p) && c)) ≡ 0
-      off true c e = ap (λ b. one (b && c)) e
-      off false c e = refl
+  others_after p ne = grind (arith, common_steps, nat_tests, one, eq_test_false, along_after, against_after)
 
 pub same_at_trans : (s u v : Signed) (p : ℕ) → IsPairKept s u p → IsPairKept u v p → IsPairKept s v p
 same_at_trans s u v p a b = record { pair = b.pair ∙ a.pair; along = λ k. b.along k ∙ a.along k; against = λ k. b.against k ∙ a.against k }
@@ -126,23 +113,13 @@ fresh_index : (planes facets : List V3) (states : List PlaneState) (q : ℕ) →
 fresh_index planes facets states q a b = record { by_plane = []; are = refl; within = All-nil (λ w. w.plane < length planes); along = a; against = b }
 
 pub partly_start : (planes facets : List V3) (s : Signed) (q : ℕ) → AreZero s → ((k : ℕ) → occurs q (state_at s.states k).along ≡ 0) → ((k : ℕ) → occurs q (state_at s.states k).against ≡ 0) → IsPartly planes facets s s q 0
-partly_start planes facets s q z a b = record {
-  index = fresh_index planes facets s.states q a b;
-  states = refl;
-  pairs = refl;
-  zero = z;
-  others = λ p ne. record { pair = refl; along = λ k. refl; against = λ k. refl };
-}
-
-map_push : (planes : List V3) (by_plane : List PlaneFacet) (w : PlaneFacet) → map (facet_at planes) (by_plane ++ w ∷ []) ≡ map (facet_at planes) by_plane ++ facet_at planes w ∷ []
-map_push planes [] w = refl
-map_push planes (x ∷ by_plane) w = ap (λ r. facet_at planes x ∷ r) (map_push planes by_plane w)
+partly_start planes facets s q z a b = search (rules, fresh_index)
 
 pub partly_more : (planes facets : List V3) (first s after : Signed) (q m : ℕ) (facet : V3) (w : PlaneFacet) → length s.states ≡ length planes → slice_get facets m ≡ Some facet → w.plane < length planes → facet_at planes w ≡ facet → after ≡ with_facet w q s → IsPartly planes facets first s q m → IsPartly planes facets first after q (m + 1)
 partly_more planes facets first s after q m facet w size at lt is e p = subst (λ (u : Signed). IsPartly planes facets first u q (m + 1)) (sym e) (record {
   index = record {
     by_plane = p.index.by_plane ++ w ∷ [];
-    are = map_push planes p.index.by_plane w ∙ ((λ i. p.index.are i ++ is i ∷ []) ∙ sym (take_next facets m facet at));
+    are = map_push (facet_at planes) p.index.by_plane w ∙ ((λ i. p.index.are i ++ is i ∷ []) ∙ sym (take_next facets m facet at));
     within = All-append (λ w. w.plane < length planes) p.index.by_plane (w ∷ []) p.index.within (All-cons (λ w. w.plane < length planes) w [] lt (All-nil (λ w. w.plane < length planes)));
     along = λ k. along_after s w q small q k ∙ ((λ i. p.index.along k i + one ((w.plane == k) && (own i && not w.turned))) ∙ sym (sum_by_push (λ w. one ((w.plane == k) && not w.turned)) p.index.by_plane w));
     against = λ k. against_after s w q small q k ∙ ((λ i. p.index.against k i + one ((w.plane == k) && (own i && w.turned))) ∙ sym (sum_by_push (λ w. one ((w.plane == k) && w.turned)) p.index.by_plane w));
@@ -167,13 +144,7 @@ partly_room planes facets first s q m n size few small p =
     let u = uses-by_plane planes (take m facets) s.states q p.index size in
     let e = ap length p.index.are in
     let l = length-map p.index.by_plane (facet_at planes) in
-    let t = length_take m facets in
-    omega (arith, u, e, l, t, few, small)
-  where
-    length_take : (m : ℕ) (xs : List V3) → length (take m xs) ≤ length xs
-    length_take zero xs = omega arith
-    length_take (suc m) [] = omega arith
-    length_take (suc m) (x ∷ xs) = let r = length_take m xs in omega (arith, r)
+    omega (arith, u, e, l, length-take m facets, few, small)
 
 -- ---- the pair of an arc is told
 
@@ -185,17 +156,6 @@ module _ (t : Table) (arc : Arc) (s told new : Signed) (q wanted parts m : ℕ) 
     (count : wanted ≡ length (facets_of t arc)) (parts_is : parts ≡ parts_at arc.a arc.b) (whole : length (facets_of t arc) ≤ m) (p : IsPartly t.planes (facets_of t arc) told new q m) where
   pairs_are : new.pairs ≡ set s.pairs q (fresh wanted parts)
   pairs_are = p.pairs ∙ ap (λ (u : Signed). u.pairs) told_is
-
-  pair_is : pair_at new.pairs (slot t.pieces arc) ≡ fresh wanted parts
-  pair_is = (λ i. pair_at (pairs_are i) (at i)) ∙ get_or-set_same s.pairs q (fresh wanted parts) no_pair lt
-
-  pub pair_told : IsPairOf t new arc
-  pair_told = record {
-    within = (let e = ap length pairs_are in let l = length-set s.pairs q (fresh wanted parts) in omega (arith, e, l, at, lt));
-    parts = ap (λ x. x.parts) pair_is ∙ parts_is;
-    wanted = ap (λ x. x.wanted) pair_is ∙ count;
-    index = subst (IsPairIndexed t.planes (facets_of t arc) new.states) (sym at) (subst (λ fs. IsPairIndexed t.planes fs new.states q) (Rattle.std.proofs.lemmas.List.take_all m (facets_of t arc) whole) p.index);
-  }
 
   pub same_but : AreSameBut s new q
   same_but = record {

@@ -1,4 +1,5 @@
 -- The loops over the circles.
+use Rattle.std.proofs.Common.{rules}
 use Rattle.std.proofs.Common.{◌≡◌, ◌≢◌, ℕ, suc, ◌+◌, ◌*◌, refl, sym, ap, ◌∙◌, List, [], ◌∷◌, ◌++◌, add-one, eq-eqb}
 use Rattle.std.specs.Prelude.{if◌then◌else◌}
 use Rattle.staat_ring.specs.Links.{Arrays, take, give, take_all, give_all}
@@ -20,25 +21,13 @@ no_entries : (n p c : ℕ) → c ≡ p → entries_on n p c ≡ []
 no_entries n p c h = ap (λ b. if b then [] else (2 * (c * n + p)) ∷ (2 * (c * n + p) + 1) ∷ []) (eq-eqb c p h)
 
 pub taken : (n p c e : ℕ) (a b : Arrays) → c ≢ p → e ≡ 2 * (c * n + p) → b ≡ take_all (entries_of n p c) a → take (e + 1) (take e b) ≡ take_all (entries_of n p (c + 1)) a
-taken n p c e a b h ee eb =
-    ap (λ x. take (x + 1) (take x b)) ee
-    ∙ (ap (λ x. take (2 * (c * n + p) + 1) (take (2 * (c * n + p)) x)) eb
-    ∙ (sym (ap (λ l. take_all l (take_all (entries_of n p c) a)) (two_entries n p c h))
-    ∙ (sym (take_all-append (entries_of n p c) (entries_on n p c) a)
-    ∙ ap (λ k. take_all (entries_of n p k) a) (sym (add-one c)))))
+taken n p c e a b h ee eb = search (rules, add-one, take_all-append, two_entries)
 
 pub skipped : (n p c : ℕ) (a b : Arrays) → c ≡ p → b ≡ take_all (entries_of n p c) a → b ≡ take_all (entries_of n p (c + 1)) a
-skipped n p c a b h eb =
-    eb
-    ∙ (sym (ap (λ l. take_all l (take_all (entries_of n p c) a)) (no_entries n p c h))
-    ∙ (sym (take_all-append (entries_of n p c) (entries_on n p c) a)
-    ∙ ap (λ k. take_all (entries_of n p k) a) (sym (add-one c))))
+skipped n p c a b h eb = search (rules, add-one, take_all-append, no_entries)
 
 pub given : (n p c e : ℕ) (b t : Arrays) → c ≢ p → e ≡ 2 * (c * n + p) → give_all (entries_of n p (suc c)) b ≡ t → give_all (entries_of n p c) (give e (give (e + 1) b)) ≡ t
-given n p c e b t h ee eb =
-    ap (λ x. give_all (entries_of n p c) (give x (give (x + 1) b))) ee
-    ∙ (sym (ap (λ l. give_all (entries_of n p c) (give_all l b)) (two_entries n p c h))
-    ∙ (sym (give_all-append (entries_of n p c) (entries_on n p c) b) ∙ eb))
+given n p c e b t h ee eb = search (rules, give_all-append, two_entries)
 
 pub passed : (n p c : ℕ) (b t : Arrays) → c ≡ p → give_all (entries_of n p (suc c)) b ≡ t → give_all (entries_of n p c) b ≡ t
 passed n p c b t h eb =

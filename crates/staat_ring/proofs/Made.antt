@@ -1,9 +1,11 @@
 -- Unlinking and relinking keep what rings were made from, and what lists of them do.
-use Rattle.std.proofs.Common.{◌≡◌, ◌⊎◌, inl, inr, ⊎_elim, ℕ, zero, suc, ◌≤◌, not, arith, ap, refl, sym, subst, ◌∙◌, List, [], ◌∷◌, ◌++◌, length, take, Contains}
+use Rattle.std.proofs.Common.{rules}
+use Rattle.std.proofs.Common.{◌≡◌, ◌⊎◌, inl, inr, ⊎_elim, ℕ, suc, ◌≤◌, not, arith, ap, refl, sym, subst, ◌∙◌, List, [], ◌∷◌, ◌++◌, length, take, Contains}
 use Rattle.std.specs.Prelude.{◌==◌, Some, slice_get}
-use Rattle.std.proofs.lemmas.List.{append-nil, append_assoc, same_from_push}
+use Rattle.std.proofs.lemmas.List.{append-nil, append_assoc, map_push, same_from_push, take-append-le, take_at}
+use Rattle.staat_vec.proofs.ListLaws.{push_cases, push_end, push_front}
 use Rattle.std.proofs.lemmas.List.Elements.{All-contains}
-use Rattle.std.proofs.lemmas.Option.{same_Some, slice_get_within}
+use Rattle.std.proofs.lemmas.Option.{slice_get_within}
 use Rattle.staat_vec.specs.declared.vector.V3.{V3}
 use Rattle.staat_vec.proofs.Unique.{Contains-front, Contains-cases, Contains-nothing}
 use Rattle.staat_model.specs.declared.assembly.Part.{Part}
@@ -20,26 +22,13 @@ abbrev Unlinks : Type 0
 Unlinks = List (UnlinkedPlane (List Ring))
 
 unlinked_push : (us : Unlinks) (u : UnlinkedPlane (List Ring)) → unlinked_of (us ++ u ∷ []) ≡ unlinked_of us ++ u.plane ∷ []
-unlinked_push [] u = refl
-unlinked_push (x ∷ us) u = ap (λ ks. x.plane ∷ ks) (unlinked_push us u)
+unlinked_push us u = map_push (λ (x : UnlinkedPlane (List Ring)). x.plane) us u
 
 -- a place in a list with one more at its end
 at_push : (us : Unlinks) (u : UnlinkedPlane (List Ring)) (k : ℕ) (x : UnlinkedPlane (List Ring)) → slice_get (us ++ u ∷ []) k ≡ Some x
     → ((slice_get us k ≡ Some x) × (take k (us ++ u ∷ []) ≡ take k us)) ⊎ ((u ≡ x) × (take k (us ++ u ∷ []) ≡ us))
-at_push [] u zero x e = inr (same_Some u x e, refl)
-at_push [] u (suc k) x e = cc
-at_push (y ∷ us) u zero x e = inl (e, refl)
-at_push (y ∷ us) u (suc k) x e = ⊎_elim {C = ((slice_get us k ≡ Some x) × (take (suc k) (y ∷ us ++ u ∷ []) ≡ take (suc k) (y ∷ us))) ⊎ ((u ≡ x) × (take (suc k) (y ∷ us ++ u ∷ []) ≡ y ∷ us))}
-    (λ a. inl (a.0, ap (λ xs. y ∷ xs) a.1)) (λ b. inr (b.0, ap (λ xs. y ∷ xs) b.1)) (at_push us u k x e)
-
-at_front : (us : Unlinks) (u : UnlinkedPlane (List Ring)) (k : ℕ) (x : UnlinkedPlane (List Ring)) → slice_get us k ≡ Some x → (slice_get (us ++ u ∷ []) k ≡ Some x) × (take k (us ++ u ∷ []) ≡ take k us)
-at_front [] u k x e = absurd (let lt = slice_get_within [] k x e in omega (arith, lt))
-at_front (y ∷ us) u zero x e = (e, refl)
-at_front (y ∷ us) u (suc k) x e = let r = at_front us u k x e in (r.0, ap (λ xs. y ∷ xs) r.1)
-
-at_end : (us : Unlinks) (u : UnlinkedPlane (List Ring)) → (slice_get (us ++ u ∷ []) (length us) ≡ Some u) × (take (length us) (us ++ u ∷ []) ≡ us)
-at_end [] u = (refl, refl)
-at_end (y ∷ us) u = let r = at_end us u in (r.0, ap (λ xs. y ∷ xs) r.1)
+at_push us u k x e = ⊎_elim {C = ((slice_get us k ≡ Some x) × (take k (us ++ u ∷ []) ≡ take k us)) ⊎ ((u ≡ x) × (take k (us ++ u ∷ []) ≡ us))}
+    (λ h. inl (h, take-append-le k us (u ∷ []) (let lt = slice_get_within us k x h in omega (arith, lt)))) (λ h. inr (h.1, take_at us (u ∷ []) k (sym h.0))) (push_cases us u x k e)
 
 pub unlinked_made : (planes : List V3) (p : ℕ) (a b : Arrangement) → AreTablePlanes planes → 3 ≤ p → IsUnlinked p a b → WereMadeFrom planes a → WereMadeFrom planes b
 unlinked_made planes p a b table no_axis is made = record {
@@ -55,19 +44,19 @@ unlinked_made planes p a b table no_axis is made = record {
 pub relinked_made : (planes : List V3) (p : ℕ) (a b : Arrangement) → IsRelinked p a b → WereMadeFrom planes a → WereMadeFrom planes b
 relinked_made planes p a b is made = record {
   now =
-      let (e, t) = at_end b.unlinked (unlinked_plane p b.rings) in
+      let e = push_end b.unlinked (unlinked_plane p b.rings) in
+      let t = take_at b.unlinked (unlinked_plane p b.rings ∷ []) (length b.unlinked) refl in
       subst (λ (us : Unlinks). AreRings planes b.rings (unlinked_of us)) (ap (take (length b.unlinked)) is ∙ t) (made.before (length b.unlinked) (unlinked_plane p b.rings) (subst (λ (us : Unlinks). slice_get us (length b.unlinked) ≡ Some (unlinked_plane p b.rings)) (sym is) e));
   before = λ k x e.
-      let (f, t) = at_front b.unlinked (unlinked_plane p b.rings) k x e in
+      let f = push_front b.unlinked (unlinked_plane p b.rings) x k e in
+      let t = take-append-le k b.unlinked (unlinked_plane p b.rings ∷ []) (let lt = slice_get_within b.unlinked k x e in omega (arith, lt)) in
       subst (λ (us : Unlinks). AreRings planes x.before (unlinked_of us)) (ap (take k) is ∙ t) (made.before k x (subst (λ (us : Unlinks). slice_get us k ≡ Some x) (sym is) f));
 }
 
 -- ---- lists of unlinks and relinks
 
 pub relinked_back : (p : ℕ) (a m b : Arrangement) → IsUnlinked p a m → IsRelinked p m b → b ≡ a
-relinked_back p a m b u r =
-    let (us, k) = same_from_push b.unlinked a.unlinked (unlinked_plane p b.rings) (unlinked_plane p a.rings) (sym r ∙ u.unlinked) in
-    λ i. record { rings = (ap (λ (x : UnlinkedPlane (List Ring)). x.before) k) i; unlinked = us i }
+relinked_back p a m b u r = search (rules, same_from_push)
 
 pub undone : (ps : List ℕ) (a b c : Arrangement) → AreUnlinked ps a b → AreRelinked ps b c → c ≡ a
 undone [] a b c u r = sym r ∙ sym u

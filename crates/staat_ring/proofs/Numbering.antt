@@ -1,17 +1,52 @@
--- The numbers of entries tell them apart, and each entry stands at one stop of its circle.
-use Rattle.std.proofs.Common.{◌≡◌, ◌+◌, ◌*◌, ◌%◌, ◌<◌, ◌≤◌, refl, Bool, true, false, if◌then◌else◌, ℕ, zero, [], ◌∷◌, arith, ap, sym, ◌∙◌, List, All, Contains, eq-eqb}
-use Rattle.std.specs.Prelude.{Some, map, slice_get, ◌==◌}
-use Rattle.std.proofs.lemmas.List.Elements.{All-contains}
+-- The numbers of entries, of heads and of vertices: each tells its circle, and an entry its plane and its sense, and stands
+-- at one stop of its circle.
+use Rattle.std.proofs.Common.{rules}
+use Rattle.std.proofs.Common.{◌≡◌, ℕ, ◌+◌, ◌*◌, ◌/◌, ◌<◌, ◌≤◌, sym, ap, ◌∙◌, arith, refl, Bool, true, false, if◌then◌else◌, zero, [], ◌∷◌, List, All, Contains, eq-eqb}
+use Rattle.std.proofs.Math.Nat.{add-mod_left, mod-eq_of_lt, mul-le-mul}
+use Rattle.std.proofs.lemmas.Nat.{div-mul-add}
+use Rattle.staat_ring.specs.RingViews.{shape}
+use Rattle.staat_ring.specs.Numbered.{plane_of, HasEntry, head_number, node_number, entry_number, entry_numbered}
+use Rattle.staat_ring.proofs.SoundLemmas.{plane_of_entry}
+use Rattle.std.specs.Prelude.{Some, map, slice_get}
+use Rattle.std.proofs.lemmas.List.Elements.{All-contains, All-map, All-weaker}
 use Rattle.staat_vec.specs.declared.vector.V3.{V3}
 use Rattle.staat_ring.specs.declared.entry.Entry.{Entry}
-use Rattle.staat_ring.specs.Numbered.{HasEntry, head_number, node_number, entry_number, entry_numbered}
 use Rattle.staat_ring.specs.Rings.{IsRingOf, Ring, RingStop, crossing, stop_of, vertex_of}
-use Rattle.staat_ring.specs.RingViews.{shape}
-use Rattle.staat_ring.proofs.Numbers.{circle_of_number, circle_of_vertex, number_once, number_small}
-use Rattle.staat_ring.proofs.SoundLemmas.{plane_of_entry}
 use Rattle.staat_vec.proofs.ListLaws.{map_at_place}
 use Rattle.staat_vec.proofs.Unique.{from_place}
 use Rattle.staat_vec.proofs.Naturals.{eq_test_false}
+
+abbrev number : ℕ → ℕ → ℕ → ℕ → ℕ
+number n c p s = 2 * (c * n + p) + s
+
+number_small : (n c p s : ℕ) → c < n → p < n → s < 2 → number n c p s < 2 * (n * n)
+number_small n c p s hc hp hs = search (rules, mul-le-mul)
+
+half : (n c p s : ℕ) → s < 2 → number n c p s / 2 ≡ c * n + p
+half n c p s hs = omega arith
+
+circle_small : (n c p s : ℕ) → p < n → s < 2 → number n c p s / 2 / n ≡ c
+circle_small n c p s hp hs = ap (λ x. x / n) (half n c p s hs) ∙ div-mul-add c n p hp
+
+-- an entry or a head is of its circle
+circle_of_number : (n c p s : ℕ) → c < n → p < n → s < 2 → (shape n).circle (number n c p s) ≡ c
+circle_of_number n c p s hc hp hs = ap (λ x. x / 2 / n) (mod-eq_of_lt (number_small n c p s hc hp hs)) ∙ circle_small n c p s hp hs
+
+-- and a vertex, which is numbered by its first entry
+circle_of_vertex : (n c p s : ℕ) → c < n → p < n → s < 2 → (shape n).circle (2 * (n * n) + number n c p s) ≡ c
+circle_of_vertex n c p s hc hp hs = ap (λ x. x / 2 / n) (add-mod_left (2 * (n * n)) (number n c p s)) ∙ circle_of_number n c p s hc hp hs
+
+-- two numbers that are equal are of one circle, one plane and one sense
+number_once : (n c p s d q t : ℕ) → p < n → q < n → s < 2 → t < 2 → number n c p s ≡ number n d q t → (c ≡ d) × (p ≡ q) × (s ≡ t)
+number_once n c p s d q t hp hq hs ht e =
+    let one : c ≡ d = sym (circle_small n c p s hp hs) ∙ (ap (λ x. x / 2 / n) e ∙ circle_small n d q t hq ht) in
+    let two : p ≡ q = sym (plane_of_entry n p c s hp hs) ∙ (ap (plane_of n) e ∙ plane_of_entry n q d t hq ht) in
+    (one, two, sense one two)
+  where
+    sense : c ≡ d → p ≡ q → s ≡ t
+    sense ec ep = let m : c * n + p ≡ d * n + q = λ i. ec i * n + ep i in omega (arith, m, e)
+
+-- ---- entries
 
 abbrev bit : Bool → ℕ
 bit b = if b then 1 else 0
@@ -27,26 +62,20 @@ bit_once true false e = absurd (omega (arith, e))
 bit_once false true e = absurd (omega (arith, e))
 
 pub one_entry : (n c : ℕ) (e f : Entry) → e.plane < n → f.plane < n → entry_number n c e ≡ entry_number n c f → e ≡ f
-one_entry n c e f le lf q =
-    let (_, p, b) = number_once n c e.plane (bit e.turned) c f.plane (bit f.turned) le lf (bit_small e.turned) (bit_small f.turned) q in
-    λ i. record { plane = p i; turned = bit_once e.turned f.turned b i }
+one_entry n c e f le lf q = search (rules, number_once, bit_small, bit_once)
 
 pub entry_small : (n c : ℕ) (e : Entry) → c < n → e.plane < n → entry_number n c e < 2 * (n * n)
 entry_small n c e lc le = number_small n c e.plane (bit e.turned) lc le (bit_small e.turned)
+
+pub entries_within : (n c : ℕ) (es : List Entry) (m : ℕ) → c < n → All (λ e. e.plane < n) es → 4 * (n * n) ≤ m → All (λ x. x < m) (map (entry_number n c) es)
+entries_within n c es m lc small room = All-map (λ x. x < m) (entry_number n c) es (All-weaker (λ e. e.plane < n) (λ e. entry_number n c e < m) (λ e le. let s = entry_small n c e lc le in omega (arith, s, room)) es small)
 
 pub entry_circle : (n c : ℕ) (e : Entry) → c < n → e.plane < n → (shape n).circle (entry_number n c e) ≡ c
 entry_circle n c e lc le = circle_of_number n c e.plane (bit e.turned) lc le (bit_small e.turned)
 
 -- the entry that a number tells
 pub entry_back : (n c : ℕ) (e : Entry) → e.plane < n → entry_numbered n (entry_number n c e) ≡ e
-entry_back n c e le = λ i. record { plane = plane_of_entry n e.plane c (bit e.turned) le (bit_small e.turned) i; turned = odd e.turned i }
-  where
-    rest : (x s : ℕ) → s < 2 → (2 * x + s) % 2 ≡ s
-    rest x s lt = omega arith
-
-    odd : (b : Bool) → ((2 * (c * n + e.plane) + bit b) % 2 == 1) ≡ b
-    odd true = eq-eqb ((2 * (c * n + e.plane) + 1) % 2) 1 (rest (c * n + e.plane) 1 (omega arith))
-    odd false = eq_test_false ((2 * (c * n + e.plane) + 0) % 2) 1 (λ q. let r = rest (c * n + e.plane) 0 (omega arith) in omega (arith, q, r))
+entry_back n c e le = search (rules, eq-eqb, plane_of_entry, eq_test_false, bit_small)
 
 -- ---- the nodes of a circle
 

@@ -1,7 +1,8 @@
 -- The numbers of pairs, one after another.
+use Rattle.std.proofs.Common.{rules}
 use Rattle.std.proofs.Common.{◌≡◌, ◌⊎◌, inl, inr, ⊎_elim, ℕ, ◌+◌, ◌*◌, ◌/◌, ◌%◌, ◌<◌, ◌≤◌, arith, ap, sym, subst, ◌∙◌, refl, length, take, get_or}
 use Rattle.std.specs.Prelude.{Result, Ok, Err, OnOk, replicate, sum}
-use Rattle.std.proofs.lemmas.List.{get_or-replicate, get_or_past, length-replicate, take-take}
+use Rattle.std.proofs.lemmas.List.{length-replicate, take-take}
 use Rattle.std.proofs.lemmas.List.Sums.{sum_by-take-le, sum_by_more}
 use Rattle.staat_model.specs.declared.certificate.Arc.{Arc}
 use Rattle.staat_pairs.specs.Tables.{IsTableArc, IsTable, Table, pieces_of, place, slot}
@@ -9,11 +10,12 @@ use Rattle.staat_pairs.specs.Tabulating.{IsPieceAt}
 use Rattle.staat_pairs.proofs.NumberingLemmas.{below_64, one_number, one_part}
 use Rattle.staat_pairs.proofs.TableLemmas.{has_place}
 use Rattle.staat_ring.specs.declared.pairs.PairCount.{PairCount}
+use Rattle.staat_ring.proofs.PairLemmas.{at_replicate}
 use Rattle.staat_ring.specs.Index.{AreSameBut, AreToldBelow, IsFresh, IsPairKept, IsTold}
-use Rattle.staat_ring.specs.Pairs.{no_pair, occurs, pair_at}
+use Rattle.staat_ring.specs.Pairs.{no_pair, occurs}
 use Rattle.staat_ring.specs.CountedSigns.{PlaneState, Signed, no_state, state_at}
 use Rattle.staat_ring.specs.Belonging.{BelongTo, IsPairOf, IsUnused}
-use Rattle.staat_vec.proofs.Naturals.{parts_by_64, lt_or_le, lt_one_more_cases, same_parts_of_64}
+use Rattle.staat_vec.proofs.Naturals.{parts_by_64, lt_one_more_cases, same_parts_of_64}
 
 -- ---- what stays
 
@@ -27,12 +29,7 @@ unused_same : (s u : Signed) (q : ℕ) → IsPairKept s u q → IsUnused s q →
 unused_same s u q same f = record { wanted = (let e = ap (λ p. p.wanted) same.pair in let w = f.wanted in omega (arith, e, w)); along = λ k. same.along k ∙ f.along k; against = λ k. same.against k ∙ f.against k }
 
 pair_same : (t : Table) (s u : Signed) (arc : Arc) → length u.pairs ≡ length s.pairs → IsPairKept s u (slot t.pieces arc) → IsPairOf t s arc → IsPairOf t u arc
-pair_same t s u arc size same p = record {
-  within = subst (λ n. slot t.pieces arc < n) (sym size) p.within;
-  parts = ap (λ x. x.parts) same.pair ∙ p.parts;
-  wanted = ap (λ x. x.wanted) same.pair ∙ p.wanted;
-  index = record { by_plane = p.index.by_plane; are = p.index.are; within = p.index.within; along = λ k. same.along k ∙ p.index.along k; against = λ k. same.against k ∙ p.index.against k };
-}
+pair_same t s u arc size same p = search (rules)
 
 told_same : (t : Table) (s u : Signed) (q : ℕ) → length u.pairs ≡ length s.pairs → IsPairKept s u q → IsTold t s q → IsTold t u q
 told_same t s u q size same (inl (arc, across, e, p)) = inl (arc, across, e, pair_same t s u arc size (subst (IsPairKept s u) (sym e) same) p)
@@ -132,11 +129,8 @@ none_told t s n e is = subst (λ (u : Signed). AreToldBelow t u 0) (sym is) (rec
   pairs = length-replicate {A = PairCount} 4096 no_pair;
   zero = λ k. ap (λ x. x.sign) (empty k);
   told = λ q lt. absurd (omega (arith, lt));
-  rest = λ q le. record { pair = fresh_pair q; along = λ k. ap (λ x. occurs q x.along) (empty k); against = λ k. ap (λ x. occurs q x.against) (empty k) };
+  rest = λ q le. record { pair = at_replicate 4096 no_pair q; along = λ k. ap (λ x. occurs q x.along) (empty k); against = λ k. ap (λ x. occurs q x.against) (empty k) };
 })
   where
     empty : (k : ℕ) → state_at (replicate n no_state) k ≡ no_state
-    empty k = ⊎_elim {C = state_at (replicate n no_state) k ≡ no_state} (λ lt. get_or-replicate n k no_state no_state lt) (λ past. get_or_past (replicate n no_state) k no_state (let l = length-replicate {A = PlaneState} n no_state in omega (arith, l, past))) (lt_or_le k n)
-
-    fresh_pair : (q : ℕ) → pair_at (replicate 4096 no_pair) q ≡ no_pair
-    fresh_pair q = ⊎_elim {C = pair_at (replicate 4096 no_pair) q ≡ no_pair} (λ lt. get_or-replicate 4096 q no_pair no_pair lt) (λ past. get_or_past (replicate 4096 no_pair) q no_pair (let l = length-replicate {A = PairCount} 4096 no_pair in omega (arith, l, past))) (lt_or_le q 4096)
+    empty k = at_replicate n no_state k

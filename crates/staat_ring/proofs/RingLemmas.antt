@@ -10,6 +10,8 @@ use Rattle.staat_ring.specs.Numbered.{entry_numbered, plane_of}
 use Rattle.staat_ring.specs.declared.entry.Entry.{Entry}
 use Rattle.staat_ring.specs.Rings.{RingStop}
 use Rattle.staat_ring.specs.Without.{has_some, other_than, stays, stop_without, ring_without, rings_without}
+use Rattle.std.proofs.lemmas.List.Elements.{Contains-push_cases, filter_agree}
+use Rattle.std.proofs.Common.{⊎_elim}
 use Rattle.staat_vec.proofs.ListLaws.{filter_inside, filter_twice, map_twice}
 
 map_filter : {X Y : Type 0} (f : X → Y) (test : Y → Bool) (xs : List X) → filter test (map f xs) ≡ map f (filter (λ x. test (f x)) xs)
@@ -20,10 +22,6 @@ map_filter f test (x ∷ xs) = step (test (f x)) (map_filter f test xs)
         → cond b (f x ∷ filter test (map f xs)) (filter test (map f xs)) ≡ map f (cond b (x ∷ filter (λ x. test (f x)) xs) (filter (λ x. test (f x)) xs))
     step true ih = ap (λ l. f x ∷ l) ih
     step false ih = ih
-
-pub filter_by : (p q : ℕ → Bool) (xs : List ℕ) → ((x : ℕ) → p x ≡ q x) → filter p xs ≡ filter q xs
-filter_by p q [] h = refl
-filter_by p q (x ∷ xs) h = λ i. cond (h x i) (x ∷ filter_by p q xs h i) (filter_by p q xs h i)
 
 pub listed-push : (out : List ℕ) (p c : ℕ) → not (is_out (out ++ p ∷ []) c) ≡ (not (is_out out c) && not (p == c))
 listed-push [] p c = flat (p == c)
@@ -75,7 +73,7 @@ module _ (n p : ℕ) (l : RingLists) (c : ℕ) where
   stops =
       ap (map (stop_without p)) (map_filter stop (stays p) (l.vertices c))
       ∙ (map_twice (stop_without p) stop (filter (λ v. stays p (stop v)) (l.vertices c))
-      ∙ (ap (map (λ v. stop_without p (stop v))) (filter_by (λ v. stays p (stop v)) (λ v. not (is_empty (left v))) (l.vertices c) stays_is)
+      ∙ (ap (map (λ v. stop_without p (stop v))) (filter_agree (λ v. stays p (stop v)) (λ v. not (is_empty (left v))) stays_is (l.vertices c))
       ∙ map_same (λ v. stop_without p (stop v)) stop_left kept (λ v _. stop_is v)))
 
   ring-without : ring_of n (lists_without_plane (plane_of n) p l) c ≡ ring_without p (ring_of n l c)
@@ -90,19 +88,13 @@ rings-without n p out l =
   where
     planes : filter (λ c. not (is_out (out ++ p ∷ []) c)) (numbers_below n) ≡ filter (λ c. not (c == p)) (filter (λ c. not (is_out out c)) (numbers_below n))
     planes =
-        filter_by (λ c. not (is_out (out ++ p ∷ []) c)) (λ c. not (is_out out c) && not (c == p)) (numbers_below n) (λ c. listed-push out p c ∙ ap (λ b. not (is_out out c) && not b) (eqb_turned p c))
+        filter_agree (λ c. not (is_out (out ++ p ∷ []) c)) (λ c. not (is_out out c) && not (c == p)) (λ c. listed-push out p c ∙ ap (λ b. not (is_out out c) && not b) (eqb_turned p c)) (numbers_below n)
         ∙ sym (filter_twice (λ c. not (is_out out c)) (λ c. not (c == p)) (numbers_below n))
 
 -- lists that agree give the same rings
 pub below_small : (n c : ℕ) → Contains (numbers_below n) c → c < n
 below_small zero c (k, lt, e) = absurd (omega arith)
-below_small (suc n) c h = go (numbers_below n) (below_small n c) h
-  where
-    go : (xs : List ℕ) → (Contains xs c → c < n) → Contains (xs ++ n ∷ []) c → c < suc n
-    go [] ih (zero, lt, e) = omega arith
-    go [] ih (suc k, lt, e) = absurd (omega arith)
-    go (x ∷ xs) ih (zero, lt, e) = let q = ih (zero, omega arith, e) in omega arith
-    go (x ∷ xs) ih (suc k, lt, e) = go xs (λ d. ih (suc d.0, omega (arith, d.1), d.2)) (k, omega arith, e)
+below_small (suc n) c h = ⊎_elim {C = c < suc n} (λ a. let r = below_small n c a in omega (arith, r)) (λ e. omega (arith, e)) (Contains-push_cases (numbers_below n) n c h)
 
 pub rings-same : (n : ℕ) (out : List ℕ) (l m : RingLists) → AreSame (shape n) l m → rings_of n out l ≡ rings_of n out m
 rings-same n out l m s = map_same (ring_of n l) (ring_of n m) (filter (λ c. not (is_out out c)) (numbers_below n))

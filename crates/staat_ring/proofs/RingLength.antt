@@ -1,5 +1,6 @@
 -- Going round a ring.
-use Rattle.std.proofs.Common.{◌≡◌, ◌≢◌, ◌⊎◌, ⊎_elim, ℕ, zero, suc, ◌+◌, ◌<◌, ◌≤◌, arith, ap, sym, subst, ◌∙◌, not, List, [], ◌∷◌, ◌++◌, length, get_or, take, Contains, Bool, true, false}
+use Rattle.std.proofs.Common.{rules}
+use Rattle.std.proofs.Common.{◌≡◌, ◌≢◌, ⊎_elim, ℕ, zero, suc, ◌+◌, ◌<◌, ◌≤◌, arith, ap, sym, subst, ◌∙◌, not, List, [], ◌∷◌, ◌++◌, length, get_or, take, Contains, Bool, true, false}
 use Rattle.std.specs.Prelude.{map, nat_lt}
 use Rattle.std.proofs.lemmas.Bool.Decides.{nat_tests}
 use Rattle.std.specs.List.{filter}
@@ -20,6 +21,7 @@ use Rattle.staat_ring.proofs.Unlinking.{linked_plane, planes_of_rings, sound_is_
 use Rattle.staat_ring.proofs.Built.{below_all}
 use Rattle.staat_ring.proofs.WithoutLemmas.{filter_from, filter_in}
 use Rattle.staat_vec.proofs.ListLaws.{Contains-from_map}
+use Rattle.staat_vec.proofs.Naturals.{lt_one_more_cases}
 
 chain_step : (s : Links) (a : ℕ) (xs : List ℕ) (b k : ℕ) → Chain s a xs b → k ≤ length xs → get_or s.next (get_or (a ∷ xs) k 0) 0 ≡ get_or (xs ++ b ∷ []) k 0
 chain_step s a [] b zero c le = c.0
@@ -41,16 +43,11 @@ before_end head xs k lt = get_or_append_left xs (head ∷ []) 0 k lt
 at_end : (head : ℕ) (xs : List ℕ) (k : ℕ) → k ≡ length xs → get_or (xs ++ head ∷ []) k 0 ≡ head
 at_end head xs k e = get_or_push xs head 0 k (sym e)
 
-cases : (k m : ℕ) → k ≤ m → (k < m) ⊎ (k ≡ m)
-cases k m le = grind arith
-
 pub goes_on : (head : ℕ) (xs : List ℕ) (node k : ℕ) → IsAtPlace head xs node k → node ≢ head → k < length xs
-goes_on head xs node k at ne = ⊎_elim {C = k < length xs} (λ lt. lt) (λ e. absurd (ne (at.is ∙ at_end head xs k e))) (cases k (length xs) at.within)
+goes_on head xs node k at ne = ⊎_elim {C = k < length xs} (λ lt. lt) (λ e. absurd (ne (at.is ∙ at_end head xs k e))) (lt_one_more_cases k (length xs) (omega (arith, at.within)))
 
 pub ends : (s : Links) (head : ℕ) (xs : List ℕ) (node k : ℕ) → IsShortRing s head xs → IsAtPlace head xs node k → node ≡ head → k ≡ length xs
-ends s head xs node k short at e = ⊎_elim {C = k ≡ length xs}
-    (λ lt. absurd (from_apart head xs (get_or xs k 0) short.apart (k, lt, Rattle.std.proofs.lemmas.List.get_or_default xs k (get_or xs k 0) 0 lt) (sym (before_end head xs k lt) ∙ (sym at.is ∙ e))))
-    (λ q. q) (cases k (length xs) at.within)
+ends s head xs node k short at e = search (rules, ⊎_elim, from_apart, lt_one_more_cases, before_end)
 
 pub at_next : (s : Links) (head : ℕ) (xs : List ℕ) (node k : ℕ) → IsShortRing s head xs → IsAtPlace head xs node k → node ≢ head → IsAtPlace head xs (get_or s.next node 0) (k + 1)
 at_next s head xs node k short at ne =
@@ -65,7 +62,7 @@ pub node_within : (s : Links) (head : ℕ) (xs : List ℕ) (node k : ℕ) → Is
 node_within s head xs node k short at = ⊎_elim {C = node < length s.next}
     (λ lt. subst (λ x. x < length s.next) (sym (at.is ∙ before_end head xs k lt)) (short.within (suc k) 0 (omega (arith, lt))))
     (λ e. subst (λ x. x < length s.next) (sym (at.is ∙ at_end head xs k e)) (short.within 0 0 (omega arith)))
-    (cases k (length xs) at.within)
+    (lt_one_more_cases k (length xs) (omega (arith, at.within)))
 
 -- ---- tests
 

@@ -1,5 +1,6 @@
 -- The rings of a circle's stops have no node in common.
-use Rattle.std.proofs.Common.{◌≡◌, ◌≢◌, ◌⊎◌, inl, inr, ⊎_elim, ℕ, zero, suc, ◌*◌, ◌<◌, ◌≤◌, arith, ap, sym, subst, ◌∙◌, List, [], ◌∷◌, length, get_or, All, Contains}
+use Rattle.std.proofs.Common.{rules}
+use Rattle.std.proofs.Common.{◌≡◌, ◌≢◌, ◌⊎◌, inl, inr, ⊎_elim, ℕ, zero, suc, ◌*◌, ◌<◌, ◌≤◌, arith, ap, sym, subst, ◌∙◌, List, [], ◌∷◌, length, All, Contains}
 use Rattle.std.specs.Prelude.{map}
 use Rattle.std.proofs.lemmas.List.{get_or-map, get_or_default, length-map}
 use Rattle.std.proofs.lemmas.List.Elements.{All-contains}
@@ -12,7 +13,7 @@ use Rattle.staat_ring.specs.Linking.{CanBeLinked, rows_of}
 use Rattle.staat_ring.proofs.Rows.{AreRows}
 use Rattle.staat_ring.specs.Numbered.{HasEntry, head_number, node_number, vertex_row, entry_number}
 use Rattle.staat_ring.specs.RingViews.{shape}
-use Rattle.staat_ring.specs.Rows.{Row, all_of, no_row, row_at}
+use Rattle.staat_ring.specs.Rows.{Row, all_of, row_at}
 use Rattle.staat_ring.proofs.Mapped.{apart_from, distinct_by}
 use Rattle.staat_ring.proofs.Numbering.{entry_circle, entry_small, first_entry, head_circle, head_small, node_circle, node_great, node_small, one_entry}
 use Rattle.staat_vec.proofs.ListLaws.{Contains-from_map}
@@ -91,10 +92,7 @@ module _ (n c : ℕ) (lc : c < n) (stops : List (List Entry)) (can : CanBeLinked
   -- ---- the rows
 
   pub row_is : (k : ℕ) → k < length stops → row_at (rows_of n c stops) k ≡ vertex_row n c (slot k)
-  row_is k lk = get_or_default (rows_of n c stops) k no_row (vertex_row n c []) (subst (λ m. k < m) (sym (length-map stops (vertex_row n c))) lk) ∙ map_at
-    where
-      map_at : get_or (rows_of n c stops) k (vertex_row n c []) ≡ vertex_row n c (slot k)
-      map_at = get_or-map (vertex_row n c) stops k [] (vertex_row n c []) lk
+  row_is k lk = search (rules, get_or-map, get_or_default, length-map)
 
   pub rows_length : length (rows_of n c stops) ≡ length stops
   rows_length = length-map stops (vertex_row n c)
@@ -106,7 +104,6 @@ module _ (n c : ℕ) (lc : c < n) (stops : List (List Entry)) (can : CanBeLinked
   rows = record {
     within = λ k lt. subst (λ (r : Row). All (λ x. x < 4 * (n * n)) (all_of r)) (sym (row_is k (back k lt)))
         (All-from_members (λ x. x < 4 * (n * n)) (all_of (vertex_row n c (slot k))) (λ y cy. row_within k y (back k lt) cy));
-    distinct = λ k lt. subst (λ (r : Row). Distinct (all_of r)) (sym (row_is k (back k lt))) (row_distinct k (back k lt));
     apart = λ i k y li lk ne cy. subst (λ (r : Row). Apart y (all_of r)) (sym (row_is k (back k lk)))
         (apart_from y (all_of (vertex_row n c (slot k))) (λ z cz. row_apart i k y z (back i li) (back k lk) ne (node_of_row i y (subst (λ (r : Row). Contains (all_of r) y) (row_is i (back i li)) cy)) (node_of_row k z cz)));
   }

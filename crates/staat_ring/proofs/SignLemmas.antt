@@ -1,9 +1,8 @@
 -- One plane gets another sign.
-use Rattle.std.proofs.Common.{◌≡◌, ℕ, zero, suc, ◌+◌, ◌<◌, ◌≤◌, arith, ap, sym, subst, ◌∙◌, refl, List, [], ◌∷◌, length, set, cond, All, get_or-set_same}
+use Rattle.std.proofs.Common.{◌≡◌, ℕ, zero, suc, ◌+◌, ◌<◌, ◌≤◌, arith, ap, sym, subst, ◌∙◌, refl, List, [], ◌∷◌, length, set, cond}
 use Rattle.std.specs.Prelude.{IsTrue, ◌==◌, ◌↔◌, Bool, true, false, map}
 use Rattle.std.proofs.Math.ListN.{get_or-map}
 use Rattle.std.proofs.lemmas.List.{ext_get_or, length-map}
-use Rattle.std.proofs.lemmas.List.Elements.{All-set, All-get_or}
 use Rattle.std.proofs.lemmas.List.Sums.{sum_by-set, sum_by-cons, get_or-le-sum_by}
 use Rattle.std.proofs.lemmas.Bool.Decides.{nat_tests, Decides-eqb}
 use Rattle.staat_vec.specs.declared.vector.Sign.{Sign}
@@ -52,46 +51,9 @@ module _ (states : List PlaneState) (k : ℕ) (sign : Sign) (lt : k < length sta
     room q = let e = positives-set q in let l = left q in let u = uses-set q in let m = positives-le-uses q after in let f = is.few q in omega (arith, e, l, u, m, f)
 
     module _ (new : List PairCount) (more : (q : ℕ) → pair_at new q ≡ gained (occurs q (positive_pairs (with_sign sign there))) (pair_at lost q)) (same : length new ≡ length old) where
-      pub set_signed : AreSigned after new
-      set_signed = record {
-        each = λ q. let e = positives-set q in let l = left q in let m = ap (λ p. p.positive) (more q) in omega (arith, e, l, m);
-        few = λ q. subst (λ n. n < 65536) (sym (uses-set q)) (is.few q);
-        along = subst (λ n. All (λ s. All (λ q. q < n) s.along) after) (sym same) (All-set (λ s. All (λ q. q < length old) s.along) states k (with_sign sign there) (All-get_or (λ s. All (λ q. q < length old) s.along) states k no_state lt is.along) is.along);
-        against = subst (λ n. All (λ s. All (λ q. q < n) s.against) after) (sym same) (All-set (λ s. All (λ q. q < length old) s.against) states k (with_sign sign there) (All-get_or (λ s. All (λ q. q < length old) s.against) states k no_state lt is.against) is.against);
-      }
-
       pub set_pairs : map emptied new ≡ map emptied old
       set_pairs = ext_get_or no_pair (map emptied new) (map emptied old) (length-map new emptied ∙ same ∙ sym (length-map old emptied))
           (λ q small. get_or-map emptied new q no_pair ∙ ap emptied (more q) ∙ ap emptied (sym (less q)) ∙ sym (get_or-map emptied old q no_pair))
-
--- ---- the step, as the code takes it
-module _ (now : Signed) (states after : List PlaneState) (old lost : List PairCount) (k : ℕ) (sign : Sign) (first second : List ℕ)
-    (view : record { states = states; pairs = map emptied old } ≡ now) (is : AreSigned states old) (lt : k < length now.states)
-    (first_is : first ≡ positive_pairs (state_at states k)) (after_is : after ≡ set states k (with_sign sign (state_at states k))) (second_is : second ≡ positive_pairs (state_at after k))
-    (less : (q : ℕ) → pair_at old q ≡ gained (occurs q first) (pair_at lost q)) where
-  place : k < length states
-  place = subst (λ (s : Signed). k < length s.states) (sym view) lt
-
-  less_is : (q : ℕ) → pair_at old q ≡ gained (occurs q (positive_pairs (state_at states k))) (pair_at lost q)
-  less_is q = less q ∙ ap (λ qs. gained (occurs q qs) (pair_at lost q)) first_is
-
-  pub second_by : second ≡ positive_pairs (with_sign sign (state_at states k))
-  second_by = second_is ∙ ap positive_pairs (ap (λ xs. state_at xs k) after_is ∙ get_or-set_same states k (with_sign sign (state_at states k)) no_state place)
-
-  pub step_room : (q : ℕ) → (pair_at lost q).positive + occurs q second < 65536
-  step_room q = subst (λ qs. (pair_at lost q).positive + occurs q qs < 65536) (sym second_by) (room states k sign place old lost is less_is q)
-
-  module _ (new : List PairCount) (more : (q : ℕ) → pair_at new q ≡ gained (occurs q second) (pair_at lost q)) (short : length lost ≡ length old) (same : length new ≡ length lost) where
-    more_is : (q : ℕ) → pair_at new q ≡ gained (occurs q (positive_pairs (with_sign sign (state_at states k)))) (pair_at lost q)
-    more_is q = more q ∙ ap (λ qs. gained (occurs q qs) (pair_at lost q)) second_by
-
-    pub step_signed : AreSigned after new
-    step_signed = subst (λ xs. AreSigned xs new) (sym after_is) (set_signed states k sign place old lost is less_is new more_is (same ∙ short))
-
-    pub step_value : ◌≡◌ {A = Signed} (record { states = after; pairs = map emptied new }) (record { states = set now.states k (with_sign sign (state_at now.states k)); pairs = now.pairs })
-    step_value =
-        (λ i. record { states = after_is i; pairs = set_pairs states k sign place old lost is less_is new more_is (same ∙ short) i })
-        ∙ (λ i. record { states = set (view i).states k (with_sign sign (state_at (view i).states k)); pairs = (view i).pairs })
 
 -- ---- the graph
 

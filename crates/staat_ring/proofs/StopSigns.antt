@@ -1,4 +1,7 @@
 -- The signs of the planes through a stop.
+use Rattle.std.proofs.Common.{rules}
+use Rattle.std.proofs.lemmas.Grind.{common_steps}
+use Rattle.std.proofs.lemmas.Bool.Decides.{nat_tests}
 use Rattle.std.proofs.Common.{◌≡◌, ◌≢◌, ℕ, zero, suc, ◌+◌, ◌<◌, ◌≤◌, Bool, arith, ap, sym, subst, ◌∙◌, refl, List, [], ◌∷◌, length, drop, take, set, ◌⊎◌, inl, inr, ⊎_elim, Contains, length-set, get_or-set_same, get_or-set_other}
 use Rattle.std.specs.Prelude.{Some, slice_get}
 use Rattle.std.proofs.lemmas.Option.{get_or_from_slice_get, slice_get_within}
@@ -9,11 +12,8 @@ use Rattle.std.proofs.Math.ListN.{drop_of_length-le}
 use Rattle.staat_vec.specs.declared.vector.Sign.{Sign}
 use Rattle.staat_vec.specs.Lists.{IsFirst}
 use Rattle.staat_vec.proofs.Unique.{Contains-cases, Contains-front, Contains-later, Contains-nothing}
-use Rattle.staat_model.specs.declared.certificate.Arc.{Arc}
-use Rattle.staat_pairs.specs.Tables.{IsTableArc, Table, slot}
-use Rattle.staat_ring.specs.declared.pairs.PairCount.{PairCount}
-use Rattle.staat_ring.specs.Pairs.{occurs, pair_at}
-use Rattle.staat_ring.specs.Belonging.{BelongTo, IsUnused}
+use Rattle.staat_pairs.specs.Tables.{Table}
+use Rattle.staat_ring.specs.Belonging.{BelongTo}
 use Rattle.staat_ring.specs.CountedSigns.{PlaneState, Signed, no_state, state_at}
 use Rattle.staat_ring.specs.SignChanges.{with_sign, with_plane_sign}
 use Rattle.staat_ring.specs.StopSigns.{stop_sign, with_stop_signs}
@@ -54,12 +54,7 @@ kept_at {X = X} f states k sign j same = ⊎_elim {C = f (state_at (set states k
     (same_or j k)
 
 pub signed_same : (k : ℕ) (sign : Sign) (s : Signed) → SameLists (with_plane_sign k sign s) s
-signed_same k sign s = record {
-  size = length-set s.states k (with_sign sign (state_at s.states k));
-  along = λ j. kept_at (λ x. x.along) s.states k sign j (λ x. refl);
-  against = λ j. kept_at (λ x. x.against) s.states k sign j (λ x. refl);
-  pairs = refl;
-}
+signed_same k sign s = grind (arith, common_steps, nat_tests, length-set, kept_at)
 
 pub stop_signs_same : (leaves : Bool) (es : List Entry) (s : Signed) → SameLists (with_stop_signs leaves es s) s
 stop_signs_same leaves [] s = same_itself s
@@ -69,31 +64,7 @@ stop_signs_same leaves (e ∷ es) s =
 
 -- signs that belong to a table still do
 pub belong_same : (t : Table) (s u : Signed) → SameLists u s → BelongTo t s → BelongTo t u
-belong_same t s u same to = record {
-  states = same.size ∙ to.states;
-  all = λ arc across.
-      let p = to.all arc across in
-      let i = p.index in
-      record {
-        within = subst (λ (ps : List PairCount). slot t.pieces arc < length ps) (sym same.pairs) p.within;
-        parts = ap (λ ps. (pair_at ps (slot t.pieces arc)).parts) same.pairs ∙ p.parts;
-        wanted = ap (λ ps. (pair_at ps (slot t.pieces arc)).wanted) same.pairs ∙ p.wanted;
-        index = record {
-          by_plane = i.by_plane;
-          are = i.are;
-          within = i.within;
-          along = λ k. ap (occurs (slot t.pieces arc)) (same.along k) ∙ i.along k;
-          against = λ k. ap (occurs (slot t.pieces arc)) (same.against k) ∙ i.against k;
-        };
-      };
-  only = λ q lt. ⊎_elim {C = ((arc : Arc) × IsTableArc t arc × (slot t.pieces arc ≡ q)) ⊎ IsUnused u q} (λ h. inl h)
-      (λ n. inr (record {
-        wanted = subst (λ (ps : List PairCount). 1 ≤ (pair_at ps q).wanted) (sym same.pairs) n.wanted;
-        along = λ k. ap (occurs q) (same.along k) ∙ n.along k;
-        against = λ k. ap (occurs q) (same.against k) ∙ n.against k;
-      }))
-      (to.only q (subst (λ (ps : List PairCount). q < length ps) same.pairs lt));
-}
+belong_same t s u same to = search (rules, ⊎_elim)
 
 -- ---- the signs
 
@@ -108,35 +79,28 @@ stop_signs_other leaves (e ∷ es) s j none =
     ∙ ap (λ x. x.sign) (get_or-set_other s.states e.plane j (with_sign (stop_sign leaves e.turned) (state_at s.states e.plane)) no_state (λ q. none e (Contains-front e es) (sym q)))
 
 -- one through which some entry goes gets the sign that all of them give
-pub stop_signs_there : (leaves : Bool) (es : List Entry) (s : Signed) (j : ℕ) (sign : Sign) → j < length s.states → ((e : Entry) → Contains es e → e.plane ≡ j → stop_sign leaves e.turned ≡ sign) → (x : Entry) → Contains es x → x.plane ≡ j
-    → (state_at (with_stop_signs leaves es s).states j).sign ≡ sign
-stop_signs_there leaves [] s j sign lt all x c is = absurd (Contains-nothing x c)
-stop_signs_there leaves (e ∷ es) s j sign lt all x c is = by (stop_signs_there leaves es next j sign small (λ y cy. all y (Contains-later e es y cy))) (some_or es j)
+sign_given : (leaves : Bool) (es : List Entry) (s : Signed) (j : ℕ) (sign : Sign) → j < length s.states → ((e : Entry) → Contains es e → e.plane ≡ j → stop_sign leaves e.turned ≡ sign)
+    → ((x : Entry) × Contains es x × (x.plane ≡ j)) ⊎ ((state_at s.states j).sign ≡ sign) → (state_at (with_stop_signs leaves es s).states j).sign ≡ sign
+sign_given leaves [] s j sign lt all some = ⊎_elim {C = (state_at s.states j).sign ≡ sign} (λ (x, c, q). absurd (Contains-nothing x c)) (λ h. h) some
+sign_given leaves (e ∷ es) s j sign lt all some =
+    sign_given leaves es next j sign (subst (λ n. j < n) (sym (length-set s.states e.plane (with_sign (stop_sign leaves e.turned) (state_at s.states e.plane)))) lt) (λ y cy. all y (Contains-later e es y cy))
+    (⊎_elim {C = Given} here (λ ne. ⊎_elim {C = Given} (there ne) (λ h. inr (ap (λ x. x.sign) (get_or-set_other s.states e.plane j (with_sign (stop_sign leaves e.turned) (state_at s.states e.plane)) no_state (λ q. ne (sym q))) ∙ h)) some) (same_or e.plane j))
   where
     next : Signed
     next = with_plane_sign e.plane (stop_sign leaves e.turned) s
 
-    small : j < length next.states
-    small = subst (λ n. j < n) (sym (length-set s.states e.plane (with_sign (stop_sign leaves e.turned) (state_at s.states e.plane)))) lt
+    Given : Type 0
+    Given = ((x : Entry) × Contains es x × (x.plane ≡ j)) ⊎ ((state_at next.states j).sign ≡ sign)
 
-    some_or : (es : List Entry) (j : ℕ) → ((x : Entry) × Contains es x × (x.plane ≡ j)) ⊎ ((x : Entry) → Contains es x → x.plane ≢ j)
-    some_or [] j = inr (λ x c e. Contains-nothing x c)
-    some_or (y ∷ ys) j = ⊎_elim {C = ((x : Entry) × Contains (y ∷ ys) x × (x.plane ≡ j)) ⊎ ((x : Entry) → Contains (y ∷ ys) x → x.plane ≢ j)} (λ e. inl (y, Contains-front y ys, e))
-        (λ ne. ⊎_elim {C = ((x : Entry) × Contains (y ∷ ys) x × (x.plane ≡ j)) ⊎ ((x : Entry) → Contains (y ∷ ys) x → x.plane ≢ j)} (λ h. inl (h.0, Contains-later y ys h.0 h.1, h.2))
-        (λ none. inr (λ x c e. ⊎_elim (λ q. ne (sym (ap (λ z. z.plane) q) ∙ e)) (λ l. none x l e) (Contains-cases y ys x c)))
-        (some_or ys j))
-        (same_or y.plane j)
+    here : e.plane ≡ j → Given
+    here is = inr (ap (λ i. (state_at next.states i).sign) (sym is) ∙ (sign_of_set s.states e.plane (stop_sign leaves e.turned) (subst (λ i. i < length s.states) (sym is) lt) ∙ all e (Contains-front e es) is))
 
-    first : ((x : Entry) → Contains es x → x.plane ≢ j) → (state_at (with_stop_signs leaves es next).states j).sign ≡ sign
-    first none =
-        let e_is : e.plane ≡ j = ⊎_elim (λ q. sym (ap (λ z. z.plane) q) ∙ is) (λ l. absurd (none x l is)) (Contains-cases e es x c) in
-        stop_signs_other leaves es next j none
-        ∙ (ap (λ i. (state_at next.states i).sign) (sym e_is)
-        ∙ (sign_of_set s.states e.plane (stop_sign leaves e.turned) (subst (λ i. i < length s.states) (sym e_is) lt) ∙ all e (Contains-front e es) e_is))
+    there : e.plane ≢ j → (x : Entry) × Contains (e ∷ es) x × (x.plane ≡ j) → Given
+    there ne (x, c, is) = ⊎_elim {C = Given} (λ q. absurd (ne (sym (ap (λ z. z.plane) q) ∙ is))) (λ l. inl (x, l, is)) (Contains-cases e es x c)
 
-    by : ((x : Entry) → Contains es x → x.plane ≡ j → (state_at (with_stop_signs leaves es next).states j).sign ≡ sign) → ((x : Entry) × Contains es x × (x.plane ≡ j)) ⊎ ((x : Entry) → Contains es x → x.plane ≢ j) → (state_at (with_stop_signs leaves es next).states j).sign ≡ sign
-    by rest (inl (y, cy, ey)) = rest y cy ey
-    by rest (inr none) = first none
+pub stop_signs_there : (leaves : Bool) (es : List Entry) (s : Signed) (j : ℕ) (sign : Sign) → j < length s.states → ((e : Entry) → Contains es e → e.plane ≡ j → stop_sign leaves e.turned ≡ sign) → (x : Entry) → Contains es x → x.plane ≡ j
+    → (state_at (with_stop_signs leaves es s).states j).sign ≡ sign
+stop_signs_there leaves es s j sign lt all x c is = sign_given leaves es s j sign lt all (inl (x, c, is))
 
 -- ---- the first entry with a property
 

@@ -3,7 +3,7 @@ use Rattle.std.proofs.Common.{◌≡◌, ◌≢◌, ⊎_elim, ℕ, zero, suc, �
 use Rattle.std.specs.Prelude.{◌==◌, ◌&&◌}
 use Rattle.std.specs.List.{count_by, sum_by}
 use Rattle.std.proofs.lemmas.List.Sums.{sum_by-cons}
-use Rattle.std.proofs.lemmas.List.Elements.{All-get_or, All-from_get_or}
+use Rattle.std.proofs.lemmas.List.Elements.{All-get_or, All-tail}
 use Rattle.staat_vec.specs.declared.vector.Sign.{Sign}
 use Rattle.staat_ring.specs.Belonging.{PlaneFacet}
 use Rattle.staat_ring.proofs.PairLemmas.{one}
@@ -68,11 +68,8 @@ total-hits sg n [] h = total-zero (λ k. 0) 0 n (λ j le. refl)
 total-hits sg n (w ∷ by_plane) h =
     total-same (λ k. hits (sg k) k (w ∷ by_plane)) (λ k. one ((w.plane == k) && is_positive (sg k) w.turned) + hits (sg k) k by_plane) 0 n (λ k. sum_by-cons (λ w. one ((w.plane == k) && is_positive (sg k) w.turned)) w by_plane)
     ∙ (total-plus (λ k. one ((w.plane == k) && is_positive (sg k) w.turned)) (λ k. hits (sg k) k by_plane) 0 n
-    ∙ ((λ i. first i + total-hits sg n by_plane (All-tail h) i) ∙ sym (sum_by-cons (λ w. one (is_positive (sg w.plane) w.turned)) w by_plane)))
+    ∙ ((λ i. first i + total-hits sg n by_plane (All-tail (λ w. w.plane < n) w by_plane h) i) ∙ sym (sum_by-cons (λ w. one (is_positive (sg w.plane) w.turned)) w by_plane)))
   where
-    All-tail : All (λ w. w.plane < n) (w ∷ by_plane) → All (λ w. w.plane < n) by_plane
-    All-tail h = All-from_get_or (λ w. w.plane < n) by_plane w (λ i lt. All-get_or (λ w. w.plane < n) (w ∷ by_plane) (suc i) w (omega arith) h)
-
     first : total (λ k. one ((w.plane == k) && is_positive (sg k) w.turned)) 0 n ≡ one (is_positive (sg w.plane) w.turned)
     first = total-one (λ k. one ((w.plane == k) && is_positive (sg k) w.turned)) w.plane 0 n (omega arith) (let lt = All-get_or (λ w. w.plane < n) (w ∷ by_plane) 0 w (omega arith) h in omega (arith, lt)) (λ j ne. hit_off w j (sg j) ne)
         ∙ ap (λ b. one (b && is_positive (sg w.plane) w.turned)) (eq-eqb w.plane w.plane refl)

@@ -1,64 +1,31 @@
 -- Taking an entry out of the arrays takes it out of the lists that they stand for.
-use Rattle.std.proofs.Common.{◌≡◌, ◌≢◌, ℕ, zero, suc, ◌<◌, refl, sym, ap, subst, ◌∙◌, List, [], ◌∷◌, length, Bool, true, false, not, cond, if◌then◌else◌, eqb, ◌⊎◌, inl, inr, get_or, set, arith, Contains}
+use Rattle.std.proofs.Common.{rules}
+use Rattle.std.proofs.Common.{◌≡◌, ◌≢◌, ℕ, ◌<◌, refl, sym, ap, subst, ◌∙◌, List, [], ◌∷◌, length, Bool, true, false, not, if◌then◌else◌, inl, inr, get_or, set, arith, Contains}
 use Rattle.std.proofs.lemmas.List.{get_or-set_other}
 use Rattle.std.proofs.lemmas.Grind.{get_or-set_at}
 use Rattle.std.proofs.Math.ListN.{length-set}
-use Rattle.staat_vec.proofs.ListLaws.{Contains-there}
+use Rattle.std.specs.Prelude.{◌==◌}
+use Rattle.staat_ring.proofs.WithoutLemmas.{filter_from, filter_in}
 use Rattle.staat_ring.specs.Links.{Links, Apart, Distinct, unlink, Arrays, is_bare, take, take_all}
 use Rattle.staat_ring.proofs.Taking.{CanTakeAll, CanTake}
-use Rattle.staat_ring.specs.Stands.{is_empty, Tagged, IsRing, Shape, RingLists, home_of, StandFor, IsPresent, AllPresent}
+use Rattle.staat_ring.specs.Stands.{is_empty, IsRing, Shape, RingLists, home_of, StandFor, IsPresent, AllPresent}
 use Rattle.staat_ring.specs.Within.{InRange}
 use Rattle.staat_ring.proofs.ListsWithout.{lists_without_all, lists_without, without}
-use Rattle.staat_ring.proofs.WithoutNumber.{without_other, without_none, node_between, tagged_apart, prev_tag, next_tag, ring_stays, ring_shrinks, bare_is}
-use Rattle.staat_vec.proofs.Naturals.{same_or}
-
-contains_cases : (z y : ℕ) (zs : List ℕ) → Contains (z ∷ zs) y → (z ≡ y) ⊎ Contains zs y
-contains_cases z y zs (zero, lt, e) = inl e
-contains_cases z y zs (suc k, lt, e) = inr (k, omega arith, e)
-
-contains_here : (z y : ℕ) (zs : List ℕ) → z ≡ y → Contains (z ∷ zs) y
-contains_here z y zs e = (zero, omega arith, e)
+use Rattle.staat_ring.proofs.WithoutNumber.{without_none, node_between, tagged_apart, tagged_in, prev_tag, next_tag, ring_stays, ring_shrinks, bare_is}
+use Rattle.staat_vec.proofs.Naturals.{eq_test_false, same_or}
 
 pub contains_before : (x y : ℕ) (xs : List ℕ) → Contains (without x xs) y → Contains xs y
-contains_before x y [] h = h
-contains_before x y (z ∷ xs) h = step (eqb z x) (contains_before x y xs) h
-  where
-    step : (b : Bool) → (Contains (without x xs) y → Contains xs y) → Contains (cond (not b) (z ∷ without x xs) (without x xs)) y → Contains (z ∷ xs) y
-    step true ih g = Contains-there z y xs (ih g)
-    step false ih g = elim (contains_cases z y (without x xs) g) [ inl e ↦ contains_here z y xs e | inr c ↦ Contains-there z y xs (ih c) ]
+contains_before x y xs h = (filter_from (λ z. not (z == x)) xs y h).0
 
-pub contains_after : (x y : ℕ) (xs : List ℕ) → y ≢ x → Contains xs y → Contains (without x xs) y
-contains_after x y [] n h = h
-contains_after x y (z ∷ xs) n h = elim (contains_cases z y xs h) [
-  | inl e ↦ subst (λ l. Contains l y) (sym (without_other x z xs (λ f. n (sym e ∙ f)))) (contains_here z y (without x xs) e)
-  | inr c ↦ step (eqb z x) (contains_after x y xs n c)
-]
-  where
-    step : (b : Bool) → Contains (without x xs) y → Contains (cond (not b) (z ∷ without x xs) (without x xs)) y
-    step true g = g
-    step false g = Contains-there z y (without x xs) g
+contains_after : (x y : ℕ) (xs : List ℕ) → y ≢ x → Contains xs y → Contains (without x xs) y
+contains_after x y xs n h = filter_in (λ z. not (z == x)) xs y h (ap not (eq_test_false y x n))
 
 -- a word of an array after a write
 pub word_below : (l : List ℕ) (i u x n : ℕ) → u < n → get_or l x 0 < n → i < length l → get_or (set l i u) x 0 < n
-word_below l i u x n hu hx hi = elim (same_or x i) [
-  | inl e ↦ subst (λ w. w < n) (sym (get_or-set_at l i x u 0 e hi)) hu
-  | inr d ↦ subst (λ w. w < n) (sym (get_or-set_other l i x u 0 d)) hx
-]
+word_below l i u x n hu hx hi = search (rules, get_or-set_other, get_or-set_at, same_or)
 
 pub range_unlink : (s : Links) (x : ℕ) → x < length s.next → InRange s → InRange (unlink x s)
-range_unlink s x lt h =
-    let lp = length-set s.prev (get_or s.next x 0) (get_or s.prev x 0) in
-    let ln = length-set s.next (get_or s.prev x 0) (get_or s.next x 0) in
-    let hp = h.prev_within x lt in
-    let hn = h.next_within x lt in
-    let hs = h.same in
-    record {
-      same = omega (arith, hs);
-      next_within = λ y ly. let ly' : y < length s.next = omega arith in
-          let w = word_below s.next (get_or s.prev x 0) (get_or s.next x 0) y (length s.next) hn (h.next_within y ly') hp in omega arith;
-      prev_within = λ y ly. let ly' : y < length s.next = omega arith in
-          let w = word_below s.prev (get_or s.next x 0) (get_or s.prev x 0) y (length s.next) hp (h.prev_within y ly') (omega (arith, hs)) in omega arith;
-    }
+range_unlink s x lt h = search (rules, length-set, word_below)
 
 node_in_range : (s : Links) (x : ℕ) → x < length s.next → InRange s → (get_or s.prev x 0 < length s.next) × (get_or s.next x 0 < length s.prev)
 node_in_range s x lt h = (h.prev_within x lt, let n = h.next_within x lt in let e = h.same in omega (arith, n, e))
@@ -88,13 +55,8 @@ ring_after s tag x h' xs' h xs lt g c r' same r = elim (same_or (tag h) (tag h')
       (ring_stays s tag x h xs (λ e. d (sym e ∙ p)) (λ e. d (sym e ∙ n)) r)
 ]
   where
-    tag_in : (ys : List ℕ) → Contains ys x → Tagged tag (tag h') ys → tag x ≡ tag h'
-    tag_in [] (k, l, e) t = absurd (omega arith)
-    tag_in (y ∷ ys) (zero, l, e) t = ap tag (sym e) ∙ t.0
-    tag_in (y ∷ ys) (suc k, l, e) t = tag_in ys (k, omega arith, e) t.1
-
     tag_of : tag x ≡ tag h'
-    tag_of = tag_in xs' c r'.tagged.1
+    tag_of = tagged_in tag (tag h') xs' x r'.tagged.1 c
 
 -- the ring stands as it did where the vertex stays
 ring_if : (b : Bool) (s : Links) (tag : ℕ → ℕ) (x h' : ℕ) (xs' : List ℕ) (h : ℕ) (xs : List ℕ) → x < length s.next → InRange s → Contains xs' x → IsRing s tag h' xs'
@@ -112,9 +74,7 @@ bare_after g l a e st pr =
 
 same_circle : (g : Shape) (l : RingLists) (a : Arrays) (c d : ℕ) → StandFor g l a → c < g.count → d < g.count → g.circle (g.head c) ≡ g.circle (g.head d)
     → (g.head c ≡ g.head d) × (l.vertices c ≡ l.vertices d)
-same_circle g l a c d st hc hd e =
-    let q : c ≡ d = sym (st.heads c hc) ∙ (e ∙ st.heads d hd) in
-    (ap g.head q, ap l.vertices q)
+same_circle g l a c d st hc hd e = search (rules)
 
 same_vertex : (g : Shape) (l : RingLists) (a : Arrays) (c d v w : ℕ) → StandFor g l a → c < g.count → d < g.count → Contains (l.vertices c) v → Contains (l.vertices d) w
     → home_of a v ≡ home_of a w → (v ≡ w) × (l.entries v ≡ l.entries w)

@@ -1,5 +1,5 @@
 -- What a step along a circle changes: only planes through the vertex left and the vertex reached.
-use Rattle.std.proofs.Common.{◌≡◌, ◌≢◌, zero, suc, refl, sym, ap, subst, ◌∙◌, arith, ℤ, pos, negsuc, ◌-ℤ◌, ◌*ℤ◌, ◌<ℤ◌, List, [], ◌∷◌, Contains}
+use Rattle.std.proofs.Common.{◌≡◌, ◌≢◌, zero, suc, refl, sym, ap, subst, ◌∙◌, arith, ℤ, pos, negsuc, ◌<ℤ◌, List, [], ◌∷◌, Contains}
 use Rattle.std.proofs.lemmas.Int.{ints}
 use Rattle.staat_vec.specs.declared.vector.V3.{V3}
 use Rattle.staat_vec.specs.Vectors.{dot, cross, negative, origin, sign}
@@ -11,30 +11,19 @@ use Rattle.staat_vec.proofs.Order.{pos_mul}
 use Rattle.staat_ring.proofs.TurnOrder.{turnE, turn_back, turn_negative_left, turn_negative_right}
 use Rattle.staat_ring.proofs.Content.{content_divides}
 use Rattle.staat_ring.proofs.Sides.{turn_is_side, turn_times_right}
-use Rattle.staat_vec.proofs.Integers.{positive_pos, cancel_positive}
+use Rattle.staat_vec.proofs.Integers.{cancel_positive, mixed_product, positive_not_zero, positive_pos}
+use Rattle.staat_vec.proofs.Primitives.{primitive-negative}
 
 -- the crossing, and with it its primitive vector, is ahead of what is on the positive side of h
 crossing_ahead : (g h v : V3) → pos 0 <ℤ dot g g → dot g v ≡ pos 0 → pos 0 <ℤ dot h v → pos 0 <ℤ turn g v (cross g h)
 crossing_ahead g h v gg e p = subst (λ z. pos 0 <ℤ z) (sym (turn_is_side g h v e)) (pos_mul (dot h v) (dot g g) p gg)
 
-negative_part : (a b : ℤ) → a <ℤ pos 0 → pos 0 <ℤ b → pos 0 <ℤ (pos 0 -ℤ a *ℤ b)
-negative_part (pos a) b h g = absurd (omega (arith, ints))
-negative_part (negsuc a) (pos zero) h g = absurd g.lt
-negative_part (negsuc a) (pos (suc b)) h g = omega (arith, ints)
-negative_part (negsuc a) (negsuc b) h g = absurd g.lt
-
 -- and behind what is on its negative side
 crossing_behind : (g h w : V3) → pos 0 <ℤ dot g g → dot g w ≡ pos 0 → dot h w <ℤ pos 0 → pos 0 <ℤ turn g (cross g h) w
-crossing_behind g h w gg e p = subst (λ z. pos 0 <ℤ z) (sym (turn_back g (cross g h) w ∙ ap (λ z. pos 0 -ℤ z) (turn_is_side g h w e))) (negative_part (dot h w) (dot g g) p gg)
+crossing_behind g h w gg e p = let b = turn_back g (cross g h) w in let t = turn_is_side g h w e in let m = mixed_product (dot h w) (dot g g) p gg in omega (arith, ints)
 
 not_origin : (g v u : V3) → pos 0 <ℤ turn g v u → u ≢ origin
-not_origin g v u h e = zero_turn (subst (λ x. pos 0 <ℤ turn g v x) e h)
-  where
-    none : turn g v origin ≡ pos 0
-    none = ring (values (g ∷ v ∷ []) []) (turnE v0 v1 (record { x = num (pos 0); y = num (pos 0); z = num (pos 0) })) (num (pos 0)) tt
-
-    zero_turn : pos 0 <ℤ turn g v origin → ⊥
-    zero_turn q = let e = none in omega (arith, ints)
+not_origin g v u h e = positive_not_zero (turn g v u) h (ap (turn g v) e ∙ ring (values (g ∷ v ∷ []) []) (turnE v0 v1 (record { x = num (pos 0); y = num (pos 0); z = num (pos 0) })) (num (pos 0)) tt)
 
 -- the sides of a vector are those of its primitive vector
 primitive_ahead : (g v u : V3) → pos 0 <ℤ turn g v u → pos 0 <ℤ turn g v (primitive u)
@@ -44,34 +33,12 @@ primitive_ahead g v u h =
     (subst (λ z. pos 0 <ℤ z) (ap (λ x. turn g v x) c.1 ∙ turn_times_right g v (primitive u) (pos (content u))) h)
 
 primitive_behind : (g u w : V3) → pos 0 <ℤ turn g u w → pos 0 <ℤ turn g (primitive u) w
-primitive_behind g u w h = flip (primitive_ahead' (behind h))
-  where
-    behind : pos 0 <ℤ turn g u w → turn g w u <ℤ pos 0
-    behind q = let e = turn_back g u w in omega (arith, ints)
-
-    flip : turn g w (primitive u) <ℤ pos 0 → pos 0 <ℤ turn g (primitive u) w
-    flip q = let e = turn_back g (primitive u) w in omega (arith, ints)
-
-    some : turn g w u <ℤ pos 0 → u ≢ origin
-    some q e = none (subst (λ x. turn g w x <ℤ pos 0) e q)
-      where
-        zero_is : turn g w origin ≡ pos 0
-        zero_is = ring (values (g ∷ w ∷ []) []) (turnE v0 v1 (record { x = num (pos 0); y = num (pos 0); z = num (pos 0) })) (num (pos 0)) tt
-
-        none : turn g w origin <ℤ pos 0 → ⊥
-        none r = let e = zero_is in omega (arith, ints)
-
-    cancel_negative : (a t : ℤ) → pos 0 <ℤ a → (a *ℤ t) <ℤ pos 0 → t <ℤ pos 0
-    cancel_negative (pos zero) t h q = absurd h.lt
-    cancel_negative (pos (suc a)) (pos t) h q = absurd (omega (arith, ints))
-    cancel_negative (pos (suc a)) (negsuc t) h q = omega (arith, ints)
-    cancel_negative (negsuc a) t h q = absurd h.lt
-
-    primitive_ahead' : turn g w u <ℤ pos 0 → turn g w (primitive u) <ℤ pos 0
-    primitive_ahead' q =
-        let c = content_divides u (some q) in
-        cancel_negative (pos (content u)) (turn g w (primitive u)) (positive_pos (content u) c.0)
-        (subst (λ z. z <ℤ pos 0) (ap (λ x. turn g w x) c.1 ∙ turn_times_right g w (primitive u) (pos (content u))) q)
+primitive_behind g u w h =
+    let ahead = primitive_ahead g w (negative u) (let b = turn_back g u w in let n = turn_negative_right g w u in omega (arith, ints)) in
+    let is = ap (turn g w) (primitive-negative u) in
+    let b = turn_back g (primitive u) w in
+    let n = turn_negative_right g w (primitive u) in
+    omega (arith, ints)
 
 -- the crossings of h are on the circle
 pub record HasCrossings (g h : V3) (us : List V3) : Type 0 where

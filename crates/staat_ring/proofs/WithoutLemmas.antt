@@ -6,7 +6,7 @@ use Rattle.std.proofs.lemmas.Bool.Decides.{Decides-eqb}
 use Rattle.staat_vec.proofs.Unique.{Contains-cases, Contains-front, Contains-later, Contains-nothing}
 use Rattle.staat_vec.specs.declared.vector.V3.{V3}
 use Rattle.staat_model.proofs.Members.{All-from_members}
-use Rattle.std.proofs.lemmas.List.Elements.{All-contains}
+use Rattle.std.proofs.lemmas.List.Elements.{All-contains, All-contains_itself, All-filter, filter_passes}
 use Rattle.staat_ring.specs.declared.entry.Entry.{Entry}
 use Rattle.staat_ring.specs.Rings.{IsRingOf, Ring, RingStop, crossing, vertex_of}
 use Rattle.staat_ring.proofs.Stops.{AreLinkedApart}
@@ -24,19 +24,14 @@ filter_in {X = X} p (y ∷ xs) x c h = go (p y) refl (Contains-cases y xs x c) (
     go : (b : Bool) → p y ≡ b → (x ≡ y) ⊎ Contains xs x → (Contains xs x → Contains (filter p xs) x) → Contains (cond b (y ∷ filter p xs) (filter p xs)) x
     go true e (inl q) rest = subst (Contains (y ∷ filter p xs)) (sym q) (Contains-front y (filter p xs))
     go true e (inr l) rest = Contains-later y (filter p xs) x (rest l)
-    go false e (inl q) rest = absurd (off (sym e ∙ (ap p (sym q) ∙ h)))
-      where
-        off : false ≡ true → ⊥
-        off e = cc
+    go false e (inl q) rest = absurd (false_true_clash (p y) e (ap p (sym q) ∙ h))
     go false e (inr l) rest = rest l
 
 pub filter_from : {X : Type 0} (p : X → Bool) (xs : List X) (x : X) → Contains (filter p xs) x → Contains xs x × (p x ≡ true)
-filter_from p [] x c = absurd (Contains-nothing x c)
-filter_from {X = X} p (y ∷ xs) x c = go (p y) refl c (filter_from p xs x)
-  where
-    go : (b : Bool) → p y ≡ b → Contains (cond b (y ∷ filter p xs) (filter p xs)) x → (Contains (filter p xs) x → Contains xs x × (p x ≡ true)) → Contains (y ∷ xs) x × (p x ≡ true)
-    go true e d rest = ⊎_elim {C = Contains (y ∷ xs) x × (p x ≡ true)} (λ q. (subst (Contains (y ∷ xs)) (sym q) (Contains-front y xs), ap p q ∙ e)) (λ l. let r = rest l in (Contains-later y xs x r.0, r.1)) (Contains-cases y (filter p xs) x d)
-    go false e d rest = let r = rest d in (Contains-later y xs x r.0, r.1)
+filter_from p xs x c = (
+  All-contains (Contains xs) (filter p xs) x (All-filter p (Contains xs) xs (All-contains_itself xs)) c,
+  All-contains (λ x. p x ≡ true) (filter p xs) x (filter_passes p xs) c,
+)
 
 -- ---- members that differ
 

@@ -1,6 +1,13 @@
 -- Lists without one number.
-use Rattle.std.proofs.Common.{◌≡◌, ◌≢◌, ℕ, zero, suc, refl, sym, ap, subst, ◌∙◌, List, [], ◌∷◌, ◌++◌, Bool, true, false, not, cond, eqb, eq-eqb, get_or, arith, Contains}
+use Rattle.std.proofs.lemmas.Grind.{common_steps}
+use Rattle.std.proofs.lemmas.Bool.Decides.{nat_tests}
+use Rattle.std.proofs.Common.{◌≡◌, ◌≢◌, ℕ, zero, suc, refl, sym, ap, subst, ◌∙◌, List, [], ◌∷◌, ◌++◌, Bool, true, false, not, cond, eq-eqb, get_or, arith, Contains}
 use Rattle.std.specs.List.{filter}
+use Rattle.std.specs.Prelude.{◌==◌}
+use Rattle.std.proofs.lemmas.List.Elements.{Contains-append_right}
+use Rattle.staat_vec.proofs.Unique.{Contains-front, Contains-later}
+use Rattle.staat_ring.proofs.Mapped.{apart_from, from_apart}
+use Rattle.staat_ring.proofs.WithoutLemmas.{filter_from}
 use Rattle.staat_vec.proofs.Naturals.{eqb_false}
 use Rattle.staat_ring.specs.Links.{Links, IsLinkedRing, Apart, Distinct, unlink, is_bare}
 use Rattle.staat_ring.proofs.Ends.{first_of, last_of}
@@ -19,13 +26,9 @@ pub without_none : (x : ℕ) (xs : List ℕ) → Apart x xs → without x xs ≡
 without_none x [] h = refl
 without_none x (y ∷ xs) h = without_other x y xs h.0 ∙ ap (λ zs. y ∷ zs) (without_none x xs h.1)
 
-apart_mid : (y x : ℕ) (l r : List ℕ) → Apart y (l ++ x ∷ r) → x ≢ y
-apart_mid y x [] r h = h.0
-apart_mid y x (z ∷ l) r h = apart_mid y x l r h.1
-
 pub without_mid : (x : ℕ) (l r : List ℕ) → Distinct (l ++ x ∷ r) → without x (l ++ x ∷ r) ≡ l ++ r
 without_mid x [] r d = without_same x r ∙ without_none x r d.0
-without_mid x (y ∷ l) r d = without_other x y (l ++ x ∷ r) (λ e. apart_mid y x l r d.0 (sym e)) ∙ ap (λ zs. y ∷ zs) (without_mid x l r d.1)
+without_mid x (y ∷ l) r d = without_other x y (l ++ x ∷ r) (λ e. from_apart y (l ++ x ∷ r) x d.0 (Contains-append_right l (x ∷ r) x (Contains-front x r)) (sym e)) ∙ ap (λ zs. y ∷ zs) (without_mid x l r d.1)
 
 -- a list that holds x, split there
 pub record SplitAt (x : ℕ) (xs : List ℕ) : Type 0 where
@@ -53,34 +56,29 @@ node_between s x h xs d c r =
     let d' : Distinct (h ∷ p.left ++ x ∷ p.right) = subst (λ ys. Distinct (h ∷ ys)) p.is d in
     between s x h p.left p.right h d' d'.0 (subst (λ ys. IsLinkedRing s h ys) p.is r)
 
-pub apart_without : (x y : ℕ) (xs : List ℕ) → Apart y xs → Apart y (without x xs)
-apart_without x y [] h = tt
-apart_without x y (z ∷ xs) h = step (eqb z x) (apart_without x y xs h.1)
-  where
-    step : (b : Bool) → Apart y (without x xs) → Apart y (cond (not b) (z ∷ without x xs) (without x xs))
-    step true g = g
-    step false g = (h.0, g)
+apart_filter : (test : ℕ → Bool) (y : ℕ) (xs : List ℕ) → Apart y xs → Apart y (filter test xs)
+apart_filter test y xs h = apart_from y (filter test xs) (λ z c. from_apart y xs z h (filter_from test xs z c).0)
 
-pub distinct_without : (x : ℕ) (xs : List ℕ) → Distinct xs → Distinct (without x xs)
-distinct_without x [] h = tt
-distinct_without x (z ∷ xs) h = step (eqb z x) (distinct_without x xs h.1)
+pub distinct_filter : (test : ℕ → Bool) (xs : List ℕ) → Distinct xs → Distinct (filter test xs)
+distinct_filter test [] h = tt
+distinct_filter test (z ∷ xs) h = step (test z) (distinct_filter test xs h.1)
   where
-    step : (b : Bool) → Distinct (without x xs) → Distinct (cond (not b) (z ∷ without x xs) (without x xs))
-    step true g = g
-    step false g = (apart_without x z xs h.0, g)
+    step : (b : Bool) → Distinct (filter test xs) → Distinct (cond b (z ∷ filter test xs) (filter test xs))
+    step true g = (apart_filter test z xs h.0, g)
+    step false g = g
 
-pub tagged_without : (tag : ℕ → ℕ) (t x : ℕ) (xs : List ℕ) → Tagged tag t xs → Tagged tag t (without x xs)
-tagged_without tag t x [] h = tt
-tagged_without tag t x (z ∷ xs) h = step (eqb z x) (tagged_without tag t x xs h.1)
-  where
-    step : (b : Bool) → Tagged tag t (without x xs) → Tagged tag t (cond (not b) (z ∷ without x xs) (without x xs))
-    step true g = g
-    step false g = (h.0, g)
+pub tagged_in : (tag : ℕ → ℕ) (t : ℕ) (xs : List ℕ) (x : ℕ) → Tagged tag t xs → Contains xs x → tag x ≡ t
+tagged_in tag t [] x h (k, lt, e) = absurd (omega arith)
+tagged_in tag t (y ∷ xs) x h (zero, lt, e) = ap tag (sym e) ∙ h.0
+tagged_in tag t (y ∷ xs) x h (suc k, lt, e) = tagged_in tag t xs x h.1 (k, omega arith, e)
+
+tagged_from : (tag : ℕ → ℕ) (t : ℕ) (xs : List ℕ) → ((x : ℕ) → Contains xs x → tag x ≡ t) → Tagged tag t xs
+tagged_from tag t [] h = tt
+tagged_from tag t (x ∷ xs) h = (h x (Contains-front x xs), tagged_from tag t xs (λ y c. h y (Contains-later x xs y c)))
 
 -- a node with another tag is apart
 pub tagged_apart : (tag : ℕ → ℕ) (t x : ℕ) (xs : List ℕ) → Tagged tag t xs → tag x ≢ t → Apart x xs
-tagged_apart tag t x [] h n = tt
-tagged_apart tag t x (y ∷ xs) h n = (λ e. n (ap tag (sym e) ∙ h.0), tagged_apart tag t x xs h.1 n)
+tagged_apart tag t x xs h n = apart_from x xs (λ y c e. n (ap tag (sym e) ∙ tagged_in tag t xs y h c))
 
 tagged_last : (tag : ℕ → ℕ) (t a : ℕ) (l r : List ℕ) → Tagged tag t (a ∷ l ++ r) → tag (last_of a l) ≡ t
 tagged_last tag t a [] r h = h.0
@@ -110,38 +108,17 @@ next_tag s tag x h xs c r =
 
 -- a ring with another tag stays
 pub ring_stays : (s : Links) (tag : ℕ → ℕ) (x h : ℕ) (xs : List ℕ) → tag (get_or s.prev x 0) ≢ tag h → tag (get_or s.next x 0) ≢ tag h → IsRing s tag h xs → IsRing (unlink x s) tag h xs
-ring_stays s tag x h xs p n r = record {
-  ring = chain_stays s (get_or s.prev x 0) (get_or s.next x 0) (get_or s.next x 0) (get_or s.prev x 0) h xs h
-      (λ e. p (ap tag (sym e))) (tagged_apart tag (tag h) _ xs r.tagged.1 p) (tagged_apart tag (tag h) _ xs r.tagged.1 n) (λ e. n (ap tag (sym e))) r.ring;
-  distinct = r.distinct;
-  tagged = r.tagged;
-}
+ring_stays s tag x h xs p n r = grind (arith, common_steps, nat_tests, chain_stays, tagged_apart)
 
 -- the ring of the node goes over the list without it
 pub ring_shrinks : (s : Links) (tag : ℕ → ℕ) (x h : ℕ) (xs : List ℕ) → NodeInRange s x → Contains xs x → IsRing s tag h xs → IsRing (unlink x s) tag h (without x xs)
 ring_shrinks s tag x h xs g c r = record {
   ring = ring_without s x h xs g r.distinct c r.ring;
-  distinct = (apart_without x h xs r.distinct.0, distinct_without x xs r.distinct.1);
-  tagged = (refl, tagged_without tag (tag h) x xs r.tagged.1);
+  distinct = (apart_filter (λ y. not (y == x)) h xs r.distinct.0, distinct_filter (λ y. not (y == x)) xs r.distinct.1);
+  tagged = (refl, tagged_from tag (tag h) (without x xs) (λ y c. tagged_in tag (tag h) xs y r.tagged.1 (filter_from (λ y. not (y == x)) xs y c).0));
 }
 
 -- a vertex is bare where its list is empty
 pub bare_is : (s : Links) (v : ℕ) (ys : List ℕ) → Apart v ys → IsLinkedRing s v ys → is_bare s v ≡ is_empty ys
 bare_is s v [] a r = eq-eqb (get_or s.next v 0) v r.0
 bare_is s v (y ∷ ys) a r = eqb_false (get_or s.next v 0) v (λ e. a.0 (sym r.0 ∙ e))
-
-apart_filter : (test : ℕ → Bool) (y : ℕ) (xs : List ℕ) → Apart y xs → Apart y (filter test xs)
-apart_filter test y [] h = tt
-apart_filter test y (z ∷ xs) h = step (test z) (apart_filter test y xs h.1)
-  where
-    step : (b : Bool) → Apart y (filter test xs) → Apart y (cond b (z ∷ filter test xs) (filter test xs))
-    step true g = (h.0, g)
-    step false g = g
-
-pub distinct_filter : (test : ℕ → Bool) (xs : List ℕ) → Distinct xs → Distinct (filter test xs)
-distinct_filter test [] h = tt
-distinct_filter test (z ∷ xs) h = step (test z) (distinct_filter test xs h.1)
-  where
-    step : (b : Bool) → Distinct (filter test xs) → Distinct (cond b (z ∷ filter test xs) (filter test xs))
-    step true g = (apart_filter test z xs h.0, g)
-    step false g = g

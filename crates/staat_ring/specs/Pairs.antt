@@ -1,5 +1,5 @@
 -- Ordered pairs of pieces, while their positive facets are counted.
-use Rattle.std.specs.Prelude.{◌≡◌, ◌↔◌, ℕ, ◌+◌, ◌<◌, ◌≤◌, List, length, Bool, not, nat_lt}
+use Rattle.std.specs.Prelude.{◌≡◌, ℕ, ◌+◌, ◌<◌, ◌≤◌, List, length, Bool, not, nat_lt}
 use Rattle.std.specs.Prelude.{◌==◌, ◌&&◌, slice_index, slice_index_or}
 use Rattle.std.specs.List.{count_by}
 use Rattle.staat_pairs.specs.declared.table.TheConstants.{SLOTS}
@@ -35,8 +35,7 @@ gained n p = record { positive = p.positive + n; wanted = p.wanted; parts = p.pa
 
 -- the same pairs have positive facets alone
 abbrev pub AreFullAlike : List PairCount → List PairCount → Type 0
-AreFullAlike old new = (q : ℕ) → ((pair_at old q).wanted ≤ (pair_at old q).positive)
-    ↔ ((pair_at new q).wanted ≤ (pair_at new q).positive)
+AreFullAlike old new = (q : ℕ) → is_full (pair_at old q) ≡ is_full (pair_at new q)
 
 -- how often the number stands in the list
 abbrev pub occurs : ℕ → List ℕ → ℕ

@@ -200,7 +200,7 @@ impl RingArrays {
         ensures home { (x : ℕ) → entry_count planes ≤ x
             → slice_index self.new.home x ≡ slice_index self.old.home x }
     {
-        self.circles.link(head_of(planes, c), planes, c, stops);
+        self.circles.link(planes, c, stops);
         link_stops(&mut self.vertices, &mut self.home, planes, c, stops);
     }
 }

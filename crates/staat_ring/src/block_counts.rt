@@ -1,11 +1,9 @@
 // How many pairs of pieces block for each ordered pair of parts, and the graph that shows where there are some.
-ghost use Rattle.std.specs.Prelude.{◌≡◌, ℕ, ◌+◌, ◌<◌, ◌^◌, ◌↔◌};
-ghost use Rattle.std.specs.Prelude.{◌⊎◌, IfOk, IsTrue};
-ghost use Rattle.std.specs.Prelude.{replicate, slice_index, slice_set, ◌-◌};
+ghost use Rattle.std.specs.Prelude.{◌≡◌, ◌+◌, ◌<◌, ◌^◌, ◌↔◌};
+ghost use Rattle.std.specs.Prelude.{IfOk, IsTrue, replicate, slice_index, slice_set, ◌-◌};
 ghost use Rattle.staat_model.specs.Sets.{IsNonempty};
-ghost use Rattle.staat_graph.specs.Graphs.{HasArc, IsStrong};
-ghost use Rattle.staat_ring.specs.BlockCounts.{HasBlock, IsGraphOf, part_pairs};
-ghost use Rattle.std.specs.Int.{bit_at};
+ghost use Rattle.staat_graph.specs.Graphs.{IsStrong};
+ghost use Rattle.staat_ring.specs.BlockCounts.{HasBlock, IsArcWritten, IsGraphOf, part_pairs};
 
 use staat_graph::{Graph, reach};
 use staat_limits::MOST_PARTS;
@@ -37,38 +35,19 @@ impl Model for BlockCounts {
     ghost invariant = { λ b. ShowsCounts b.counts.items b.graph.rows b.back.rows };
 }
 
-// the word with the bit b set
-fn with_bit(word: u32, b: u32) -> u32
-    requires { b < MOST_PARTS }
-    ensures { (q : ℕ) → (bit_at result q ≡ 1) ↔ ((bit_at word q ≡ 1) ⊎ (q ≡ b)) }
-{
-    PartSet::from_bits(word).union(PartSet::single(b)).bits()
-}
-
-// the word with the bit b cleared
-fn without_bit(word: u32, b: u32) -> u32
-    requires { b < MOST_PARTS }
-    ensures { (q : ℕ) → (bit_at result q ≡ 1) ↔ ((bit_at word q ≡ 1) × (q ≡ b → ⊥)) }
-{
-    PartSet::from_bits(word).without(PartSet::single(b)).bits()
-}
-
-// puts an arc into the graph
-fn set_arc(rows: &mut [u32; 32], a: u32, b: u32)
+// puts an arc into the graph, or takes it out
+fn write_arc(rows: &mut [u32; 32], a: u32, b: u32, there: bool)
     requires from { a < MOST_PARTS }
     requires to { b < MOST_PARTS }
-    ensures { (p q : ℕ) → HasArc rows.new p q ↔ (HasArc rows.old p q ⊎ ((p ≡ a) × (q ≡ b))) }
+    ensures { IsArcWritten rows.old rows.new a b there }
 {
-    rows[a as usize] = with_bit(rows[a as usize], b);
-}
-
-// takes it out
-fn clear_arc(rows: &mut [u32; 32], a: u32, b: u32)
-    requires from { a < MOST_PARTS }
-    requires to { b < MOST_PARTS }
-    ensures { (p q : ℕ) → HasArc rows.new p q ↔ (HasArc rows.old p q × ((p ≡ a) → (q ≡ b) → ⊥)) }
-{
-    rows[a as usize] = without_bit(rows[a as usize], b);
+    let row = PartSet::from_bits(rows[a as usize]);
+    let arc = PartSet::single(b);
+    rows[a as usize] = if there {
+        row.union(arc).bits()
+    } else {
+        row.without(arc).bits()
+    };
 }
 
 impl BlockCounts {
@@ -86,19 +65,37 @@ impl BlockCounts {
         })
     }
 
+    // how many pairs of pieces block for the parts whose number stands at x
+    fn count(&self, x: u16) -> u16
+        requires { x < part_pairs }
+        ensures { result ≡ slice_index self.now x }
+    {
+        self.counts[x as usize]
+    }
+
+    // so many block now
+    fn write(&mut self, x: u16, count: u16)
+        requires { x < part_pairs }
+        ensures { self.new ≡ slice_set self.old x count }
+    {
+        let some = count != 0;
+        let had_some = self.counts[x as usize] != 0;
+        self.counts[x as usize] = count;
+        if some != had_some {
+            let (a, b) = (x as u32 / 32, x as u32 % 32);
+            write_arc(&mut self.graph.rows, a, b, some);
+            write_arc(&mut self.back.rows, b, a, some);
+        }
+    }
+
     /// One more pair of pieces blocks for the parts whose number stands at `x`.
     pub fn more(&mut self, x: u16)
         requires place { x < part_pairs }
         requires room { slice_index self.old x + 1 < 2 ^ 16 }
         ensures { self.new ≡ slice_set self.old x (slice_index self.old x + 1) }
     {
-        let count = self.counts[x as usize] + 1;
-        self.counts[x as usize] = count;
-        if count == 1 {
-            let (a, b) = (x as u32 / 32, x as u32 % 32);
-            set_arc(&mut self.graph.rows, a, b);
-            set_arc(&mut self.back.rows, b, a);
-        }
+        let count = self.count(x) + 1;
+        self.write(x, count);
     }
 
     /// One less blocks.
@@ -107,13 +104,8 @@ impl BlockCounts {
         requires some { 0 < slice_index self.old x }
         ensures { self.new ≡ slice_set self.old x (slice_index self.old x - 1) }
     {
-        let count = self.counts[x as usize] - 1;
-        self.counts[x as usize] = count;
-        if count == 0 {
-            let (a, b) = (x as u32 / 32, x as u32 % 32);
-            clear_arc(&mut self.graph.rows, a, b);
-            clear_arc(&mut self.back.rows, b, a);
-        }
+        let count = self.count(x) - 1;
+        self.write(x, count);
     }
 
     /// The graph in which an arc stands where some pair of pieces blocks.

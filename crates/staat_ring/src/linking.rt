@@ -1,30 +1,30 @@
 // The rings of a circle and of its stops, linked to their nodes.
 ghost use Rattle.std.specs.Prelude.{◌≡◌, ℕ, ◌<◌, ◌≤◌, ◌∷◌, [], All, length, map};
 ghost use Rattle.staat_ring.specs.Links.{Apart, Distinct, IsLinkedRing};
-ghost use Rattle.staat_ring.specs.Numbered.{entry_numbers, ring_node_count, node_number};
+ghost use Rattle.staat_ring.specs.Numbered.{entry_numbers, head_number, ring_node_count, node_number};
 ghost use Rattle.staat_ring.specs.Linking.{AreHomedAt, AreLinked, AreStopsLinked, CanBeLinked, IsSameAt, rows_of};
 
+use crate::arrays::head_of;
 use crate::entry::{Entry, node_of, number_of_entry};
 use crate::nodes::NodeLinks;
 use crate::stop_list::Stops;
 use staat_limits::MOST_PLANES;
 
 impl NodeLinks {
-    /// Links a head that stands alone and the nodes of the stops of the circle `c` to a ring, in their order.
-    pub fn link(&mut self, head: u32, planes: u32, c: u32, stops: &Stops)
+    /// Links the nodes of the stops of the circle `c` to a ring, in their order. Its head stands alone.
+    pub fn link(&mut self, planes: u32, c: u32, stops: &Stops)
         requires planes { planes ≤ MOST_PLANES }
         requires circle { c < planes }
         requires stops { CanBeLinked planes c stops.now }
-        requires head { head < length self.old.next }
-        requires nodes { All (λ x. x < length self.old.next) (map (node_number planes c) stops.now) }
-        requires distinct { Distinct (head ∷ map (node_number planes c) stops.now) }
-        requires alone { IsLinkedRing self.old head [] }
-        ensures ring { IsLinkedRing self.new head (map (node_number planes c) stops.now) }
-        ensures others { (y : ℕ) → Apart y (head ∷ map (node_number planes c) stops.now)
+        requires room { ring_node_count planes ≤ length self.old.next }
+        requires alone { IsLinkedRing self.old (head_number planes c) [] }
+        ensures ring { IsLinkedRing self.new (head_number planes c) (map (node_number planes c) stops.now) }
+        ensures others { (y : ℕ) → Apart y (head_number planes c ∷ map (node_number planes c) stops.now)
             → IsSameAt self.old self.new y }
         ensures length { length self.new.next ≡ length self.old.next }
     {
         self.sizes();
+        let head = head_of(planes, c);
         for k in 0..stops.len() {
             self.append(head, node_of(planes, c, stops.stop(k)));
         }

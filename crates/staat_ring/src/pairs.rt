@@ -1,11 +1,11 @@
 // How many facets of each ordered pair of pieces are positive.
 ghost use Rattle.std.specs.Prelude.{◌≡◌, ℕ, ◌+◌, ◌*◌, ◌<◌, ◌≤◌, ◌^◌, ◌↔◌};
-ghost use Rattle.std.specs.Prelude.{◌-◌, All, IfOk, IsTrue, false, length, replicate, slice_set};
+ghost use Rattle.std.specs.Prelude.{◌==◌, All, IfOk, IsTrue, false, if◌then◌else◌, length, not, replicate, slice_set, true};
 ghost use Rattle.staat_model.specs.Sets.{IsNonempty};
 ghost use Rattle.staat_graph.specs.Graphs.{IsStrong};
 ghost use Rattle.staat_ring.specs.BlockCounts.{IsGraphOf, part_pairs};
-ghost use Rattle.staat_ring.specs.Pairs.{AreFullAlike, CountBlocks, HasFullPair, fresh, gained, no_pair, occurs};
-ghost use Rattle.staat_ring.specs.Pairs.{pair_at};
+ghost use Rattle.staat_ring.specs.Pairs.{AreFullAlike, CountBlocks, HasFullPair, fresh, gained, is_full};
+ghost use Rattle.staat_ring.specs.Pairs.{no_pair, occurs, pair_at};
 
 use crate::block_counts::BlockCounts;
 use staat_graph::Graph;
@@ -63,6 +63,35 @@ impl PairCounts {
         Ok(PairCounts { pairs, blocked })
     }
 
+    // the pair of the number q
+    fn pair(&self, q: u16) -> PairCount
+        requires { q < length self.now }
+        ensures is { result ≡ pair_at self.now q }
+        ensures parts { result.parts < part_pairs }
+    {
+        self.pairs[q as usize]
+    }
+
+    // The pair q is this one now, of the same parts as before if all facets were positive. It is told whether all are
+    // positive in one of the two alone.
+    fn write(&mut self, q: u16, pair: PairCount, told: bool)
+        requires place { q < length self.old }
+        requires parts { pair.parts < part_pairs }
+        requires home { is_full (pair_at self.old q) ≡ true → pair.parts ≡ (pair_at self.old q).parts }
+        requires told { is_full pair ≡ (if told then not (is_full (pair_at self.old q)) else is_full (pair_at self.old q)) }
+        ensures pairs { self.new ≡ slice_set self.old q pair }
+        ensures full { told ≡ false → AreFullAlike self.old self.new }
+    {
+        self.pairs[q as usize] = pair;
+        if told {
+            if pair.wanted <= pair.positive {
+                self.blocked.more(pair.parts);
+            } else {
+                self.blocked.less(pair.parts);
+            }
+        }
+    }
+
     /// Tells the place of the parts of a pair and how many facets it has. Nothing was told of it before.
     pub fn want(&mut self, q: u16, wanted: u16, parts: u16)
         requires place { q < length self.old }
@@ -70,31 +99,27 @@ impl PairCounts {
         requires parts { parts < part_pairs }
         ensures { self.new ≡ slice_set self.old q (fresh wanted parts) }
     {
-        self.pairs[q as usize] = PairCount {
+        let pair = PairCount {
             positive: 0,
             wanted,
             parts,
         };
-        if wanted == 0 {
-            self.blocked.more(parts);
-        }
+        self.write(q, pair, wanted == 0);
     }
 
     // One more facet of the pair is positive. Tells whether all of them are now.
     fn gain(&mut self, q: u16) -> bool
         requires place { q < length self.old }
         requires room { (pair_at self.old q).positive + 1 < 2 ^ 16 }
-        ensures pairs { self.new ≡ slice_set self.old q (gained 1 (pair_at self.old q)) }
+        ensures length { length self.new ≡ length self.old }
+        ensures each { (p : ℕ) → pair_at self.new p ≡ gained (if q == p then 1 else 0) (pair_at self.old p) }
         ensures full { result ≡ false → AreFullAlike self.old self.new }
     {
-        let mut pair = self.pairs[q as usize];
+        let mut pair = self.pair(q);
         pair.positive += 1;
-        self.pairs[q as usize] = pair;
-        if pair.positive == pair.wanted {
-            self.blocked.more(pair.parts);
-            return true;
-        }
-        false
+        let told = pair.positive == pair.wanted;
+        self.write(q, pair, told);
+        told
     }
 
     // One less is. Tells whether all of them were.
@@ -102,18 +127,14 @@ impl PairCounts {
         requires place { q < length self.old }
         requires some { 0 < (pair_at self.old q).positive }
         ensures length { length self.new ≡ length self.old }
-        ensures pairs { self.old ≡ slice_set self.new q (gained 1 (pair_at self.new q)) }
+        ensures each { (p : ℕ) → pair_at self.old p ≡ gained (if q == p then 1 else 0) (pair_at self.new p) }
         ensures full { result ≡ false → AreFullAlike self.old self.new }
     {
-        let mut pair = self.pairs[q as usize];
-        let was = pair.positive;
+        let mut pair = self.pair(q);
+        let told = pair.positive == pair.wanted;
         pair.positive -= 1;
-        self.pairs[q as usize] = pair;
-        if was == pair.wanted {
-            self.blocked.less(pair.parts);
-            return true;
-        }
-        false
+        self.write(q, pair, told);
+        told
     }
 
     /// One more facet of each pair in the list is positive, for a pair that stands twice two more. Tells whether some

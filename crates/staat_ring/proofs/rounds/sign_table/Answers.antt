@@ -10,9 +10,6 @@ use Rattle.staat_ring.proofs.StopSigns.{belong_same, signed_same}
 use Rattle.staat_ring.proofs.WholeCircles.{all}
 use Rattle.staat_ring.proofs.rounds.sign_table.Goals as goal
 
-pub set-requires : goal.set-requires
-set-requires c = omega (arith, c.loop-k-test.true, c.loop-k.invariant.end, c.loop-k.invariant.made.states)
-
 pub loop-k-preserved : goal.loop-k-preserved
 loop-k-preserved c =
     let t = c.args.table.now in

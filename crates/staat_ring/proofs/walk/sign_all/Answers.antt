@@ -10,6 +10,7 @@ use Rattle.staat_ring.proofs.SignAll.{Done, count_all, count_more, count_same, m
 use Rattle.staat_ring.proofs.walk.sign_all.Goals as goal
 use Rattle.staat_ring.proofs.walk.sign_all.Goals.{then-is_linked, else-is_linked}
 use Rattle.staat_vec.proofs.Truth.{false_test_clash}
+use Rattle.std.proofs.Common.{rules}
 
 pub loop-k-preserved : goal.loop-k-preserved
 loop-k-preserved g c = elim c.if-is_linked.branch [
@@ -35,8 +36,4 @@ pub returns-clause-signs : goal.returns-clause-signs
 returns-clause-signs g c j n h = c.loop-k.invariant.done j n (let lt = slice_get_within c.args.table.now.planes j n h.is in let a = c.loop-k.invariant.all in let t = c.loop-k-test.false in omega (arith, lt, a, t)) h
 
 pub returns-clause-steps : goal.returns-clause-steps
-returns-clause-steps g c =
-    let m = count_all c.loop-k.k (linked_of c.args.rings.now.rings) in
-    let e = length-map c.args.rings.now.rings (λ r. r.plane) in
-    let f = c.loop-k.invariant.few in
-    omega (arith, m, e, f)
+returns-clause-steps g c = search (rules, length-map, count_all)

@@ -5,9 +5,6 @@ use Rattle.staat_ring.specs.SignChanges.{AreSigned, uses, emptied}
 use Rattle.staat_ring.proofs.PushLemmas.{push_signed}
 use Rattle.staat_ring.proofs.counted_signs.CountedSigns.push.Goals as goal
 
-pub invariant_of-self : goal.invariant_of-self
-invariant_of-self c = subst (λ (s : List PlaneState). AreSigned s c.self.inside.counts) (sym c.in_err-push_at.ensures.err) c.self.invariant
-
 pub invariant_of-self-2 : goal.invariant_of-self-2
 invariant_of-self-2 c =
     subst (λ (s : List PlaneState). AreSigned s c.self.inside.counts) (sym c.in_ok-push_at.ensures.ok)

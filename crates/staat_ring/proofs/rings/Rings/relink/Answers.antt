@@ -1,20 +1,15 @@
 use Rattle.std.proofs.Common.{arith}
 use Rattle.staat_ring.proofs.Flags.{flags_relinked}
 use Rattle.staat_ring.proofs.Made.{relinked_made}
-use Rattle.staat_ring.proofs.RingSteps.{last_small, relink_invariant, relink_kept, some, split_is}
+use Rattle.staat_ring.proofs.Unlinking.{last_small, relink_invariant, relink_kept, some, split_is}
 use Rattle.staat_ring.proofs.rings.Rings.relink.Goals as goal
+use Rattle.std.proofs.Common.{rules}
 
 pub give_plane-requires-clause-plane : goal.give_plane-requires-clause-plane
 give_plane-requires-clause-plane c = last_small c.self.inside.planes c.self.inside.count c.self.inside.order.items c.self.inside.arrays c.args.self.now c.args.plane c.self.invariant.arrays c.self.view_is c.requires.others c.requires.before c.requires.is
 
 pub invariant_of-self : goal.invariant_of-self
-invariant_of-self c = record {
-  arrays = relink_invariant c.self.inside.planes c.self.inside.count c.self.inside.order.items c.self.inside.arrays c.args.self.now c.args.plane c.self.invariant.arrays c.self.view_is c.requires.others c.requires.before c.requires.is c.give_plane.new.self c.give_plane.ensures.arrays c.give_plane.ensures.length;
-  flags = flags_relinked c.self.inside.planes c.self.inside.count c.self.inside.order.items c.self.inside.linked.items c.self.inside.arrays c.args.plane c.self.invariant
-      (some c.self.inside.planes c.self.inside.count c.self.inside.order.items c.self.inside.arrays c.args.self.now c.args.plane c.self.invariant.arrays c.self.view_is c.requires.others c.requires.before c.requires.is)
-      (last_small c.self.inside.planes c.self.inside.count c.self.inside.order.items c.self.inside.arrays c.args.self.now c.args.plane c.self.invariant.arrays c.self.view_is c.requires.others c.requires.before c.requires.is)
-      (split_is c.self.inside.planes c.self.inside.count c.self.inside.order.items c.self.inside.arrays c.args.self.now c.args.plane c.self.invariant.arrays c.self.view_is c.requires.others c.requires.before c.requires.is);
-}
+invariant_of-self c = search (rules, flags_relinked, last_small, relink_invariant, some, split_is)
 
 pub returns-clause-is : goal.returns-clause-is
 returns-clause-is c = relink_kept c.self.inside.planes c.self.inside.count c.self.inside.order.items c.self.inside.arrays c.args.self.now c.args.plane c.self.invariant.arrays c.self.view_is c.requires.others c.requires.before c.requires.is c.give_plane.new.self c.give_plane.ensures.arrays

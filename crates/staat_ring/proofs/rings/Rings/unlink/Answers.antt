@@ -1,26 +1,21 @@
 use Rattle.std.proofs.Common.{arith, take}
 use Rattle.staat_ring.proofs.Flags.{flags_unlinked}
 use Rattle.staat_ring.proofs.Made.{unlinked_made}
-use Rattle.staat_ring.proofs.RingSteps.{has_room, is_small, unlink_invariant, unlink_is}
+use Rattle.staat_ring.proofs.Unlinking.{has_room, is_small, unlink_invariant, unlink_is}
 use Rattle.staat_ring.proofs.rings.Rings.unlink.Goals as goal
+use Rattle.std.proofs.Common.{rules}
 
 pub take_plane-requires-clause-plane : goal.take_plane-requires-clause-plane
 take_plane-requires-clause-plane c = is_small c.self.inside.planes (take c.self.inside.count c.self.inside.order.items) c.self.inside.arrays c.args.self.now c.args.plane c.self.view_is c.requires.linked
 
 pub invariant_of-self : goal.invariant_of-self
-invariant_of-self c = record {
-  arrays = unlink_invariant c.self.inside.planes c.self.inside.count c.self.inside.order.items c.self.inside.arrays c.take_plane.new.self c.args.self.now c.args.plane c.self.invariant.arrays c.self.view_is c.requires.linked c.take_plane.ensures.arrays c.take_plane.ensures.length;
-  flags = flags_unlinked c.self.inside.planes c.self.inside.count c.self.inside.order.items c.self.inside.linked.items c.self.inside.arrays c.args.plane c.self.invariant
-      (has_room c.self.inside.planes c.self.inside.count c.self.inside.order.items c.self.inside.arrays c.args.self.now c.args.plane c.self.invariant.arrays c.self.view_is c.requires.linked)
-      (is_small c.self.inside.planes (take c.self.inside.count c.self.inside.order.items) c.self.inside.arrays c.args.self.now c.args.plane c.self.view_is c.requires.linked);
-}
+invariant_of-self c = search (rules, flags_unlinked, has_room, is_small, unlink_invariant)
 
 pub returns-clause-is : goal.returns-clause-is
 returns-clause-is c = unlink_is c.self.inside.planes c.self.inside.count c.self.inside.order.items c.self.inside.arrays c.take_plane.new.self c.args.self.now c.args.plane c.self.invariant.arrays c.self.view_is c.requires.linked c.take_plane.ensures.arrays
 
 pub returns-clause-made : goal.returns-clause-made
-returns-clause-made c = λ planes table made. unlinked_made planes c.args.plane c.args.self.now _ table c.requires.no_axis
-    (unlink_is c.self.inside.planes c.self.inside.count c.self.inside.order.items c.self.inside.arrays c.take_plane.new.self c.args.self.now c.args.plane c.self.invariant.arrays c.self.view_is c.requires.linked c.take_plane.ensures.arrays) made
+returns-clause-made c = search (rules, unlinked_made, unlink_is)
 
 pub index_mut-requires-2 : goal.index_mut-requires-2
 index_mut-requires-2 c =

@@ -1,6 +1,7 @@
 use Rattle.staat_ring.specs.Rings.{unlinked_of}
 use Rattle.staat_ring.proofs.Entering.{entered_first, first_circle, first_entry_other, first_entry_small, first_node, first_some}
 use Rattle.staat_ring.proofs.walk.Walk.enter.Goals as goal
+use Rattle.std.proofs.Common.{rules}
 
 pub entry_of-requires-clause-at : goal.entry_of-requires-clause-at
 entry_of-requires-clause-at g c = first_node c.args.table.now c.len-len.ensures.rules c.args.rings.now.rings (unlinked_of c.args.rings.now.unlinked) c.requires.rings.now c.args.circle c.requires.linked c.first-node.result c.first-node.ensures
@@ -18,5 +19,4 @@ pub of-vertex-requires-clause-different : goal.of-vertex-requires-clause-differe
 of-vertex-requires-clause-different g c = first_entry_other c.args.table.now c.len-len.ensures.rules c.args.rings.now.rings (unlinked_of c.args.rings.now.unlinked) c.requires.rings.now c.args.circle c.requires.linked c.first-node.result c.first-node.ensures c.entry_of.result c.entry_of.ensures
 
 pub returns-clause-entered : goal.returns-clause-entered
-returns-clause-entered g c = entered_first c.args.table.now c.len-len.ensures.rules c.args.rings.now.rings (unlinked_of c.args.rings.now.unlinked) c.requires.rings.now c.args.circle c.requires.linked c.first-node.result c.first-node.ensures c.entry_of.result c.entry_of.ensures
-    c.sign_all.new.signs c.of-vertex.result c.direction.result c.self.inside.crossed c.of-vertex.ensures c.direction.ensures.is c.sign_all.ensures.signs
+returns-clause-entered g c = search (rules, entered_first)
