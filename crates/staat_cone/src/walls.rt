@@ -96,8 +96,8 @@ pub fn is_nearer(a: Placed, b: Placed) -> bool
 pub fn points_of(p: &Piece) -> &[V3]
     ensures points { result.now ≡ p.now }
     ensures piece { IsPiece p.now }
-    ensures some { 1 ≤ length p.now }
-    ensures within { All (IsWithin POINT) p.now }
+    ensures some { 1 ≤ length result.now }
+    ensures within { All (IsWithin POINT) result.now }
 {
     p.points()
 }
