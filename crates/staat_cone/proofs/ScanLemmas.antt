@@ -1,6 +1,5 @@
 -- Two scans around a vector miss no wall through it.
 use Rattle.std.proofs.Common.{◌≡◌, ◌≢◌, ◌↔◌, Bool, false, IsTrue, ℕ, zero, suc, ◌+◌, ◌<◌, ◌≤◌, refl, sym, ap, subst, ◌∙◌, arith, ℤ, pos, negsuc, neg_ℤ, ◌-ℤ◌, ◌*ℤ◌, ◌≤ℤ◌, ◌<ℤ◌, ◌⊎◌, inl, inr, ⊎_elim, List, [], ◌∷◌, ◌++◌, length, get_or, take, Contains}
-use Rattle.std.specs.Prelude.{Any}
 use Rattle.std.proofs.lemmas.Int.{ints}
 use Rattle.std.proofs.lemmas.List.{take_all}
 use Rattle.std.proofs.lemmas.List.Elements.{All-contains, Contains-get_or, Contains-push_cases}
@@ -299,20 +298,3 @@ first_is_enough vs xs ys v a b are flat first = record {
 
 pub flat_where_not_off : (r : Bool) (d : ℤ) → IsTrue r ↔ (d ≢ pos 0) → r ≡ false → d ≡ pos 0
 flat_where_not_off r d h e = ⊎_elim (λ flat. flat) (λ off. absurd (refused r (d ≢ pos 0) h e off)) (zero_or d)
-
--- ---- the first candidate
-
--- none of xs is one
-abbrev pub HasNoCandidate : List V3 → V3 → Type 0
-HasNoCandidate xs v = (x : V3) → Contains xs x → IsApart v x → ⊥
-
-pub none_more : (vs : List V3) (v : V3) (i : ℕ) (z : V3) → i < length vs → HasNoCandidate (take i vs) v → (IsApart v (get_or vs i z) → ⊥) → HasNoCandidate (take (i + 1) vs) v
-none_more vs v i z lt none next =
-    subst (λ xs. HasNoCandidate xs v) (sym (take_more vs i z lt))
-    (λ x c apart. ⊎_elim (λ old. none x old apart) (λ e. next (subst (IsApart v) (sym e) apart)) (Contains-push_cases (take i vs) (get_or vs i z) x c))
-
-pub none_left : (vs : List V3) (v : V3) (i : ℕ) → length vs ≤ i → HasNoCandidate (take i vs) v → Any (IsApart v) vs → ⊥
-none_left vs v i le none (k, x, lt, same, apart) = none x (subst (λ xs. Contains xs x) (sym (take_all i vs le)) (k, lt, same)) apart
-
-pub none_yet : (vs : List V3) (v : V3) → HasNoCandidate (take 0 vs) v
-none_yet vs v x c apart = Contains-nothing x c

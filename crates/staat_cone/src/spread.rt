@@ -133,6 +133,7 @@ fn two_steps(ps: &[V3], qs: &[V3]) -> Option<(V3, V3)>
 pub fn three_steps(p: &Piece, q: &Piece) -> Option<(V3, V3, V3)>
     ensures steps { IfSome result (λ s. IsDifferenceStep p.now q.now s.0
         × IsDifferenceStep p.now q.now s.1 × IsDifferenceStep p.now q.now s.2) }
+    ensures within { IfSome result (λ s. IsWithin DIFF s.0 × IsWithin DIFF s.1 × IsWithin DIFF s.2) }
     ensures spanning { IfSome result (λ s. det s.2 s.0 s.1 ≢ pos 0) }
 {
     let (u, v) = two_steps(points_of(p), points_of(q))?;

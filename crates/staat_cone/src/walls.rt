@@ -1,6 +1,6 @@
 // Walls between two pieces, and whether a direction leads ahead of all of them.
 ghost use Rattle.std.specs.Prelude.{◌≡◌, ◌≢◌, ◌↔◌, ◌⊎◌, ◌≤◌, ◌≤ℤ◌, ◌<ℤ◌};
-ghost use Rattle.std.specs.Prelude.{pos, List, length, Contains, All, IsTrue};
+ghost use Rattle.std.specs.Prelude.{pos, List, length, Contains, All, IsTrue, MatchBool};
 ghost use Rattle.staat_vec.specs.declared.vector.V3.{V3 as Vector};
 ghost use Rattle.staat_vec.specs.Vectors.{IsWithin, dot, origin};
 ghost use Rattle.staat_model.specs.Facets.{IsFacet};
@@ -87,7 +87,7 @@ pub fn highest(n: V3, points: &[V3]) -> Placed
 
 /// Whether the first lies less far along its normal than the second.
 pub fn is_nearer(a: Placed, b: Placed) -> bool
-    ensures { IsTrue result ↔ (a.along <ℤ b.along) }
+    ensures { MatchBool result (a.along <ℤ b.along) (b.along ≤ℤ a.along) }
 {
     a.along < b.along
 }
@@ -100,27 +100,6 @@ pub fn points_of(p: &Piece) -> &[V3]
     ensures within { All (IsWithin POINT) result.now }
 {
     p.points()
-}
-
-// whether all of q lies as far along n as all of p, or farther
-fn is_beyond(n: V3, p: &Piece, q: &Piece) -> bool
-    requires normal { IsWithin NORMAL n }
-    ensures { IsTrue result ↔ IsBeyond p.now q.now n }
-{
-    let least = lowest(n, points_of(q));
-    let most = highest(n, points_of(p));
-    !is_nearer(least, most)
-}
-
-/// Whether `n` is the normal of a wall between the pieces: not zero, and every point of `q` is as far along it as
-/// every point of `p`, or farther.
-///
-/// The components of `n` are at most [`NORMAL`] in absolute value. The time is linear in the number of points.
-pub fn separates(n: V3, p: &Piece, q: &Piece) -> bool
-    requires normal { IsWithin NORMAL n }
-    ensures { IsTrue result ↔ ((n ≢ origin) × IsBeyond p.now q.now n) }
-{
-    is_wall(n) && is_beyond(n, p, q)
 }
 
 // whether d leads ahead of all the normals
