@@ -5,9 +5,9 @@ ghost use Rattle.staat_vec.specs.Vectors.{IsWithin};
 ghost use Rattle.staat_model.specs.Meeting.{Overlap};
 ghost use Rattle.staat_cone.specs.AxisWalls.{IsWallBetween, axis_walls};
 
-use crate::behind::separates;
 use crate::search::finds_wall;
 use crate::source::FacetSource;
+use crate::walls::separates;
 use staat_model::Piece;
 use staat_vec::{NORMAL, OutOfMemory, V3};
 use std::alloc::Global;

@@ -1,10 +1,10 @@
-// What lies behind a normal, and whether it is that of a wall.
-ghost use Rattle.std.specs.Prelude.{◌≢◌, ◌↔◌, IsTrue, IfSome, IfNone};
-ghost use Rattle.staat_vec.specs.Vectors.{IsWithin, origin};
+// What lies behind a normal.
+ghost use Rattle.std.specs.Prelude.{IfSome, IfNone};
+ghost use Rattle.staat_vec.specs.Vectors.{IsWithin};
 ghost use Rattle.staat_model.specs.Walls.{IsBeyond};
 ghost use Rattle.staat_cone.specs.Few.{IsViolator};
 
-use crate::walls::{highest, is_nearer, is_wall, lowest, points_of};
+use crate::walls::{highest, is_nearer, lowest, points_of};
 use staat_model::Piece;
 use staat_vec::{NORMAL, V3, sub};
 
@@ -21,23 +21,4 @@ pub fn violator(n: V3, p: &Piece, q: &Piece) -> Option<V3>
     } else {
         None
     }
-}
-
-// whether all of q lies as far along n as all of p, or farther
-fn is_beyond(n: V3, p: &Piece, q: &Piece) -> bool
-    requires normal { IsWithin NORMAL n }
-    ensures { IsTrue result ↔ IsBeyond p.now q.now n }
-{
-    violator(n, p, q).is_none()
-}
-
-/// Whether `n` is the normal of a wall between the pieces: not zero, and every point of `q` is as far along it as
-/// every point of `p`, or farther.
-///
-/// The components of `n` are at most [`NORMAL`] in absolute value. The time is linear in the number of points.
-pub fn separates(n: V3, p: &Piece, q: &Piece) -> bool
-    requires normal { IsWithin NORMAL n }
-    ensures { IsTrue result ↔ ((n ≢ origin) × IsBeyond p.now q.now n) }
-{
-    is_wall(n) && is_beyond(n, p, q)
 }

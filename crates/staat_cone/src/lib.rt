@@ -19,8 +19,7 @@ mod walls;
 
 pub use apart::overlap;
 pub use around::furthest;
-pub use behind::separates;
 pub use plain::Plain;
 pub use scan::Scan;
 pub use source::FacetSource;
-pub use walls::blocks;
+pub use walls::{blocks, separates};

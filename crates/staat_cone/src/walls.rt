@@ -8,6 +8,7 @@ ghost use Rattle.staat_model.specs.Meeting.{Meets};
 ghost use Rattle.staat_model.specs.Pieces.{IsPiece};
 ghost use Rattle.staat_model.specs.Walls.{IsBeyond};
 
+use crate::behind::violator;
 use staat_model::Piece;
 use staat_vec::{Course, DIRECTION, NORMAL, ORIGIN, POINT, V3, small_dot};
 
@@ -100,6 +101,25 @@ pub fn points_of(p: &Piece) -> &[V3]
     ensures within { All (IsWithin POINT) result.now }
 {
     p.points()
+}
+
+// whether all of q lies as far along n as all of p, or farther
+fn is_beyond(n: V3, p: &Piece, q: &Piece) -> bool
+    requires normal { IsWithin NORMAL n }
+    ensures { IsTrue result ↔ IsBeyond p.now q.now n }
+{
+    violator(n, p, q).is_none()
+}
+
+/// Whether `n` is the normal of a wall between the pieces: not zero, and every point of `q` is as far along it as
+/// every point of `p`, or farther.
+///
+/// The components of `n` are at most [`NORMAL`] in absolute value. The time is linear in the number of points.
+pub fn separates(n: V3, p: &Piece, q: &Piece) -> bool
+    requires normal { IsWithin NORMAL n }
+    ensures { IsTrue result ↔ ((n ≢ origin) × IsBeyond p.now q.now n) }
+{
+    is_wall(n) && is_beyond(n, p, q)
 }
 
 // whether d leads ahead of all the normals
