@@ -39,7 +39,7 @@ placed_step n xs i z best here new lt h e p a (inr same) =
 pub beyond_by_ends : (p q : List V3) (n : V3) (low high : ℤ) → All (λ x. low ≤ℤ dot n x) q → All (λ x. dot n x ≤ℤ high) p → high ≤ℤ low → IsBeyond p q n
 beyond_by_ends p q n low high least most le =
     All-from_members (λ a. All (λ b. pos 0 ≤ℤ dot n (minus b a)) q) p (λ a a_in. All-from_members (λ b. pos 0 ≤ℤ dot n (minus b a)) q (λ b b_in.
-        span_nonneg (dot n a) (dot n b) high low (dot n (minus b a)) (dot-minus n b a) (All-contains (λ x. dot n x ≤ℤ high) p a most a_in) (All-contains (λ x. low ≤ℤ dot n x) q b least b_in) le))
+    span_nonneg (dot n a) (dot n b) high low (dot n (minus b a)) (dot-minus n b a) (All-contains (λ x. dot n x ≤ℤ high) p a most a_in) (All-contains (λ x. low ≤ℤ dot n x) q b least b_in) le))
 
 -- and not where a difference lies behind n
 pub beyond_or_not : (p q : List V3) (n : V3) (r : Option V3) (b : Bool) → is_some r ≡ not b → IfSome r (IsViolator p q n) → IfNone r (IsBeyond p q n) → IsTrue b ↔ IsBeyond p q n
