@@ -59,21 +59,21 @@ edge_of vs g h n t =
 
 -- an edge through two differences may be a multiple of a facet of the pieces
 pub edge_candidate : (p q few : List V3) (g v f : V3) → IsDifferenceStep p q g → IsDifferenceStep p q v → IsEdge few g v f → IsCandidate p q f
-edge_candidate p q few g v f is_g is_v t = ⊎_elim (λ i. of_first i) (λ i. of_second i) t.is
-  where
-    of_first : f ≡ cross g v → IsCandidate p q f
-    of_first i = record {
-      some = t.some;
-      touches = record { u = g; v = v; u_is = is_g.difference; v_is = is_v.difference; u_on = dot_comm f g ∙ ap (dot g) i ∙ dot_cross_left g v; v_on = dot_comm f v ∙ ap (dot v) i ∙ dot_cross_right g v; independent = (λ z. t.some (i ∙ z)) };
-      within = subst (IsWithin NORMAL) (sym i) (IsWithin-cross DIFF DIFF g v is_g.within is_v.within);
-    }
-
-    of_second : f ≡ cross v g → IsCandidate p q f
-    of_second i = record {
-      some = t.some;
-      touches = record { u = v; v = g; u_is = is_v.difference; v_is = is_g.difference; u_on = dot_comm f v ∙ ap (dot v) i ∙ dot_cross_left v g; v_on = dot_comm f g ∙ ap (dot g) i ∙ dot_cross_right v g; independent = (λ z. t.some (i ∙ z)) };
-      within = subst (IsWithin NORMAL) (sym i) (IsWithin-cross DIFF DIFF v g is_v.within is_g.within);
-    }
+edge_candidate p q few g v f is_g is_v t = record {
+  some = t.some;
+  touches = record {
+    u = g;
+    v = v;
+    u_is = is_g.difference;
+    v_is = is_v.difference;
+    u_on = ⊎_elim (λ i. dot_comm f g ∙ ap (dot g) i ∙ dot_cross_left g v) (λ i. dot_comm f g ∙ ap (dot g) i ∙ dot_cross_right v g) t.is;
+    v_on = ⊎_elim (λ i. dot_comm f v ∙ ap (dot v) i ∙ dot_cross_right g v) (λ i. dot_comm f v ∙ ap (dot v) i ∙ dot_cross_left v g) t.is;
+    independent = λ z. t.some (⊎_elim (λ i. i ∙ z) (λ i. i ∙ swap_zero v g z) t.is);
+  };
+  within = ⊎_elim
+      (λ i. subst (IsWithin NORMAL) (sym i) (IsWithin-cross DIFF DIFF g v is_g.within is_v.within))
+      (λ i. subst (IsWithin NORMAL) (sym i) (IsWithin-cross DIFF DIFF v g is_v.within is_g.within)) t.is;
+}
 
 -- the primitive vector on the ray of a wall that touches the pieces is a facet of them
 pub facet_on_ray : (p q : List V3) (n r : V3) → IsPrimitiveOf n r → IsBeyond p q n → Touches p q n → IsFacet p q r

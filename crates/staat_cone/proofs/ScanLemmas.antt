@@ -222,17 +222,13 @@ is_origin n = go (zero_or n.x) (zero_or n.y) (zero_or n.z)
     go (inl e) (inr f) g = inr (λ z. f (ap (λ v. v.y) z))
     go (inl e) (inl f) (inr g) = inr (λ z. g (ap (λ v. v.z) z))
 
-swapped : {A B : Type 0} → A ⊎ B → B ⊎ A
-swapped (inl a) = inr a
-swapped (inr b) = inl b
-
 on_one : (vs : List V3) (v first a b : V3) → IsLeftmost vs vs v first a → IsLeftmost vs vs (negative v) first b → Contains vs first → (n w : V3) → IsWallThrough vs v n → Contains vs w → IsApart v w → dot w n ≡ pos 0 → (dot a n ≡ pos 0) ⊎ (dot b n ≡ pos 0)
 on_one vs v first a b left right first_in n w wall w_in apart on_w = ⊎_elim (λ e. inl (flat_none a n e)) found (is_origin n)
   where
     found : n ≢ origin → (dot a n ≡ pos 0) ⊎ (dot b n ≡ pos 0)
     found some =
         ⊎_elim (λ l. on_one_left vs v first a b n w left right first_in some wall w_in l)
-        (λ r. swapped (on_one_left vs (negative v) first b a n w right (subst (λ u. IsLeftmost vs vs u first a) (sym (negative-negative v)) left) first_in some (wall_turned vs v n wall) w_in r))
+        (λ r. ⊎_elim inr inl (on_one_left vs (negative v) first b a n w right (subst (λ u. IsLeftmost vs vs u first a) (sym (negative-negative v)) left) first_in some (wall_turned vs v n wall) w_in r))
         (on_a_side n v w some wall.on on_w apart)
 
 turned_cross : (v x : V3) → cross x (negative v) ≡ cross v x
