@@ -1,5 +1,5 @@
 -- Walls of the cone of few vectors by cross products, and the facets on whose rays they lie.
-use Rattle.std.proofs.Common.{◌≡◌, ◌≢◌, inl, inr, ⊎_elim, refl, sym, ap, subst, ◌∙◌, List, [], ◌∷◌, ◌++◌}
+use Rattle.std.proofs.Common.{◌≡◌, ◌≢◌, inl, inr, ◌⊎◌, ⊎_elim, refl, sym, ap, subst, ◌∙◌, List, [], ◌∷◌, ◌++◌}
 use Rattle.staat_vec.specs.declared.vector.V3.{V3}
 use Rattle.staat_vec.specs.declared.vector.TheConstants.{DIFF, NORMAL}
 use Rattle.staat_vec.specs.Vectors.{IsWithin, dot, cross, negative, origin}
@@ -48,36 +48,32 @@ edges_not_added vs xs g h f e none = Adds-none (IsEdge vs g h) xs (λ n t. none 
 
 -- each facet through g and h lies on the ray of an edge
 pub edge_of : (vs : List V3) (g h n : V3) → IsThrough vs g h n → (f : V3) × IsEdge vs g h f × IsPrimitiveOf f n
-edge_of vs g h n t = ⊎_elim (λ i. first i) (λ i. second i) (across_crosses n g h t.primitive t.independent t.g_on t.h_on)
+edge_of vs g h n t =
+    ⊎_elim (λ i. on (cross g h) (inl refl) t.independent i) (λ i. on (cross h g) (inr refl) (λ z. t.independent (swap_zero g h z)) i)
+    (across_crosses n g h t.primitive t.independent t.g_on t.h_on)
   where
-    first : n ≡ primitive (cross g h) → (f : V3) × IsEdge vs g h f × IsPrimitiveOf f n
-    first i =
-        let p : IsPrimitiveOf (cross g h) n = subst (IsPrimitiveOf (cross g h)) (sym i) (primitive-is (cross g h) t.independent) in
-        (cross g h, record { is = inl refl; some = t.independent; above = above_multiple vs (cross g h) n p t.above }, p)
-
-    second : n ≡ primitive (cross h g) → (f : V3) × IsEdge vs g h f × IsPrimitiveOf f n
-    second i =
-        let back : cross h g ≢ origin = λ z. t.independent (swap_zero g h z) in
-        let p : IsPrimitiveOf (cross h g) n = subst (IsPrimitiveOf (cross h g)) (sym i) (primitive-is (cross h g) back) in
-        (cross h g, record { is = inr refl; some = back; above = above_multiple vs (cross h g) n p t.above }, p)
+    on : (f : V3) → (f ≡ cross g h) ⊎ (f ≡ cross h g) → f ≢ origin → n ≡ primitive f → (f : V3) × IsEdge vs g h f × IsPrimitiveOf f n
+    on f is some i =
+        let p : IsPrimitiveOf f n = subst (IsPrimitiveOf f) (sym i) (primitive-is f some) in
+        (f, record { is = is; some = some; above = above_multiple vs f n p t.above }, p)
 
 -- an edge through two differences may be a multiple of a facet of the pieces
 pub edge_candidate : (p q few : List V3) (g v f : V3) → IsDifferenceStep p q g → IsDifferenceStep p q v → IsEdge few g v f → IsCandidate p q f
-edge_candidate p q few g v f is_g is_v t = ⊎_elim (λ i. of_first i) (λ i. of_second i) t.is
-  where
-    of_first : f ≡ cross g v → IsCandidate p q f
-    of_first i = record {
-      some = t.some;
-      touches = record { u = g; v = v; u_is = is_g.difference; v_is = is_v.difference; u_on = dot_comm f g ∙ ap (dot g) i ∙ dot_cross_left g v; v_on = dot_comm f v ∙ ap (dot v) i ∙ dot_cross_right g v; independent = (λ z. t.some (i ∙ z)) };
-      within = subst (IsWithin NORMAL) (sym i) (IsWithin-cross DIFF DIFF g v is_g.within is_v.within);
-    }
-
-    of_second : f ≡ cross v g → IsCandidate p q f
-    of_second i = record {
-      some = t.some;
-      touches = record { u = v; v = g; u_is = is_v.difference; v_is = is_g.difference; u_on = dot_comm f v ∙ ap (dot v) i ∙ dot_cross_left v g; v_on = dot_comm f g ∙ ap (dot g) i ∙ dot_cross_right v g; independent = (λ z. t.some (i ∙ z)) };
-      within = subst (IsWithin NORMAL) (sym i) (IsWithin-cross DIFF DIFF v g is_v.within is_g.within);
-    }
+edge_candidate p q few g v f is_g is_v t = record {
+  some = t.some;
+  touches = record {
+    u = g;
+    v = v;
+    u_is = is_g.difference;
+    v_is = is_v.difference;
+    u_on = ⊎_elim (λ i. dot_comm f g ∙ ap (dot g) i ∙ dot_cross_left g v) (λ i. dot_comm f g ∙ ap (dot g) i ∙ dot_cross_right v g) t.is;
+    v_on = ⊎_elim (λ i. dot_comm f v ∙ ap (dot v) i ∙ dot_cross_right g v) (λ i. dot_comm f v ∙ ap (dot v) i ∙ dot_cross_left v g) t.is;
+    independent = λ z. t.some (⊎_elim (λ i. i ∙ z) (λ i. i ∙ swap_zero v g z) t.is);
+  };
+  within = ⊎_elim
+      (λ i. subst (IsWithin NORMAL) (sym i) (IsWithin-cross DIFF DIFF g v is_g.within is_v.within))
+      (λ i. subst (IsWithin NORMAL) (sym i) (IsWithin-cross DIFF DIFF v g is_v.within is_g.within)) t.is;
+}
 
 -- the primitive vector on the ray of a wall that touches the pieces is a facet of them
 pub facet_on_ray : (p q : List V3) (n r : V3) → IsPrimitiveOf n r → IsBeyond p q n → Touches p q n → IsFacet p q r

@@ -1,5 +1,5 @@
 -- Few of the differences of two pieces, and what is known of the facets of their cone while they grow.
-use Rattle.std.proofs.Common.{◌≡◌, ◌↔◌, ℕ, zero, suc, ◌-◌, ◌<◌, refl, take, None, IsSome, ◌⊎◌, inl, inr, ⊎_elim, sym, ap, subst, ◌∙◌, arith, ℤ, pos, ◌-ℤ◌, ◌*ℤ◌, ◌≤ℤ◌, ◌<ℤ◌, List, [], ◌∷◌, ◌++◌, All, Contains}
+use Rattle.std.proofs.Common.{◌≡◌, ◌↔◌, ℕ, zero, suc, ◌-◌, ◌<◌, refl, take, None, IsSome, ◌⊎◌, inl, inr, ⊎_elim, sym, ap, subst, ◌∙◌, arith, ℤ, pos, ◌-ℤ◌, ◌*ℤ◌, ◌<ℤ◌, List, [], ◌∷◌, ◌++◌, All, Contains}
 use Rattle.std.proofs.lemmas.Int.{ints}
 use Rattle.std.proofs.lemmas.List.Elements.{All-contains, All-push, Contains-append_left, Contains-push, Contains-push_cases}
 use Rattle.staat_vec.specs.declared.vector.V3.{V3}
@@ -19,13 +19,13 @@ use Rattle.staat_model.proofs.WallLaws.{dot-minus}
 use Rattle.staat_model.proofs.PieceFacets.{differences_are, beyond_is_above}
 use Rattle.staat_cone.specs.declared.walls.Placed.{Placed}
 use Rattle.staat_cone.specs.Pairs.{AddsEdges, HasMultiple}
-use Rattle.staat_cone.specs.Few.{IsCandidate, IsEnough, IsGrown, IsDifferenceStep, IsViolator}
+use Rattle.staat_cone.specs.Few.{IsCandidate, IsEnough, IsGrown, IsDifferenceStep, IsReady, IsViolator}
 use Rattle.staat_cone.proofs.EdgeLemmas.{edge_candidate, facet_on_ray}
 use Rattle.staat_cone.proofs.PairLemmas.{above_multiple, facet_grown, facet_on_side}
 use Rattle.staat_vec.proofs.Integers.{negative_nonneg_clash}
 
 -- nothing is known of no vectors
-grown_nothing : (p q : List V3) → IsGrown p q [] [] []
+pub grown_nothing : (p q : List V3) → IsGrown p q [] [] []
 grown_nothing p q = record {
   steps = λ k d lt. absurd (Contains-nothing d (k, lt, λ i. d));
   untested_are = λ k d lt. absurd (Contains-nothing d (k, lt, λ i. d));
@@ -33,36 +33,28 @@ grown_nothing p q = record {
   all = λ n f. absurd (Contains-nothing f.across.u f.across.u_in);
 }
 
-pub grown_start : (p q few untested found : List V3) → few ≡ [] → untested ≡ [] → found ≡ [] → IsGrown p q few untested found
-grown_start p q few untested found e f g = subst (λ xs. IsGrown p q xs untested found) (sym e) (subst (λ xs. IsGrown p q [] xs found) (sym f) (subst (IsGrown p q [] []) (sym g) (grown_nothing p q)))
+-- a difference may join the few, where each facet of theirs is untested or found
+pub ready : {p q few untested found : List V3} {v : V3} → IsGrown p q few untested found → IsDifferenceStep p q v → IsReady p q few untested found v
+ready is step = record { step = step; steps = is.steps; untested_are = is.untested_are; found_are = is.found_are; all = λ n f side. is.all n f }
 
 -- one more difference, with the walls through it, where facets that it lies behind may have been left out
-grown_with : (p q few untested found few' untested' : List V3) (v : V3) → All (IsDifferenceStep p q) few → All (IsCandidate p q) untested → All (IsFacet p q) found
-    → ((n : V3) → IsConeFacet few n → pos 0 ≤ℤ dot v n → HasMultiple untested n ⊎ Contains found n) → IsDifferenceStep p q v → few' ≡ few ++ v ∷ []
-    → AddsEdges few v untested untested' → IsGrown p q few' untested' found
-grown_with p q few untested found few' untested' v steps candidates facets all' step e adds =
-    subst (λ vs. IsGrown p q vs untested' found) (sym e) (record {
-      steps = All-push (IsDifferenceStep p q) few v steps step;
-      untested_are = All-from_members (IsCandidate p q) untested' (λ n c. ⊎_elim
-          (λ old. All-contains (IsCandidate p q) untested n candidates old)
-          (λ (g, in_g, t). edge_candidate p q few g v n (All-contains (IsDifferenceStep p q) few g steps in_g) step t)
-          (adds.only n c));
-      found_are = facets;
-      all = λ n f. ⊎_elim
-          (λ old. ⊎_elim (λ (g, c, ray). inl (g, adds.kept g c, ray)) (λ c. inr c) (all' n old (facet_on_side few v n f)))
-          (λ through. inl (adds.added n through))
-          (facet_grown few v n f);
-    })
-
-pub grown_by : (p q few untested found few' untested' found' : List V3) (v : V3) → IsGrown p q few untested found → IsDifferenceStep p q v → few' ≡ few ++ v ∷ []
-    → AddsEdges few v untested untested' → found' ≡ found → IsGrown p q few' untested' found'
-grown_by p q few untested found few' untested' found' v is step e adds same =
-    subst (IsGrown p q few' untested') (sym same)
-    (grown_with p q few untested found few' untested' v is.steps is.untested_are is.found_are (λ n f side. is.all n f) step e adds)
+pub grown_with : (p q few untested found untested' : List V3) (v : V3) → AddsEdges few v untested untested' → IsReady p q few untested found v → IsGrown p q (few ++ v ∷ []) untested' found
+grown_with p q few untested found untested' v adds is = record {
+  steps = All-push (IsDifferenceStep p q) few v is.steps is.step;
+  untested_are = All-from_members (IsCandidate p q) untested' (λ n c. ⊎_elim
+      (λ old. All-contains (IsCandidate p q) untested n is.untested_are old)
+      (λ (g, in_g, t). edge_candidate p q few g v n (All-contains (IsDifferenceStep p q) few g is.steps in_g) is.step t)
+      (adds.only n c));
+  found_are = is.found_are;
+  all = λ n f. ⊎_elim
+      (λ old. ⊎_elim (λ (g, c, ray). inl (g, adds.kept g c, ray)) (λ c. inr c) (is.all n old (facet_on_side few v n f)))
+      (λ through. inl (adds.added n through))
+      (facet_grown few v n f);
+}
 
 -- the last of the untested is left out
 module _ (p q few untested found : List V3) (n : V3) (is : IsGrown p q few (untested ++ n ∷ []) found) where
-  last : IsCandidate p q n
+  pub last : IsCandidate p q n
   last = All-contains (IsCandidate p q) (untested ++ n ∷ []) n is.untested_are (Contains-push untested n)
 
   others : All (IsCandidate p q) untested
@@ -90,12 +82,15 @@ module _ (p q few untested found : List V3) (n : V3) (is : IsGrown p q few (unte
       here_found : (m : V3) → IsPrimitiveOf n m → Contains (found ++ r ∷ []) m
       here_found m on = subst (Contains (found ++ r ∷ [])) (primitive-only n r ray ∙ sym (primitive-only n m on)) (Contains-push found r)
 
-  -- since the difference v, which joins the few, lies behind it
-  pub grown_violated : (few' untested' found' : List V3) (v : V3) → IsViolator p q n v → few' ≡ few ++ v ∷ [] → AddsEdges few v untested untested' → found' ≡ found → IsGrown p q few' untested' found'
-  grown_violated few' untested' found' v violator e adds same =
-      subst (IsGrown p q few' untested') (sym same)
-      (grown_with p q few untested found few' untested' v is.steps others is.found_are
-      (λ m f side. without m f (λ ray. negative_nonneg_clash (dot v n) violator.behind (nonneg_is (dot v n) (pos ray.factor *ℤ dot v m) (dot_multiple v n m ray.factor ray.multiple) (nonneg_mul (pos ray.factor) (dot v m) (nonneg_pos ray.factor) side)))) violator.step e adds)
+  -- since the difference v, which is to join the few, lies behind it
+  pub ready_violated : (v : V3) → IsViolator p q n v → IsReady p q few untested found v
+  ready_violated v violator = record {
+    step = violator.step;
+    steps = is.steps;
+    untested_are = others;
+    found_are = is.found_are;
+    all = λ m f side. without m f (λ ray. negative_nonneg_clash (dot v n) violator.behind (nonneg_is (dot v n) (pos ray.factor *ℤ dot v m) (dot_multiple v n m ray.factor ray.multiple) (nonneg_mul (pos ray.factor) (dot v m) (nonneg_pos ray.factor) side)));
+  }
 
 -- where no facet of the few is untested, they are enough
 pub grown_enough : (p q few found : List V3) → IsGrown p q few [] found → IsSpanning few → IsEnough few (differences p q)

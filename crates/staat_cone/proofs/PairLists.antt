@@ -41,7 +41,4 @@ Adds-more R hs i z xs ys zs lt a b =
     a b)
 
 pub Adds-all : (R : V3 → V3 → Type 0) (hs : List V3) (i : ℕ) (xs ys : List V3) → length hs ≤ i → Adds (FromSome R (take i hs)) xs ys → Adds (FromSome R hs) xs ys
-Adds-all R hs i xs ys le a = subst (λ l. Adds (FromSome R l) xs ys) (whole hs i le) a
-  where
-    whole : (hs : List V3) (i : ℕ) → length hs ≤ i → take i hs ≡ hs
-    whole hs i le = take_all i hs le
+Adds-all R hs i xs ys le a = subst (λ l. Adds (FromSome R l) xs ys) (take_all i hs le) a

@@ -1,6 +1,5 @@
 -- Two scans around a vector miss no wall through it.
 use Rattle.std.proofs.Common.{◌≡◌, ◌≢◌, ◌↔◌, Bool, false, IsTrue, ℕ, zero, suc, ◌+◌, ◌<◌, ◌≤◌, refl, sym, ap, subst, ◌∙◌, arith, ℤ, pos, negsuc, neg_ℤ, ◌-ℤ◌, ◌*ℤ◌, ◌≤ℤ◌, ◌<ℤ◌, ◌⊎◌, inl, inr, ⊎_elim, List, [], ◌∷◌, ◌++◌, length, get_or, take, Contains}
-use Rattle.std.specs.Prelude.{Any}
 use Rattle.std.proofs.lemmas.Int.{ints}
 use Rattle.std.proofs.lemmas.List.{take_all}
 use Rattle.std.proofs.lemmas.List.Elements.{All-contains, Contains-get_or, Contains-push_cases}
@@ -223,17 +222,13 @@ is_origin n = go (zero_or n.x) (zero_or n.y) (zero_or n.z)
     go (inl e) (inr f) g = inr (λ z. f (ap (λ v. v.y) z))
     go (inl e) (inl f) (inr g) = inr (λ z. g (ap (λ v. v.z) z))
 
-swapped : {A B : Type 0} → A ⊎ B → B ⊎ A
-swapped (inl a) = inr a
-swapped (inr b) = inl b
-
 on_one : (vs : List V3) (v first a b : V3) → IsLeftmost vs vs v first a → IsLeftmost vs vs (negative v) first b → Contains vs first → (n w : V3) → IsWallThrough vs v n → Contains vs w → IsApart v w → dot w n ≡ pos 0 → (dot a n ≡ pos 0) ⊎ (dot b n ≡ pos 0)
 on_one vs v first a b left right first_in n w wall w_in apart on_w = ⊎_elim (λ e. inl (flat_none a n e)) found (is_origin n)
   where
     found : n ≢ origin → (dot a n ≡ pos 0) ⊎ (dot b n ≡ pos 0)
     found some =
         ⊎_elim (λ l. on_one_left vs v first a b n w left right first_in some wall w_in l)
-        (λ r. swapped (on_one_left vs (negative v) first b a n w right (subst (λ u. IsLeftmost vs vs u first a) (sym (negative-negative v)) left) first_in some (wall_turned vs v n wall) w_in r))
+        (λ r. ⊎_elim inr inl (on_one_left vs (negative v) first b a n w right (subst (λ u. IsLeftmost vs vs u first a) (sym (negative-negative v)) left) first_in some (wall_turned vs v n wall) w_in r))
         (on_a_side n v w some wall.on on_w apart)
 
 turned_cross : (v x : V3) → cross x (negative v) ≡ cross v x
@@ -299,20 +294,3 @@ first_is_enough vs xs ys v a b are flat first = record {
 
 pub flat_where_not_off : (r : Bool) (d : ℤ) → IsTrue r ↔ (d ≢ pos 0) → r ≡ false → d ≡ pos 0
 flat_where_not_off r d h e = ⊎_elim (λ flat. flat) (λ off. absurd (refused r (d ≢ pos 0) h e off)) (zero_or d)
-
--- ---- the first candidate
-
--- none of xs is one
-abbrev pub HasNoCandidate : List V3 → V3 → Type 0
-HasNoCandidate xs v = (x : V3) → Contains xs x → IsApart v x → ⊥
-
-pub none_more : (vs : List V3) (v : V3) (i : ℕ) (z : V3) → i < length vs → HasNoCandidate (take i vs) v → (IsApart v (get_or vs i z) → ⊥) → HasNoCandidate (take (i + 1) vs) v
-none_more vs v i z lt none next =
-    subst (λ xs. HasNoCandidate xs v) (sym (take_more vs i z lt))
-    (λ x c apart. ⊎_elim (λ old. none x old apart) (λ e. next (subst (IsApart v) (sym e) apart)) (Contains-push_cases (take i vs) (get_or vs i z) x c))
-
-pub none_left : (vs : List V3) (v : V3) (i : ℕ) → length vs ≤ i → HasNoCandidate (take i vs) v → Any (IsApart v) vs → ⊥
-none_left vs v i le none (k, x, lt, same, apart) = none x (subst (λ xs. Contains xs x) (sym (take_all i vs le)) (k, lt, same)) apart
-
-pub none_yet : (vs : List V3) (v : V3) → HasNoCandidate (take 0 vs) v
-none_yet vs v x c apart = Contains-nothing x c

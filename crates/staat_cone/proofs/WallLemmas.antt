@@ -1,12 +1,13 @@
 -- Points that lie least and farthest along a normal, and what they say of all points.
-use Rattle.std.proofs.Common.{◌≡◌, ℕ, ◌+◌, ◌<◌, ◌↔◌, ◌⊎◌, inl, inr, arith, sym, ap, subst, ◌∙◌, refl, Bool, true, false, not, ℤ, ◌≤ℤ◌, ◌<ℤ◌, List, get_or, length, below_more, IsTrue, Contains, All, pos, neg_ℤ}
-use Rattle.std.proofs.lemmas.Int.{ints, by_lt_z}
+use Rattle.std.proofs.Common.{Option, IfSome, IfNone, is_some, Some, None, ◌≡◌, ℕ, ◌+◌, ◌<◌, ◌↔◌, ◌⊎◌, inl, inr, arith, sym, ap, subst, ◌∙◌, Bool, not, ℤ, ◌≤ℤ◌, ◌<ℤ◌, List, get_or, length, below_more, IsTrue, Contains, All, pos, neg_ℤ}
+use Rattle.std.proofs.lemmas.Int.{ints}
 use Rattle.std.proofs.lemmas.List.{get_or_default}
 use Rattle.std.proofs.lemmas.List.Elements.{All-contains}
 use Rattle.staat_vec.specs.declared.vector.V3.{V3}
 use Rattle.staat_vec.specs.Vectors.{dot, minus, negative}
-use Rattle.staat_vec.proofs.VecRing.{dot_negative}
+use Rattle.staat_vec.proofs.VecRing.{dot_comm, dot_negative}
 use Rattle.staat_cone.specs.declared.walls.Placed.{Placed}
+use Rattle.staat_cone.specs.Few.{IsViolator}
 use Rattle.staat_model.specs.Facets.{IsFacet}
 use Rattle.staat_model.specs.Meeting.{Meets}
 use Rattle.staat_model.specs.Pieces.{IsPiece}
@@ -14,17 +15,9 @@ use Rattle.staat_model.specs.Walls.{IsBeyond}
 use Rattle.staat_model.proofs.Members.{All-from_members}
 use Rattle.staat_model.proofs.PieceFacets.{meets_by_facets_lemma}
 use Rattle.staat_model.proofs.WallLaws.{dot-minus}
-use Rattle.staat_vec.proofs.Integers.{span_nonneg, le_from_difference, le_trans_ℤ}
-
-pub less_false : (r : Bool) (a b : ℤ) → IsTrue r ↔ (a <ℤ b) → r ≡ false → b ≤ℤ a
-less_false r a b h e = by_lt_z {P = b ≤ℤ a} a b (λ lt. let t : r ≡ true = h.1 lt in cc) (λ le. le)
-
-pub not_less : (r : Bool) (a b : ℤ) → IsTrue r ↔ (a <ℤ b) → IsTrue (not r) ↔ (b ≤ℤ a)
-not_less true a b h = ((λ t. cc), (λ le. clash (h.0 refl) le))
-  where
-    clash : a <ℤ b → b ≤ℤ a → IsTrue (not true)
-    clash p q = absurd (omega (arith, ints))
-not_less false a b h = ((λ t. less_false false a b h refl), (λ le. refl))
+use Rattle.staat_vec.proofs.Order.{nonneg_is}
+use Rattle.staat_vec.proofs.Truth.{from_not_false, not_true_clash}
+use Rattle.staat_vec.proofs.Integers.{negative_nonneg_clash, span_nonneg, le_trans_ℤ}
 
 module _ {X : Type 0} (f : X → ℤ) (xs : List X) (i : ℕ) (z : X) (best new : ℤ) (lt : i < length xs) where
   pub nearer_step : ((k : ℕ) (d : X) → k < i → best ≤ℤ f (get_or xs k d)) → new ≤ℤ f (get_or xs i z) → new ≤ℤ best → (k : ℕ) (d : X) → k < i + 1 → new ≤ℤ f (get_or xs k d)
@@ -42,15 +35,20 @@ placed_step n xs i z best here new lt h e p a (inl same) =
 placed_step n xs i z best here new lt h e p a (inr same) =
     (subst (λ b. Contains xs b.point) (sym same) h, ap (λ b. b.along) same ∙ e ∙ ap (λ b. dot n b.point) (sym same))
 
--- all of q lies beyond all of p just where its nearest point does not lie before p's farthest
-pub beyond_by_ends : (p q : List V3) (n : V3) (low high : Placed) → Contains q low.point → low.along ≡ dot n low.point → All (λ x. low.along ≤ℤ dot n x) q → Contains p high.point → high.along ≡ dot n high.point → All (λ x. dot n x ≤ℤ high.along) p
-    → (high.along ≤ℤ low.along) ↔ IsBeyond p q n
-beyond_by_ends p q n low high low_in low_at least high_in high_at most = (
-  (λ le. All-from_members (λ a. All (λ b. pos 0 ≤ℤ dot n (minus b a)) q) p (λ a a_in. All-from_members (λ b. pos 0 ≤ℤ dot n (minus b a)) q (λ b b_in.
-      span_nonneg (dot n a) (dot n b) high.along low.along (dot n (minus b a)) (dot-minus n b a) (All-contains (λ x. dot n x ≤ℤ high.along) p a most a_in) (All-contains (λ x. low.along ≤ℤ dot n x) q b least b_in) le))),
-  (λ up. le_from_difference high.along low.along (dot n high.point) (dot n low.point) (dot n (minus low.point high.point)) high_at low_at (dot-minus n low.point high.point)
-      (All-contains (λ b. pos 0 ≤ℤ dot n (minus b high.point)) q low.point (All-contains (λ a. All (λ b. pos 0 ≤ℤ dot n (minus b a)) q) p high.point up high_in) low_in)),
-)
+-- all of q lies beyond all of p where its nearest point does not lie before p's farthest
+pub beyond_by_ends : (p q : List V3) (n : V3) (low high : ℤ) → All (λ x. low ≤ℤ dot n x) q → All (λ x. dot n x ≤ℤ high) p → high ≤ℤ low → IsBeyond p q n
+beyond_by_ends p q n low high least most le =
+    All-from_members (λ a. All (λ b. pos 0 ≤ℤ dot n (minus b a)) q) p (λ a a_in. All-from_members (λ b. pos 0 ≤ℤ dot n (minus b a)) q (λ b b_in.
+    span_nonneg (dot n a) (dot n b) high low (dot n (minus b a)) (dot-minus n b a) (All-contains (λ x. dot n x ≤ℤ high) p a most a_in) (All-contains (λ x. low ≤ℤ dot n x) q b least b_in) le))
+
+-- and not where a difference lies behind n
+pub beyond_or_not : (p q : List V3) (n : V3) (r : Option V3) (b : Bool) → is_some r ≡ not b → IfSome r (IsViolator p q n) → IfNone r (IsBeyond p q n) → IsTrue b ↔ IsBeyond p q n
+beyond_or_not p q n None b e some none = (λ t. none, λ up. from_not_false b (sym e))
+beyond_or_not p q n (Some v) b e some none =
+    let d = some.step.difference in
+    let side : IsBeyond p q n → pos 0 ≤ℤ dot v n = λ up. nonneg_is (dot v n) (dot n (minus d.b d.a)) (dot_comm v n ∙ ap (dot n) d.is)
+    (All-contains (λ b. pos 0 ≤ℤ dot n (minus b d.a)) q d.b (All-contains (λ a. All (λ b. pos 0 ≤ℤ dot n (minus b a)) q) p d.a up d.a_in) d.b_in) in
+    (λ t. absurd (not_true_clash b (sym e) t), λ up. absurd (negative_nonneg_clash (dot v n) some.behind (side up)))
 
 -- p meets q along d just where d leads ahead of each member of the list of their facets
 pub meets_by_list : (p q facets : List V3) (d : V3) → IsPiece p → IsPiece q → ((n : V3) → Contains facets n ↔ IsFacet p q n) → Meets p q d ↔ All (λ n. pos 0 <ℤ dot n d) facets

@@ -1,5 +1,5 @@
 -- Few of the vectors of a list that have the facets of all, and how they are found.
-use Rattle.std.specs.Prelude.{◌≢◌, ◌⊎◌, pos, ◌<ℤ◌, List, All, Contains}
+use Rattle.std.specs.Prelude.{◌≢◌, ◌⊎◌, pos, ◌<ℤ◌, ◌≤ℤ◌, List, All, Contains}
 use Rattle.staat_vec.specs.declared.vector.V3.{V3}
 use Rattle.staat_vec.specs.declared.vector.TheConstants.{DIFF, NORMAL}
 use Rattle.staat_vec.specs.Vectors.{IsWithin, dot, origin}
@@ -36,3 +36,11 @@ pub record IsGrown (p q few untested found : List V3) : Type 0 where
   pub untested_are : All (IsCandidate p q) untested
   pub found_are : All (IsFacet p q) found
   pub all : (n : V3) → IsConeFacet few n → HasMultiple untested n ⊎ Contains found n
+
+-- v is a difference that may join the few: each facet of theirs that does not leave it behind is untested or found
+pub record IsReady (p q few untested found : List V3) (v : V3) : Type 0 where
+  pub step : IsDifferenceStep p q v
+  pub steps : All (IsDifferenceStep p q) few
+  pub untested_are : All (IsCandidate p q) untested
+  pub found_are : All (IsFacet p q) found
+  pub all : (n : V3) → IsConeFacet few n → pos 0 ≤ℤ dot v n → HasMultiple untested n ⊎ Contains found n

@@ -1,14 +1,12 @@
 // The facets of two pieces, from few of the differences: a list that grows by those that lie farthest behind a facet.
-ghost use Rattle.std.specs.Prelude.{◌≡◌, ◌++◌, ◌∷◌, [], List, All, Contains, IsTrue, OnOk, IfOk};
-ghost use Rattle.std.specs.Prelude.{IfSome, IfNone};
+ghost use Rattle.std.specs.Prelude.{◌++◌, ◌∷◌, [], List, All, Contains, OnOk, IfOk};
+ghost use Rattle.std.specs.Prelude.{IfSome};
 ghost use Rattle.staat_vec.specs.declared.vector.V3.{V3 as Vector};
 ghost use Rattle.staat_vec.specs.Vectors.{IsWithin, vector_cmp};
 ghost use Rattle.staat_vec.specs.Lists.{Lists};
 ghost use Rattle.staat_model.specs.Cones.{IsSpanning};
 ghost use Rattle.staat_model.specs.Facets.{IsFacet};
-ghost use Rattle.staat_model.specs.Walls.{IsBeyond};
-ghost use Rattle.staat_cone.specs.Pairs.{AddsEdges};
-ghost use Rattle.staat_cone.specs.Few.{IsCandidate, IsGrown, IsDifferenceStep, IsViolator};
+ghost use Rattle.staat_cone.specs.Few.{IsGrown, IsReady};
 
 use crate::behind::violator;
 use crate::edges::primitive_normal;
@@ -40,9 +38,9 @@ struct Few {
 impl Few {
     // none, with room for those of most pairs
     fn new(alloc: Global, method: Method) -> Result<Few, OutOfMemory>
-        ensures members { IfOk result (λ few. few.members.items ≡ []) }
-        ensures untested { IfOk result (λ few. few.untested.items ≡ []) }
-        ensures found { IfOk result (λ few. few.found.items ≡ []) }
+        ensures grown { IfOk result
+            (λ few. (p q : List Vector) → IsGrown p q few.members.items few.untested.items few.found.items) }
+        ensures within { IfOk result (λ few. All (IsWithin DIFF) few.members.items) }
     {
         Ok(Few {
             method,
@@ -56,10 +54,13 @@ impl Few {
     fn insert(&mut self, v: V3) -> Result<(), OutOfMemory>
         requires members { All (IsWithin DIFF) self.old.members.items }
         requires vector { IsWithin DIFF v }
-        ensures members { OnOk result (self.new.members.items ≡ self.old.members.items ++ v ∷ []) }
-        ensures untested { OnOk result
-            (AddsEdges self.old.members.items v self.old.untested.items self.new.untested.items) }
-        ensures found { OnOk result (self.new.found.items ≡ self.old.found.items) }
+        ensures grown { OnOk result
+            ((p q : List Vector) → IsReady p q self.old.members.items self.old.untested.items self.old.found.items v →
+            IsGrown p q self.new.members.items self.new.untested.items self.new.found.items) }
+        ensures kept { OnOk result
+            ((u : Vector) → Contains self.old.members.items u → Contains self.new.members.items u) }
+        ensures member { OnOk result (Contains self.new.members.items v) }
+        ensures within { OnOk result (All (IsWithin DIFF) self.new.members.items) }
     {
         let members = self.members.as_slice();
         add_edges_through(self.method, members, v, &mut self.untested)?;

@@ -1,6 +1,6 @@
 // Walls between two pieces, and whether a direction leads ahead of all of them.
 ghost use Rattle.std.specs.Prelude.{◌≡◌, ◌≢◌, ◌↔◌, ◌⊎◌, ◌≤◌, ◌≤ℤ◌, ◌<ℤ◌};
-ghost use Rattle.std.specs.Prelude.{pos, List, length, Contains, All, IsTrue};
+ghost use Rattle.std.specs.Prelude.{pos, List, length, Contains, All, IsTrue, MatchBool};
 ghost use Rattle.staat_vec.specs.declared.vector.V3.{V3 as Vector};
 ghost use Rattle.staat_vec.specs.Vectors.{IsWithin, dot, origin};
 ghost use Rattle.staat_model.specs.Facets.{IsFacet};
@@ -8,6 +8,7 @@ ghost use Rattle.staat_model.specs.Meeting.{Meets};
 ghost use Rattle.staat_model.specs.Pieces.{IsPiece};
 ghost use Rattle.staat_model.specs.Walls.{IsBeyond};
 
+use crate::behind::violator;
 use staat_model::Piece;
 use staat_vec::{Course, DIRECTION, NORMAL, ORIGIN, POINT, V3, small_dot};
 
@@ -87,7 +88,7 @@ pub fn highest(n: V3, points: &[V3]) -> Placed
 
 /// Whether the first lies less far along its normal than the second.
 pub fn is_nearer(a: Placed, b: Placed) -> bool
-    ensures { IsTrue result ↔ (a.along <ℤ b.along) }
+    ensures { MatchBool result (a.along <ℤ b.along) (b.along ≤ℤ a.along) }
 {
     a.along < b.along
 }
@@ -96,8 +97,8 @@ pub fn is_nearer(a: Placed, b: Placed) -> bool
 pub fn points_of(p: &Piece) -> &[V3]
     ensures points { result.now ≡ p.now }
     ensures piece { IsPiece p.now }
-    ensures some { 1 ≤ length p.now }
-    ensures within { All (IsWithin POINT) p.now }
+    ensures some { 1 ≤ length result.now }
+    ensures within { All (IsWithin POINT) result.now }
 {
     p.points()
 }
@@ -107,9 +108,7 @@ fn is_beyond(n: V3, p: &Piece, q: &Piece) -> bool
     requires normal { IsWithin NORMAL n }
     ensures { IsTrue result ↔ IsBeyond p.now q.now n }
 {
-    let least = lowest(n, points_of(q));
-    let most = highest(n, points_of(p));
-    !is_nearer(least, most)
+    violator(n, p, q).is_none()
 }
 
 /// Whether `n` is the normal of a wall between the pieces: not zero, and every point of `q` is as far along it as

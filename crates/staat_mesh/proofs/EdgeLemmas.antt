@@ -41,11 +41,8 @@ length-edges xs = length-zip xs (rotated xs) ∙ ap (min (length xs)) (length-ro
 pub edge-at : {X : Type 0} (xs : List X) (c next : ℕ) (d : X) → c < length xs → IsNext (length xs) c next → slice_get (edges xs) c ≡ Some (get_or xs c d, get_or xs next d)
 unfolding edges
 edge-at xs c next d lt is =
-    slice_get-get_or (zip xs (rotated xs)) c (d, d) (omega (arith, lt, length-edges_here xs))
+    slice_get-get_or (zip xs (rotated xs)) c (d, d) (omega (arith, lt, length-edges xs))
     ∙ ap Some (get_or-zip xs (rotated xs) c (d, d) lt (omega (arith, lt, length-rotated xs)) ∙ ap (λ q. (get_or xs c d, q)) (rotated-at xs c next d lt is))
-  where
-    length-edges_here : {X : Type 0} (xs : List X) → length (zip xs (rotated xs)) ≡ length xs
-    length-edges_here xs = length-zip xs (rotated xs) ∙ ap (min (length xs)) (length-rotated xs) ∙ min_same (length xs)
 
 -- the edge of a face at a corner, by numbers
 pub numbered-edge : (numbers face : List ℕ) (c next : ℕ) → c < length face → next < length face → IsNext (length face) c next → slice_get (edges (numbered numbers face)) c ≡ Some (slice_index numbers (slice_index face c), slice_index numbers (slice_index face next))

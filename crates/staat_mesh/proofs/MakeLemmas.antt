@@ -44,28 +44,20 @@ pub refused_points : (X : Type 0) (polygons : Mesh) (points : List V3) (refusal 
 refused_points X polygons points (TooFewPoints found) used h = record { points = points; used = used; by_rules = h }
 refused_points X polygons points (TooManyPoints found) used h = record { points = points; used = used; by_rules = h }
 refused_points X polygons points Flat used h = record { points = points; used = used; by_rules = h }
-refused_points X polygons points (BadFace face) used h = absurd h
-refused_points X polygons points (NotConvex face) used h = absurd h
-refused_points X polygons points (OpenEdge face corner) used h = absurd h
 refused_points X polygons points OutOfMemory used h = tt
+refused_points X polygons points refusal used h = absurd h
 
 pub refused_faces : (X : Type 0) (polygons : Mesh) (points : List V3) (refusal : MeshRefusal) → IsBody polygons points → ChecksFaces {X = X} polygons points (Err refusal) → AnswersMesh polygons (Err refusal)
-refused_faces X polygons points (TooFewPoints found) body h = absurd h.1
-refused_faces X polygons points (TooManyPoints found) body h = absurd h.1
-refused_faces X polygons points Flat body h = absurd h.1
 refused_faces X polygons points (BadFace face) body h = record { points = points; used = body.used; by_rules = (body.least, body.most, (body.solid, h)) }
 refused_faces X polygons points (NotConvex face) body h = record { points = points; used = body.used; by_rules = (body.least, body.most, (body.solid, h)) }
 refused_faces X polygons points (OpenEdge face corner) body h = record { points = points; used = body.used; by_rules = (body.least, body.most, (body.solid, h)) }
 refused_faces X polygons points OutOfMemory body h = tt
+refused_faces X polygons points refusal body h = absurd h.1
 
 pub refused_edges : (X : Type 0) (polygons : Mesh) (points : List V3) (refusal : MeshRefusal) → IsBody polygons points → All (IsSupporting points) polygons → ChecksEdges {X = X} polygons points (Err refusal) → AnswersMesh polygons (Err refusal)
-refused_edges X polygons points (TooFewPoints found) body borders h = absurd h
-refused_edges X polygons points (TooManyPoints found) body borders h = absurd h
-refused_edges X polygons points Flat body borders h = absurd h
-refused_edges X polygons points (BadFace face) body borders h = absurd h
-refused_edges X polygons points (NotConvex face) body borders h = absurd h
 refused_edges X polygons points (OpenEdge face corner) body borders h = record { points = points; used = body.used; by_rules = (body.least, body.most, (body.solid, (borders, h))) }
 refused_edges X polygons points OutOfMemory body borders h = tt
+refused_edges X polygons points refusal body borders h = absurd h
 
 pub body : (X : Type 0) (polygons : Mesh) (points : List V3) (done : X) → Lists vector_cmp (IsUsed polygons) points → ChecksPoints points (Ok done) → IsBody polygons points
 body X polygons points done used h = record { used = used; least = h.0; most = h.1; solid = h.2 }

@@ -15,28 +15,13 @@ Contains-more xs i d x lt =
       λ h. subst (λ ys. Contains ys x) (sym e) (⊎_elim (λ g. Contains-append_left (take i xs) (get_or xs i d ∷ []) x g) (λ g. subst (Contains (take i xs ++ get_or xs i d ∷ [])) g (Contains-push (take i xs) (get_or xs i d))) h),
     )
 
-any_front : {X : Type 0} (P : X → Type 0) (xs : List X) (y : X) → Any P (xs ++ y ∷ []) → Any P xs ⊎ P y
-any_front P [] y (zero, x, lt, e, p) = inr (subst P (sym e) p)
-any_front P [] y (suc k, x, lt, e, p) = absurd (omega (arith, lt))
-any_front P (z ∷ xs) y (zero, x, lt, e, p) = inl (zero, x, omega arith, e, p)
-any_front P (z ∷ xs) y (suc k, x, lt, e, p) = elim (any_front P xs y (k, x, omega (arith, lt), e, p)) [
-  | inl h ↦ inl (suc h.0, h.1, omega (arith, h.2), h.3, h.4)
-  | inr q ↦ inr q
-]
-
-any_back : {X : Type 0} (P : X → Type 0) (xs : List X) (y : X) → Any P xs ⊎ P y → Any P (xs ++ y ∷ [])
-any_back P [] y (inl h) = absurd (omega (arith, h.2))
-any_back P [] y (inr p) = (zero, y, omega arith, refl, p)
-any_back P (z ∷ xs) y (inl (zero, x, lt, e, p)) = (zero, x, omega arith, e, p)
-any_back P (z ∷ xs) y (inl (suc k, x, lt, e, p)) = let h : Any P (xs ++ y ∷ []) = any_back P xs y (inl (k, x, omega (arith, lt), e, p)) in (suc h.0, h.1, omega (arith, h.2), h.3, h.4)
-any_back P (z ∷ xs) y (inr p) = let h : Any P (xs ++ y ∷ []) = any_back P xs y (inr p) in (suc h.0, h.1, omega (arith, h.2), h.3, h.4)
-
 pub Any-more : {X : Type 0} (P : X → Type 0) (xs : List X) (i : ℕ) (d : X) → i < length xs → Any P (take (i + 1) xs) ↔ (Any P (take i xs) ⊎ P (get_or xs i d))
-Any-more P xs i d lt =
-    let e = take_more xs i d lt in (
-      λ h. any_front P (take i xs) (get_or xs i d) (subst (Any P) e h),
-      λ h. subst (Any P) (sym e) (any_back P (take i xs) (get_or xs i d) h),
-    )
+Any-more P xs i d lt = (
+  λ h. ⊎_elim (λ g. inl (g.0, h.1, g.1, g.2, h.4)) (λ e. inr (subst P (sym e) h.4)) ((Contains-more xs i d h.1 lt).0 (h.0, h.2, h.3)),
+  λ h. ⊎_elim
+      (λ g. let at = (Contains-more xs i d g.1 lt).1 (inl (g.0, g.2, g.3)) in (at.0, g.1, at.1, at.2, g.4))
+      (λ p. let at = (Contains-more xs i d (get_or xs i d) lt).1 (inr refl) in (at.0, get_or xs i d, at.1, at.2, p)) h,
+)
 
 -- ---- a face
 

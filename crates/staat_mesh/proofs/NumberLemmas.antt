@@ -1,30 +1,23 @@
 -- What a binary search among the points of a mesh finds.
-use Rattle.std.proofs.Common.{◌≡◌, ◌<◌, ◌≤◌, ◌+◌, ℕ, zero, suc, List, [], ◌∷◌, ◌++◌, length, take, get_or, Some, refl, ap, sym, subst, ◌∙◌, arith, ◌⊎◌, inl, inr}
+use Rattle.std.proofs.Common.{◌≡◌, ◌<◌, ◌≤◌, ◌+◌, ℕ, List, [], ◌∷◌, ◌++◌, length, take, get_or, Some, ap, sym, subst, ◌∙◌, arith, inl, inr}
 use Rattle.std.specs.Prelude.{Contains, slice_get}
 use Rattle.std.proofs.lemmas.List.{get_or_append_left, get_or_push, length-append, take_all, take_more}
 use Rattle.std.proofs.lemmas.List.Elements.{All-push}
+use Rattle.std.proofs.lemmas.Option.{slice_get_within}
 use Rattle.staat_vec.specs.declared.vector.V3.{V3}
+use Rattle.staat_vec.proofs.ListLaws.{push_cases}
 use Rattle.staat_limits.specs.declared.limits.TheConstants.{MOST_POINTS}
 use Rattle.staat_mesh.specs.Counts.{Numbers}
 
 -- ---- the numbers of vertices, one after another
 
-pushed_cases : {X : Type 0} (xs : List X) (y : X) (v : ℕ) (q : X) → slice_get (xs ++ y ∷ []) v ≡ Some q → ((v < length xs) × (slice_get xs v ≡ Some q)) ⊎ ((length xs ≡ v) × (y ≡ q))
-pushed_cases [] y zero q e = inr (refl, cc)
-pushed_cases [] y (suc v) q e = absurd cc
-pushed_cases (x ∷ xs) y zero q e = inl (omega arith, e)
-pushed_cases (x ∷ xs) y (suc v) q e = elim (pushed_cases xs y v q e) [
-  | inl h ↦ inl (omega (arith, h.0), h.1)
-  | inr h ↦ inr (omega (arith, h.0), h.1)
-]
-
 numbers_push : (points positions : List V3) (numbers : List ℕ) (p : V3) (n : ℕ) → Numbers points positions numbers → (Contains points p → slice_get points n ≡ Some p) → n < MOST_POINTS → Numbers points (positions ++ p ∷ []) (numbers ++ n ∷ [])
 numbers_push points positions numbers p n so_far at below = record {
   each_once = omega (arith, length-append positions (p ∷ []), length-append numbers (n ∷ []), so_far.each_once);
   below = All-push (λ m. m < MOST_POINTS) numbers n so_far.below below;
-  at = λ v q e h. elim (pushed_cases positions p v q e) [
-    | inl old ↦ ap (slice_get points) (get_or_append_left numbers (n ∷ []) 0 v (omega (arith, old.0, so_far.each_once))) ∙ so_far.at v q old.1 h
-    | inr new ↦ ap (slice_get points) (get_or_push numbers n 0 v (so_far.each_once ∙ new.0)) ∙ at (subst (Contains points) (sym new.1) h) ∙ ap Some new.1
+  at = λ v q e h. elim (push_cases positions p q v e) [
+    | inl old ↦ ap (slice_get points) (get_or_append_left numbers (n ∷ []) 0 v (omega (arith, slice_get_within positions v q old, so_far.each_once))) ∙ so_far.at v q old h
+    | inr new ↦ ap (slice_get points) (get_or_push numbers n 0 v (so_far.each_once ∙ sym new.0)) ∙ at (subst (Contains points) (sym new.1) h) ∙ ap Some new.1
   ];
 }
 

@@ -1,5 +1,5 @@
 -- A plane that three corners of a polygon give: what lies in it, and that all such planes have the same two sides.
-use Rattle.std.proofs.Common.{◌≡◌, ◌≢◌, ◌<◌, ◌⊎◌, zero, suc, ℤ, pos, negsuc, ◌+ℤ◌, ◌-ℤ◌, ◌*ℤ◌, ◌≤ℤ◌, ◌<ℤ◌, List, [], ◌∷◌, length, All, Contains, inl, inr, refl, ap, sym, ◌∙◌, arith, ⊎_elim}
+use Rattle.std.proofs.Common.{◌≡◌, ◌≢◌, ◌<◌, ◌⊎◌, zero, suc, ℤ, pos, negsuc, ◌+ℤ◌, ◌-ℤ◌, ◌*ℤ◌, ◌≤ℤ◌, ◌<ℤ◌, List, [], ◌∷◌, length, All, Contains, inl, inr, refl, ap, sym, subst, ◌∙◌, arith, ⊎_elim}
 use Rattle.std.proofs.lemmas.Int.{ints}
 use Rattle.std.proofs.lemmas.List.Elements.{All-contains, All-weaker}
 use Rattle.staat_vec.specs.declared.vector.V3.{V3}
@@ -17,7 +17,7 @@ use Rattle.staat_mesh.proofs.LineLemmas.{no_way}
 use Rattle.staat_vec.proofs.VectorLists.{one_of_two}
 use Rattle.staat_vec.proofs.Signs.{zero_sign, sign_positive, sign_negative}
 use Rattle.staat_vec.proofs.VectorLaws.{cross_twice, no_multiples, some_square, det_dot}
-use Rattle.staat_vec.proofs.Integers.{two_negatives, mixed_product}
+use Rattle.staat_vec.proofs.Integers.{cancel_positive, two_negatives, mixed_product}
 
 -- ---- sides as signs of products with the normal
 
@@ -107,12 +107,7 @@ some_product k x y e f g h = contra (k *ℤ k) x y e f g (ap (λ t. t *ℤ t) h)
 
 -- a product with a positive number has the other's sign
 positive_from : (s x z : ℤ) → pos 0 <ℤ s → s *ℤ x ≡ z → pos 0 <ℤ z → pos 0 <ℤ x
-positive_from s (pos zero) z hs e hz = absurd (omega (arith, ints))
-positive_from s (pos (suc n)) z hs e hz = omega (arith, ints)
-positive_from s (negsuc n) z hs e hz = let down : (s *ℤ negsuc n) <ℤ pos 0 = negative_mul s (negsuc n) hs (omega (arith, ints)) in absurd (clash (s *ℤ negsuc n) z e hz down)
-  where
-    clash : (t z : ℤ) → t ≡ z → pos 0 <ℤ z → t <ℤ pos 0 → ⊥
-    clash t z e h k = omega (arith, ints)
+positive_from s x z hs e hz = cancel_positive s x hs (subst (λ t. pos 0 <ℤ t) (sym e) hz)
 
 negative_from : (s x z : ℤ) → pos 0 <ℤ s → s *ℤ x ≡ z → z <ℤ pos 0 → x <ℤ pos 0
 negative_from s (pos n) z hs e hz = let up : pos 0 ≤ℤ (s *ℤ pos n) = nonneg_mul s (pos n) (positive_nonneg s hs) (omega (arith, ints)) in absurd (clash (s *ℤ pos n) z e hz up)

@@ -1,5 +1,5 @@
 -- Polygons, corner by corner, and the polygon of a face of a mesh.
-use Rattle.std.proofs.Common.{◌≡◌, ◌<◌, ◌+◌, ℕ, zero, suc, List, [], ◌∷◌, ◌++◌, length, map, take, get_or, Some, ap, sym, subst, ◌∙◌}
+use Rattle.std.proofs.Common.{◌≡◌, ◌<◌, ◌+◌, ℕ, List, [], ◌∷◌, ◌++◌, length, take, get_or, Some, ap, sym, subst, ◌∙◌}
 use Rattle.std.specs.Prelude.{All, slice_get, option_map}
 use Rattle.std.specs.List.{cons_option}
 use Rattle.std.proofs.lemmas.List.{length-map, take_more}
@@ -10,6 +10,7 @@ use Rattle.staat_model.proofs.Members.{All-from_members}
 use Rattle.staat_off.specs.declared.raw.Raw.{Raw}
 use Rattle.staat_mesh.specs.Polygons.{Polygon, mesh, polygon}
 use Rattle.staat_mesh.proofs.UsedPoints.{IsMapped, from_filter_map}
+use Rattle.staat_vec.proofs.ListLaws.{place_in_map}
 use Rattle.staat_vec.proofs.Unique.{from_place}
 
 pub polygon_more : (positions : List V3) (face : List ℕ) (i : ℕ) (d : V3) → i < length face → get_or face i 0 < length positions → polygon positions (take (i + 1) face) ≡ polygon positions (take i face) ++ get_or positions (get_or face i 0) d ∷ []
@@ -32,13 +33,7 @@ traced raw i shown corners positions face item faces e f g h j k lt =
 
 pub All-member : (P : V3 → Type 0) (raw : Raw) (i : ℕ) (shown : Polygon) → slice_get (mesh raw) i ≡ Some shown → All P raw.points → All P shown
 All-member P raw i shown e all =
-    let at : (face : List ℕ) × (polygon raw.points face ≡ shown) = member (polygon raw.points) raw.faces i shown e in
-    subst (All P) at.1 (All-polygon P raw.points at.0 all)
-  where
-    member : {X Y : Type 0} (f : X → Y) (xs : List X) (i : ℕ) (y : Y) → slice_get (map f xs) i ≡ Some y → (x : X) × (f x ≡ y)
-    member f [] i y e = absurd cc
-    member f (x ∷ xs) zero y e = (x, cc)
-    member f (x ∷ xs) (suc i) y e = member f xs i y e
+    let (face, _, same) = place_in_map (polygon raw.points) raw.faces i shown e in subst (All P) same (All-polygon P raw.points face all)
 
 -- ---- one more element of which something holds
 

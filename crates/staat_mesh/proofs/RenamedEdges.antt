@@ -41,10 +41,6 @@ flat_map-renamed g h f [] each = refl
 flat_map-renamed g h f (x ∷ xs) each =
     (λ i. each x (Contains-front x xs) i ++ flat_map-renamed g h f xs (λ y k. each y (Contains-later x xs y k)) i) ∙ sym (map-append f (h x) (flat_map h xs))
 
-pub flat_map-map : {A B Y : Type 0} (g : B → List Y) (h : A → B) (xs : List A) → flat_map g (map h xs) ≡ flat_map (λ x. g (h x)) xs
-flat_map-map g h [] = refl
-flat_map-map g h (x ∷ xs) = ap (λ ys. g (h x) ++ ys) (flat_map-map g h xs)
-
 -- ---- counts
 
 -- the names below a bound differ

@@ -4,6 +4,7 @@ use Rattle.std.specs.Prelude.{All, Contains, count_by, min, option_map, slice_ge
 use Rattle.std.specs.List.{flat_map}
 use Rattle.std.proofs.lemmas.Bool.{cases_lt}
 use Rattle.std.proofs.lemmas.List.{take-map}
+use Rattle.std.proofs.lemmas.List.Folds.{flat_map-map}
 use Rattle.std.proofs.lemmas.List.Elements.{All-contains, All-map, All-take}
 use Rattle.std.proofs.lemmas.Map.Keys.{IsDistinct-from_sorted, apart_from_distinct}
 use Rattle.std.proofs.lemmas.Option.{get_or_from_slice_get, slice_get-get_or, slice_get-map, slice_get_within}
@@ -19,7 +20,7 @@ use Rattle.staat_mesh.specs.Counts.{Counts, IsFirstUnpaired, IsPaired, Numbers, 
 use Rattle.staat_mesh.specs.Edges.{IsClosed, edge_count, edges, joins}
 use Rattle.staat_mesh.specs.Judging.{HasClosedEdges, IsFirstOpen}
 use Rattle.staat_mesh.specs.Polygons.{IsUsed, mesh, polygon}
-use Rattle.staat_mesh.proofs.RenamedEdges.{IsInjective, both, count_by-joins, edges-map, filter_map-all, flat_map-map, flat_map-renamed}
+use Rattle.staat_mesh.proofs.RenamedEdges.{IsInjective, both, count_by-joins, edges-map, filter_map-all, flat_map-renamed}
 use Rattle.staat_mesh.proofs.SameLemmas.{is_same-Decides}
 use Rattle.staat_mesh.proofs.UsedPoints.{to_used}
 use Rattle.staat_mesh.proofs.EdgeLemmas.{All-edges}

@@ -8,6 +8,7 @@ use Rattle.std.proofs.lemmas.Slice.Zip.{length-zip}
 use Rattle.staat_vec.specs.declared.vector.V3.{V3}
 use Rattle.staat_vec.specs.Lists.{Lists}
 use Rattle.staat_vec.specs.Vectors.{vector_cmp}
+use Rattle.staat_vec.proofs.ListLaws.{Contains-from_map, Contains-map}
 use Rattle.staat_vec.proofs.Unique.{Contains-cases, Contains-front, Contains-later, Contains-nothing}
 use Rattle.staat_off.specs.declared.raw.Raw.{Raw}
 use Rattle.staat_mesh.specs.MarkedVertices.{IsMarked, MarksCorners}
@@ -44,21 +45,6 @@ to_filter_map f (z ∷ xs) x y h e = elim (Contains-cases z xs x h) [
   | inr later ↦ cons_later (f z) (filter_map f xs) y (to_filter_map f xs x y later e)
 ]
 
--- ---- some member of a map
-
-pub from_map : {X Y : Type 0} (P : Y → Type 0) (f : X → Y) (xs : List X) → Any P (map f xs) → Any (λ x. P (f x)) xs
-from_map P f [] h = absurd (omega (arith, h.2))
-from_map P f (x ∷ xs) (zero, y, lt, e, p) = (zero, x, omega arith, refl, subst P (sym e) p)
-from_map P f (x ∷ xs) (suc k, y, lt, e, p) = let g : Any (λ z. P (f z)) xs = from_map P f xs (k, y, omega (arith, lt), e, p) in (suc g.0, g.1, omega (arith, g.2), g.3, g.4)
-
-pub to_map : {X Y : Type 0} (P : Y → Type 0) (f : X → Y) (xs : List X) → Any (λ x. P (f x)) xs → Any P (map f xs)
-to_map P f [] h = absurd (omega (arith, h.2))
-to_map P f (x ∷ xs) (zero, y, lt, e, p) = (zero, f x, omega arith, refl, subst (λ z. P (f z)) (sym e) p)
-to_map P f (x ∷ xs) (suc k, y, lt, e, p) = let g : Any P (map f xs) = to_map P f xs (k, y, omega (arith, lt), e, p) in (suc g.0, g.1, omega (arith, g.2), g.3, g.4)
-
-Any-weaker : {X : Type 0} (P Q : X → Type 0) → ((x : X) → P x → Q x) → (xs : List X) → Any P xs → Any Q xs
-Any-weaker P Q f xs h = (h.0, h.1, h.2, h.3, f h.1 h.4)
-
 -- ---- used positions
 
 -- a corner of some face is a vertex there
@@ -66,15 +52,15 @@ abbrev pub IsCorner : List V3 → List (List ℕ) → V3 → Type 0
 IsCorner positions faces p = (v : ℕ) × Any (λ face. Contains face v) faces × (slice_get positions v ≡ Some p)
 
 pub from_used : (raw : Raw) (p : V3) → IsUsed (mesh raw) p → IsCorner raw.points raw.faces p
-from_used raw p h =
-    let g : Any (λ face. Contains (polygon raw.points face) p) raw.faces = from_map (λ corners. Contains corners p) (polygon raw.points) raw.faces h in
-    let at : IsMapped (slice_get raw.points) g.1 p = from_filter_map (slice_get raw.points) g.1 p g.4 in
-    (at.0, (g.0, g.1, g.2, g.3, at.1), at.2)
+from_used raw p (f, corners, lt, same, corner) =
+    let face = Contains-from_map (polygon raw.points) raw.faces corners (f, lt, same) in
+    let at : IsMapped (slice_get raw.points) face.0 p = from_filter_map (slice_get raw.points) face.0 p (subst (λ cs. Contains cs p) (sym face.2) corner) in
+    (at.0, (face.1.0, face.0, face.1.1, face.1.2, at.1), at.2)
 
 pub to_used : (raw : Raw) (p : V3) → IsCorner raw.points raw.faces p → IsUsed (mesh raw) p
-to_used raw p (v, used, at) =
-    to_map (λ corners. Contains corners p) (polygon raw.points) raw.faces
-    (Any-weaker (λ face. Contains face v) (λ face. Contains (polygon raw.points face) p) (λ face h. to_filter_map (slice_get raw.points) face v p h at) raw.faces used)
+to_used raw p (v, (f, face, lt, same, corner), at) =
+    let there = Contains-map (polygon raw.points) raw.faces face (f, lt, same) in
+    (there.0, polygon raw.points face, there.1, there.2, to_filter_map (slice_get raw.points) face v p corner at)
 
 -- ---- marked positions
 

@@ -1,6 +1,6 @@
-use Rattle.std.proofs.Common.{take}
-use Rattle.staat_cone.proofs.ScanLemmas.{HasNoCandidate}
+use Rattle.std.proofs.Common.{All, take}
+use Rattle.staat_cone.specs.Scans.{IsApart}
 use Rattle.staat_cone.proofs.around.first_candidate.Given as goal
 
 abbrev pub invariant-loop-x : goal.invariant-loop-x
-invariant-loop-x l = HasNoCandidate (take l.x-index l.vs) l.v
+invariant-loop-x l = All (λ x. IsApart l.v x → ⊥) (take l.x-index l.vs)

@@ -1,13 +1,13 @@
-use Rattle.std.proofs.Common.{◌≡◌, refl, subst, sym, ◌∷◌, [], ◌++◌, List, All, Contains}
-use Rattle.std.proofs.lemmas.List.Elements.{All-contains, All-weaker, Contains-append_left, Contains-push}
+use Rattle.std.proofs.Common.{◌≡◌, refl, subst, sym, List, All}
+use Rattle.std.proofs.lemmas.List.Elements.{All-weaker}
 use Rattle.std.proofs.lemmas.Result.{err_from_is_err_and}
 use Rattle.staat_vec.specs.declared.vector.V3.{V3}
 use Rattle.staat_vec.specs.declared.vector.TheConstants.{DIFF}
 use Rattle.staat_vec.specs.Vectors.{IsWithin}
 use Rattle.staat_model.specs.Cones.{IsAbove}
-use Rattle.staat_cone.specs.Few.{IsCandidate, IsDifferenceStep}
+use Rattle.staat_cone.specs.Few.{IsDifferenceStep}
 use Rattle.staat_cone.proofs.PairLemmas.{refused}
-use Rattle.staat_cone.proofs.FewLemmas.{grown_dropped, grown_found, grown_violated}
+use Rattle.staat_cone.proofs.FewLemmas.{grown_dropped, grown_found, last, ready_violated}
 use Rattle.staat_cone.proofs.few.settle.Goals as goal
 
 pub returns-then-not-is_above-clause-grown : goal.returns-then-not-is_above-clause-grown
@@ -19,22 +19,13 @@ returns-then-not-is_above-clause-grown c =
 pub returns-in_ok-insert-in-Some-clause-grown : goal.returns-in_ok-insert-in-Some-clause-grown
 returns-in_ok-insert-in-Some-clause-grown c =
     let few = c.args.few.now in
-    let new = c.insert.new.self in
-    let h = c.in_ok-insert-in-Some.ensures in
-    grown_violated c.args.p.now c.args.q.now few.members.items few.untested.items few.found.items c.args.n c.requires new.members.items new.untested.items new.found.items c.in-Some.v c.in-Some.ensures.some h.members h.untested h.found
-
-pub returns-in_ok-insert-in-Some-clause-kept : goal.returns-in_ok-insert-in-Some-clause-kept
-returns-in_ok-insert-in-Some-clause-kept c v h =
-    subst (λ vs. Contains vs v) (sym c.in_ok-insert-in-Some.ensures.members) (Contains-append_left c.args.few.now.members.items (c.in-Some.v ∷ []) v h)
+    c.in_ok-insert-in-Some.ensures.grown c.args.p.now c.args.q.now
+    (ready_violated c.args.p.now c.args.q.now few.members.items few.untested.items few.found.items c.args.n c.requires c.in-Some.v c.in-Some.ensures.some)
 
 pub returns-in_ok-push-in-None-clause-grown : goal.returns-in_ok-push-in-None-clause-grown
 returns-in_ok-push-in-None-clause-grown c =
     let few = c.args.few.now in
     grown_found c.args.p.now c.args.q.now few.members.items few.untested.items few.found.items c.args.n c.requires c.push.new.self.items c.primitive_normal.result c.in-None.ensures.none c.primitive_normal.ensures c.in_ok-push-in-None.ensures.items
-
--- what is asked of a list that grew, and of the vector that is tested
-candidate : (p q untested : List V3) (n : V3) → All (IsCandidate p q) (untested ++ n ∷ []) → IsCandidate p q n
-candidate p q untested n h = All-contains (IsCandidate p q) (untested ++ n ∷ []) n h (Contains-push untested n)
 
 members_within : (p q few vs : List V3) → vs ≡ few → All (IsDifferenceStep p q) few → All (IsWithin DIFF) vs
 members_within p q few vs e h =
@@ -42,7 +33,7 @@ members_within p q few vs e h =
 
 pub is_above-requires-clause-normal : goal.is_above-requires-clause-normal
 is_above-requires-clause-normal c =
-    (candidate c.args.p.now c.args.q.now c.args.few.now.untested.items c.args.n c.requires.untested_are).within
+    (last _ _ _ c.args.few.now.untested.items _ c.args.n c.requires).within
 
 pub is_above-requires-clause-vectors : goal.is_above-requires-clause-vectors
 is_above-requires-clause-vectors c =
@@ -50,7 +41,7 @@ is_above-requires-clause-vectors c =
 
 pub violator-requires : goal.violator-requires
 violator-requires c = record {
-  normal = (candidate c.args.p.now c.args.q.now c.args.few.now.untested.items c.args.n c.requires.untested_are).within;
+  normal = (last _ _ _ c.args.few.now.untested.items _ c.args.n c.requires).within;
 }
 
 pub insert-requires-clause-members : goal.insert-requires-clause-members
@@ -60,23 +51,18 @@ insert-requires-clause-members c =
 pub insert-requires-clause-vector : goal.insert-requires-clause-vector
 insert-requires-clause-vector c = c.in-Some.ensures.some.step.within
 
-pub returns-in_err-insert-in-Some-clause-grown : goal.returns-in_err-insert-in-Some-clause-grown
-returns-in_err-insert-in-Some-clause-grown c =
+pub returns-in_err-insert-in-Some : goal.returns-in_err-insert-in-Some
+returns-in_err-insert-in-Some c =
     let p = err_from_is_err_and c.from_residual.result c.from_residual.ensures.1 in
-    rw p.1 tt
-
-pub returns-in_err-insert-in-Some-clause-kept : goal.returns-in_err-insert-in-Some-clause-kept
-returns-in_err-insert-in-Some-clause-kept c =
-    let p = err_from_is_err_and c.from_residual.result c.from_residual.ensures.1 in
-    rw p.1 tt
+    rw p.1 (record { grown = tt; kept = tt })
 
 pub primitive_normal-requires-clause-some : goal.primitive_normal-requires-clause-some
 primitive_normal-requires-clause-some c =
-    (candidate c.args.p.now c.args.q.now c.args.few.now.untested.items c.args.n c.requires.untested_are).some
+    (last _ _ _ c.args.few.now.untested.items _ c.args.n c.requires).some
 
 pub primitive_normal-requires-clause-normal : goal.primitive_normal-requires-clause-normal
 primitive_normal-requires-clause-normal c =
-    (candidate c.args.p.now c.args.q.now c.args.few.now.untested.items c.args.n c.requires.untested_are).within
+    (last _ _ _ c.args.few.now.untested.items _ c.args.n c.requires).within
 
 pub returns-in_err-push-in-None-clause-grown : goal.returns-in_err-push-in-None-clause-grown
 returns-in_err-push-in-None-clause-grown c =

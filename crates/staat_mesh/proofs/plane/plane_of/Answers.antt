@@ -1,4 +1,4 @@
-use Rattle.std.proofs.Common.{◌≡◌, ◌∙◌, ◌<◌, ◌≤◌, List, Option, None, MatchOption, ap, length, sym, subst, arith}
+use Rattle.std.proofs.Common.{◌∙◌, ◌<◌, ◌≤◌, List, ap, length, sym, arith}
 use Rattle.std.proofs.lemmas.List.Elements.{All-contains}
 use Rattle.staat_vec.specs.declared.vector.TheConstants.{POINT}
 use Rattle.staat_vec.specs.declared.vector.V3.{V3}
@@ -8,32 +8,19 @@ use Rattle.staat_mesh.specs.Sides.{OnLine}
 use Rattle.staat_mesh.proofs.LineLemmas.{on_line_at, on_line_through}
 use Rattle.staat_mesh.proofs.plane.plane_of.Goals as goal
 
-nothing : {X : Type 0} (r : Option X) (A : Type 0) (B : X → Type 0) → r ≡ None → A → MatchOption r A B
-nothing r A B e a = subst (λ o. MatchOption o A B) (sym e) a
+no_points : (points : List V3) → length points ≤ 0 → OnLine points
+no_points points h a b c a_in b_in c_in = let lt : a_in.0 < length points = a_in.1 in absurd (omega arith)
 
-pub returns-in_err-second-clause-plane : goal.returns-in_err-second-clause-plane
-returns-in_err-second-clause-plane c = nothing _ _ _ c.from_residual-in_err-second.ensures (on_line_at _ _ c.in_err-second.ensures)
+pub returns-in_err-first : goal.returns-in_err-first
+returns-in_err-first c = rw c.from_residual.ensures (record { plane = no_points c.args.points.now c.in_err-first.ensures.item.3; through = tt; size = tt })
 
-pub returns-in_err-normal-clause-plane : goal.returns-in_err-normal-clause-plane
-returns-in_err-normal-clause-plane c = nothing _ _ _ c.from_residual-in_err-normal.ensures (on_line_through _ _ _ (apart _ _ _ c.sub.ensures.value c.in_ok-second.ensures.1) c.in_err-normal.ensures.line)
+pub returns-in_err-second : goal.returns-in_err-second
+returns-in_err-second c = rw c.from_residual-in_err-second.ensures (record { plane = on_line_at _ _ c.in_err-second.ensures; through = tt; size = tt })
 
-pub returns-in_err-first-clause-through : goal.returns-in_err-first-clause-through
-returns-in_err-first-clause-through c = rw c.from_residual.ensures tt
-
-pub returns-in_err-first-clause-size : goal.returns-in_err-first-clause-size
-returns-in_err-first-clause-size c = rw c.from_residual.ensures tt
-
-pub returns-in_err-second-clause-through : goal.returns-in_err-second-clause-through
-returns-in_err-second-clause-through c = rw c.from_residual-in_err-second.ensures tt
-
-pub returns-in_err-second-clause-size : goal.returns-in_err-second-clause-size
-returns-in_err-second-clause-size c = rw c.from_residual-in_err-second.ensures tt
-
-pub returns-in_err-normal-clause-through : goal.returns-in_err-normal-clause-through
-returns-in_err-normal-clause-through c = rw c.from_residual-in_err-normal.ensures tt
-
-pub returns-in_err-normal-clause-size : goal.returns-in_err-normal-clause-size
-returns-in_err-normal-clause-size c = rw c.from_residual-in_err-normal.ensures tt
+pub returns-in_err-normal : goal.returns-in_err-normal
+returns-in_err-normal c =
+    rw c.from_residual-in_err-normal.ensures
+    (record { plane = on_line_through _ _ _ (apart _ _ _ c.sub.ensures.value c.in_ok-second.ensures.1) c.in_err-normal.ensures.line; through = tt; size = tt })
 
 pub sub-requires-clause-a : goal.sub-requires-clause-a
 sub-requires-clause-a c = All-contains (IsWithin POINT) c.args.points.now c.in_ok-second.second c.requires c.in_ok-second.ensures.0
@@ -61,12 +48,6 @@ pub normal_off_line-requires-clause-a : goal.normal_off_line-requires-clause-a
 normal_off_line-requires-clause-a c =
     let first = c.in_ok-first.ensures.item.3 in
     rw (first.1 origin) (c.requires 0 origin first.0)
-
-no_points : (points : List V3) → length points ≤ 0 → OnLine points
-no_points points h a b c a_in b_in c_in = let lt : a_in.0 < length points = a_in.1 in absurd (omega arith)
-
-pub returns-in_err-first-clause-plane : goal.returns-in_err-first-clause-plane
-returns-in_err-first-clause-plane c = nothing _ _ _ c.from_residual.ensures (no_points c.args.points.now c.in_err-first.ensures.item.3)
 
 pub returns-clause-plane : goal.returns-clause-plane
 returns-clause-plane c =

@@ -36,15 +36,10 @@ mark-requires c =
     within_marks c.args.faces.now c.args.vertices c.loop-face.face-index c.as_slice.result.now c.as_mut_slice.result.now c.requires c.loop-face-test.true
     face (ap length c.as_mut_slice.ensures.value ∙ c.loop-face.invariant.number)
 
-pub returns-in_err-marks-clause-number : goal.returns-in_err-marks-clause-number
-returns-in_err-marks-clause-number c =
+pub returns-in_err-marks : goal.returns-in_err-marks
+returns-in_err-marks c =
     let p = err_from_is_err_and c.from_residual.result c.from_residual.ensures.1 in
-    rw p.1 tt
-
-pub returns-in_err-marks-clause-corners : goal.returns-in_err-marks-clause-corners
-returns-in_err-marks-clause-corners c =
-    let p = err_from_is_err_and c.from_residual.result c.from_residual.ensures.1 in
-    rw p.1 tt
+    rw p.1 (record { number = tt; corners = tt })
 
 pub returns-clause-number : goal.returns-clause-number
 returns-clause-number c = c.loop-face.invariant.number
