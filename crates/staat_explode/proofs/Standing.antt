@@ -14,7 +14,7 @@ use Rattle.staat_explode.specs.declared.axis.Axis.{Axis}
 use Rattle.staat_explode.specs.declared.axis.Axis.TheVariants.{X, Y, Z}
 use Rattle.staat_explode.specs.declared.boxes.Bounds.{Bounds}
 use Rattle.staat_explode.specs.declared.shifted.Shifted.{Shifted}
-use Rattle.staat_explode.specs.Apart.{AreParted, IsIn, moved_box}
+use Rattle.staat_explode.specs.Apart.{AreParted, moved_box}
 use Rattle.staat_explode.specs.Boxes.{IsBoxOf, box_of, by_component, component, greatest, least}
 use Rattle.staat_explode.specs.Shifts.{ArePast, axis_of, box_at, high_along, highest, low_along, lowest, moved_on}
 use Rattle.staat_explode.specs.Shifts.{shifted_of, steps_apart}
@@ -132,11 +132,6 @@ pub parted_boxes : (boxes : List Bounds) (x y : Shifted) → Parted boxes x y
 parted_boxes boxes x y (X, h) = (X, h)
 parted_boxes boxes x y (Y, h) = (Y, h)
 parted_boxes boxes x y (Z, h) = (Z, h)
-
--- parted boxes have no point in common
-pub no_common : (a b : Bounds) (x : V3) → AreParted a b → IsIn a x → IsIn b x → ⊥
-no_common a b x (axis, inl h) p q = let u = p axis in let v = q axis in absurd (omega (arith, ints, u.1, v.0))
-no_common a b x (axis, inr h) p q = let u = p axis in let v = q axis in absurd (omega (arith, ints, u.0, v.1))
 
 -- ---- the box of points
 

@@ -15,11 +15,10 @@ use Rattle.std.proofs.lemmas.Str.Parse.{digit_at}
 use Rattle.std.proofs.Math.Seq.{take-append_seam, drop-append_seam}
 use Rattle.staat_vec.specs.declared.vector.TheConstants.{POINT}
 use Rattle.staat_off.specs.declared.refusal.OffRefusal.{OffRefusal}
-use Rattle.staat_off.specs.declared.refusal.OffRefusal.TheVariants.{BadNumber, NotWhole, TooBig, NoHeader, BadCount}
-use Rattle.staat_off.specs.declared.refusal.OffRefusal.TheVariants.{BadIndex, ShortFile, Trailing, OutOfMemory}
+use Rattle.staat_off.specs.declared.refusal.OffRefusal.TheVariants.{NotWhole, TooBig}
 use Rattle.staat_off.specs.Coordinates.{coordinate_of}
 use Rattle.staat_off.specs.Numerals.{Numeral}
-use Rattle.staat_off.specs.Spelling.{Spells}
+use Rattle.staat_off.specs.Spelling.{IsSign, Spells}
 use Rattle.staat_off.specs.Values.{IsValueOf, IsMagnitude, signed}
 use Rattle.staat_off.specs.Scan.{gap, next_word, word_in_front}
 use Rattle.staat_off.specs.Words.{is_plain}
@@ -81,51 +80,34 @@ short : (n : ℕ) → n ≤ POINT → (n < 10 ^ 64) × (length (decimal n) ≤ 7
 short n small =
     let wide : n < 10 ^ 64 = omega arith in (wide, length-decimal-le_wide 7 n (omega arith) (omega arith) wide)
 
-spelled_up : (n : ℕ) → n ≤ POINT → Spells (decimal n) (numeral false n)
-spelled_up n small =
-    let s = short n small in
-    let some = decimal_some n s.0 in
-    record {
-      sign = [];
-      point = [];
-      power = [];
-      digits = record {
-        whole =
-            digits_tested (decimal n) (decimal_digits n s.0);
-        fraction =
-            refl;
-        exponent = refl;
-        short = omega (arith, s.1);
-      };
-      is_sign = inr (refl, inr refl);
-      is_point = inl (refl, refl, some);
-      is_power = inl (refl, refl, refl);
-      whole = sym (append-nil (decimal n));
-      short = omega (arith, s.1);
-    }
+abbrev sign_text : Bool → List ℕ
+sign_text true = codes "-"
+sign_text false = []
 
-spelled_down : (n : ℕ) → n ≤ POINT → Spells (codes "-" ++ decimal n) (numeral true n)
-spelled_down n small =
+number_spells : (b : Bool) (n : ℕ) → n ≤ POINT → IsSign b (sign_text b) → Spells (sign_text b ++ decimal n) (numeral b n)
+number_spells b n small sign =
     let s = short n small in
     let some = decimal_some n s.0 in
     record {
-      sign = codes "-";
+      sign = sign_text b;
       point = [];
       power = [];
       digits = record {
-        whole =
-            digits_tested (decimal n) (decimal_digits n s.0);
-        fraction =
-            refl;
+        whole = digits_tested (decimal n) (decimal_digits n s.0);
+        fraction = refl;
         exponent = refl;
         short = omega (arith, s.1);
       };
-      is_sign = inl (refl, refl);
+      is_sign = sign;
       is_point = inl (refl, refl, some);
       is_power = inl (refl, refl, refl);
-      whole = ap (λ l. codes "-" ++ l) (sym (append-nil (decimal n)));
-      short = omega (arith, s.1);
+      whole = ap (λ l. sign_text b ++ l) (sym (append-nil (decimal n)));
+      short = fits b;
     }
+  where
+    fits : (t : Bool) → length (sign_text t ++ decimal n) ≤ 64
+    fits true = let s = short n small in omega (arith, s.1)
+    fits false = let s = short n small in omega (arith, s.1)
 
 magnitude : (b : Bool) (n v : ℕ) → n < 10 ^ 64 → IsMagnitude (numeral b n) 0 v → v ≡ n
 unfolding IsMagnitude
@@ -144,28 +126,14 @@ decided b n at (Ok z) small h =
 decided b n at (Err (NotWhole place)) small h = absurd (h.1 n (is_magnitude b n (omega arith)))
 decided b n at (Err (TooBig place)) small h =
     let wide : n < 10 ^ 64 = omega arith in let same = magnitude b n h.1.0 wide h.1.1 in absurd (omega (arith, h.1.2))
-decided b n at (Err (BadNumber place)) small h = absurd h
-decided b n at (Err NoHeader) small h = absurd h
-decided b n at (Err (BadCount place)) small h = absurd h
-decided b n at (Err (BadIndex place)) small h = absurd h
-decided b n at (Err ShortFile) small h = absurd h
-decided b n at (Err (Trailing place)) small h = absurd h
-decided b n at (Err OutOfMemory) small h = absurd h
+decided b n at (Err other) small h = absurd h
 
 pub coordinate_read : (z : ℤ) (at : ℕ) → unsigned_abs z ≤ POINT
     → coordinate_of 0 (record { text = signed_decimal z; at = at }) ≡ Ok z
 coordinate_read (pos n) at small =
-    decided false n at _ small (spelled_decides 0 (record {
-      text =
-          decimal n;
-      at = at;
-    }) (numeral false n) (spelled_up n small))
+    decided false n at _ small (spelled_decides 0 (record { text = decimal n; at = at }) (numeral false n) (number_spells false n small (inr (refl, inr refl))))
 coordinate_read (negsuc n) at small =
-    decided true (suc n) at _ small (spelled_decides 0 (record {
-      text =
-          codes "-" ++ decimal (suc n);
-      at = at;
-    }) (numeral true (suc n)) (spelled_down (suc n) small))
+    decided true (suc n) at _ small (spelled_decides 0 (record { text = codes "-" ++ decimal (suc n); at = at }) (numeral true (suc n)) (number_spells true (suc n) small (inl (refl, refl))))
 
 -- ---- the next word
 
