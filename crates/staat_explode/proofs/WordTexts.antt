@@ -150,7 +150,7 @@ prefix_all p (b ∷ w) s all none = go (p b) all (prefix_all p w s)
 
 -- a blank is passed over
 pub word_behind_blank : (b : ℕ) (t : List ℕ) (at : ℕ) → is_plain b ≡ false → (b == 35) ≡ false
-    → next_word (record { bytes = b ∷ t; at = at }) ≡ next_word (record { bytes = t; at = suc at })
+    → next_word (record { bytes = b ∷ t; at = at }) ≡ next_word (record { bytes = t; at = at + 1 })
 unfolding next_word gap
 word_behind_blank b t at blank other =
     let n = gap false t in
@@ -158,7 +158,7 @@ word_behind_blank b t at blank other =
     ap (λ (x : Bool). if x then 0 else gap (b == 35) t + 1) blank ∙ ap (λ (x : Bool). gap x t + 1) other in
     let bytes : drop (gap false t + 1) (b ∷ t) ≡ drop (gap false t) t =
     ap (λ (k : ℕ). drop k (b ∷ t)) (add-one (gap false t)) in
-    let place : at + (gap false t + 1) ≡ suc at + gap false t = omega arith in
+    let place : at + (gap false t + 1) ≡ at + 1 + gap false t = omega arith in
     ap (λ (k : ℕ). word_in_front (record { bytes = drop k (b ∷ t); at = at + k })) one
     ∙ (λ i. word_in_front (record { bytes = bytes i; at = place i }))
 
