@@ -2,7 +2,7 @@
 use Rattle.std.proofs.Common.{◌≡◌, ℕ, suc, ◌+◌, ◌^◌, ◌<◌, ◌≤◌, Bool, true, false, List, []}
 use Rattle.std.proofs.Common.{◌∷◌, ◌++◌, take, drop, length, ap, sym, refl, ◌∙◌, arith, add-one}
 use Rattle.std.proofs.Common.{decimal, ℤ, pos, negsuc, unsigned_abs, inl, inr, Some, None, Result, Ok, Err}
-use Rattle.std.proofs.Common.{append-nil}
+use Rattle.std.proofs.Common.{append-nil, Option}
 use Rattle.std.specs.Prelude.{◌==◌, ◌||◌, ◌&&◌, not, nat_le, codes, if◌then◌else◌}
 use Rattle.std.specs.Char.{is_ascii_digit}
 use Rattle.std.specs.List.{list_all, prefix_len}
@@ -20,8 +20,8 @@ use Rattle.staat_off.specs.Coordinates.{coordinate_of}
 use Rattle.staat_off.specs.Numerals.{Numeral}
 use Rattle.staat_off.specs.Spelling.{IsSign, Spells}
 use Rattle.staat_off.specs.Values.{IsValueOf, IsMagnitude, signed}
-use Rattle.staat_off.specs.Scan.{gap, next_word, word_in_front}
-use Rattle.staat_off.specs.Words.{is_plain}
+use Rattle.staat_off.specs.Scan.{Rest, gap, next_word, word_in_front}
+use Rattle.staat_off.specs.Words.{Word, is_plain}
 use Rattle.staat_off.proofs.Decisions.{spelled_decides}
 use Rattle.staat_vec.proofs.Decimals.{decimal_value}
 
@@ -177,50 +177,22 @@ pub word_front : (w s : List ℕ) (at : ℕ) → list_all is_plain w ≡ true �
     ≡ (Some (record { text = w; at = at }), record { bytes = s; at = at + length w })
 unfolding next_word
 word_front w s at all some none =
-    let n : prefix_len is_plain (w ++ s) ≡ length w = prefix_all is_plain w s all none in
-    let far : (length w == 0) ≡ false = not_zero (length w) some in
     let here : at + 0 ≡ at = omega arith in
     ap (λ (k : ℕ). word_in_front (record { bytes = drop k (w ++ s); at = at + k })) (no_gap w s all some)
     ∙ ap (λ (k : ℕ). word_in_front (record { bytes = w ++ s; at = k })) here
-    ∙ (λ i. if n i == 0 then (
-      None,
-      record {
-        bytes = w ++ s;
-        at =
-            at;
-      },
-    ) else (
-      Some (record { text = take (n i) (w ++ s); at = at }),
-      record {
-        bytes =
-            drop (n i) (w ++ s);
-        at = at + n i;
-      },
-    ))
-    ∙ ap (λ (x : Bool). if x then (
-      None,
-      record {
-        bytes = w ++ s;
-        at =
-            at;
-      },
-    ) else (
-      Some (record { text = take (length w) (w ++ s); at = at }),
-      record {
-        bytes =
-            drop (length w) (w ++ s);
-        at = at + length w;
-      },
-    )) far
-    ∙ (λ i. (
-      Some (record { text = take-append_seam w s i; at = at }),
-      record {
-        bytes =
-            drop-append_seam w s i;
-        at = at + length w;
-      },
-    ))
+    ∙ ap (front (w ++ s)) (prefix_all is_plain w s all none)
+    ∙ ap (λ (x : Bool). if x then nothing_found (w ++ s) else found (w ++ s) (length w)) (not_zero (length w) some)
+    ∙ (λ i. (Some (record { text = take-append_seam w s i; at = at }), record { bytes = drop-append_seam w s i; at = at + length w }))
   where
+    nothing_found : List ℕ → Option Word × Rest
+    nothing_found bs = (None, record { bytes = bs; at = at })
+
+    found : List ℕ → ℕ → Option Word × Rest
+    found bs n = (Some (record { text = take n bs; at = at }), record { bytes = drop n bs; at = at + n })
+
+    front : List ℕ → ℕ → Option Word × Rest
+    front bs n = if n == 0 then nothing_found bs else found bs n
+
     not_zero : (k : ℕ) → 0 < k → (k == 0) ≡ false
     not_zero k h = grind (arith, nat_tests)
 
