@@ -14,6 +14,7 @@ use Rattle.staat_model.specs.Assemblies.{piece_at, piece_count}
 use Rattle.std.specs.Int.{w128}
 use Rattle.std.proofs.lemmas.Int.{to_z-of_z, clamps, ints}
 use Rattle.std.proofs.lemmas.Grind.{flat_map-append}
+use Rattle.std.proofs.lemmas.List.Folds.{fold-map}
 use Rattle.std.proofs.lemmas.List.Sums.{fold-append}
 use Rattle.staat_vec.specs.declared.vector.V3.{V3}
 use Rattle.staat_vec.specs.declared.vector.TheConstants.{POINT}
@@ -32,11 +33,6 @@ same_either : {A : Type 0} (b : Bool) (x : A) → cond b x x ≡ x
 same_either true x = refl
 same_either false x = refl
 
-fold_map : {A B C : Type 0} (f : C → B → C) (g : A → B) (a : C) (xs : List A) → fold (λ c x. f c (g x)) a xs
-    ≡ fold f a (map g xs)
-fold_map f g a [] = refl
-fold_map f g a (x ∷ xs) = fold_map f g (f a (g x)) xs
-
 abbrev pub lower : List Bounds → Axis → ℤ → Shifted → ℤ
 lower boxes axis z p = int_min z (low_along boxes axis p)
 
@@ -49,7 +45,7 @@ unfolding lowest
 lowest_is boxes axis [] d h = absurd (omega arith)
 lowest_is boxes axis (p ∷ ps) d h =
     let z = low_along boxes axis p in
-    ap (λ a. fold (lower boxes axis) a ps) (same_either (int_lt z z) z) ∙ fold_map int_min (low_along boxes axis) z ps
+    ap (λ a. fold (lower boxes axis) a ps) (same_either (int_lt z z) z) ∙ sym (fold-map int_min (low_along boxes axis) z ps)
 
 pub highest_is : (boxes : List Bounds) (axis : Axis) (ps : List Shifted) (d : Shifted) → 1 ≤ length ps
     → fold (higher boxes axis) (high_along boxes axis (get_or ps 0 d)) ps ≡ highest boxes axis ps
@@ -57,7 +53,7 @@ unfolding highest
 highest_is boxes axis [] d h = absurd (omega arith)
 highest_is boxes axis (p ∷ ps) d h =
     let z = high_along boxes axis p in
-    ap (λ a. fold (higher boxes axis) a ps) (same_either (int_lt z z) z) ∙ fold_map int_max (high_along boxes axis) z ps
+    ap (λ a. fold (higher boxes axis) a ps) (same_either (int_lt z z) z) ∙ sym (fold-map int_max (high_along boxes axis) z ps)
 
 -- the box that covers a box and points, by its numbers
 covered : (b : Bounds) (ps : List V3) → fold covering b ps ≡ record {
