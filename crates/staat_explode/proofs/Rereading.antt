@@ -127,7 +127,8 @@ corner_count_gets : (g : List ℕ) (n : ℕ) (s : List ℕ) → IsPassed g → 1
     → Gets corner_count (g ++ (decimal n ++ s)) n s
 unfolding corner_count
 corner_count_gets g n s passed some small parted =
-    accepted_gets corner_count (λ n. nat_le 1 n && nat_le n MOST_COUNT) (λ w. BadCount w.at) g n s passed small parted (and_from (nat_le 1 n) (nat_le n MOST_COUNT) (le_test 1 n some) (le_test n MOST_COUNT small)) (λ at. refl)
+    accepted_gets corner_count (λ n. nat_le 1 n && nat_le n MOST_COUNT) (λ w. BadCount w.at) g n s passed small parted
+    (and_from (nat_le 1 n) (nat_le n MOST_COUNT) (le_test 1 n some) (le_test n MOST_COUNT small)) (λ at. refl)
 
 index_gets : (vertices : ℕ) (g : List ℕ) (n : ℕ) (s : List ℕ) → IsPassed g → n < vertices → vertices ≤ MOST_COUNT
     → IsParted s → Gets (index vertices) (g ++ (decimal n ++ s)) n s

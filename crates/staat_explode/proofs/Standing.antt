@@ -98,7 +98,10 @@ pub all_apart : (boxes : List Bounds) (n : ℕ) (plan : Plan) → IsShiftable n 
     → Contains (shifted_of boxes plan) x → Contains (shifted_of boxes plan) y → x.part ≢ y.part
     → Parted boxes x y
 all_apart boxes n (leaf p) h x y hx hy differ =
-    absurd (elim (Contains-cases _ [] x hx) [ inl e ↦ elim (Contains-cases _ [] y hy) [ inl f ↦ differ (ap (λ (q : Shifted). q.part) (e ∙ sym f)) | inr k ↦ Contains-nothing y k ] | inr k ↦ Contains-nothing x k ])
+    absurd (elim (Contains-cases _ [] x hx) [
+      | inl e ↦ elim (Contains-cases _ [] y hy) [ inl f ↦ differ (ap (λ (q : Shifted). q.part) (e ∙ sym f)) | inr k ↦ Contains-nothing y k ]
+      | inr k ↦ Contains-nothing x k
+    ])
 all_apart boxes n (split d moved rest) h x y hx hy differ =
     let m = steps_apart boxes d (shifted_of boxes moved) (shifted_of boxes rest) in
     let beyond = past boxes d (shifted_of boxes moved) (shifted_of boxes rest) h.0 in

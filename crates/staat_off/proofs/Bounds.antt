@@ -60,7 +60,8 @@ module _ (S : Rest → Type 0) (N : OffRefusal → Type 0) (W : Word → Type 0)
   abbrev Keeps : {A : Type 0} → (A → Type 0) → Reader A → Type 0
   Keeps P reader = Leads S P reader
 
-  then : {A B : Type 0} (T : Rest → Type 0) (P : A → Type 0) (Q : B → Type 0) (reader : Reader A) (next : A → Reader B) → Keeps P reader → ((x : A) → P x → Leads T Q (next x)) → Leads T Q (reader >>= next)
+  then : {A B : Type 0} (T : Rest → Type 0) (P : A → Type 0) (Q : B → Type 0) (reader : Reader A) (next : A → Reader B)
+      → Keeps P reader → ((x : A) → P x → Leads T Q (next x)) → Leads T Q (reader >>= next)
   then {A = A} T P Q reader next h each rest s = go (reader rest) (h rest s)
     where
       go : (r : Result (A × Rest) OffRefusal) → Kept S N P r → Kept T N Q (resumed r next)
@@ -87,7 +88,8 @@ module _ (S : Rest → Type 0) (N : OffRefusal → Type 0) (W : Word → Type 0)
   unfolding corner_count
   corner_count_keeps =
       then S W _ word _ scans.finds
-      (λ w is. accepted_keeps (λ n. nat_le 1 n && nat_le n MOST_COUNT) _ (λ n e. let both = and_split (nat_le 1 n) (nat_le n MOST_COUNT) e in (leb-true 1 n both.0, leb-true n MOST_COUNT both.1)) (short_number w.text) _ (scans.bad_count w is))
+      (λ w is. accepted_keeps (λ n. nat_le 1 n && nat_le n MOST_COUNT) _
+      (λ n e. let both = and_split (nat_le 1 n) (nat_le n MOST_COUNT) e in (leb-true 1 n both.0, leb-true n MOST_COUNT both.1)) (short_number w.text) _ (scans.bad_count w is))
 
   index_keeps : (vertices : ℕ) → Keeps (λ n. n < vertices) (index vertices)
   unfolding index
@@ -167,7 +169,8 @@ module _ (S : Rest → Type 0) (N : OffRefusal → Type 0) (W : Word → Type 0)
       last (Ok read) k is = (is, tt)
       last (Err e) k is = k
 
-      bounded : (v f : ℕ) → v ≤ MOST_COUNT → f ≤ MOST_COUNT → (ps : List V3) → All (IsWithin POINT) ps × (length ps ≡ v) → (fs : List (List ℕ)) → All (IsFace v) fs × (length fs ≡ f) → IsBounded (record { points = ps; faces = fs })
+      bounded : (v f : ℕ) → v ≤ MOST_COUNT → f ≤ MOST_COUNT → (ps : List V3) → All (IsWithin POINT) ps × (length ps ≡ v)
+          → (fs : List (List ℕ)) → All (IsFace v) fs × (length fs ≡ f) → IsBounded (record { points = ps; faces = fs })
       bounded v f few_v few_f ps points fs faces = record {
         indexed = record {
           within = points.0;

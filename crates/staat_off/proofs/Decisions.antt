@@ -9,7 +9,7 @@ use Rattle.staat_off.specs.declared.coordinate.TheConstants.{FAR, TOO_MANY}
 use Rattle.staat_off.specs.declared.trim.TheConstants.{BEYOND}
 use Rattle.staat_limits.specs.declared.limits.TheConstants.{MOST_DIGITS}
 use Rattle.staat_off.specs.declared.refusal.OffRefusal.{OffRefusal}
-use Rattle.staat_off.specs.declared.refusal.OffRefusal.TheVariants.{BadCount, BadIndex, BadNumber, NoHeader, NotWhole, OutOfMemory, ShortFile, TooBig, Trailing}
+use Rattle.staat_off.specs.declared.refusal.OffRefusal.TheVariants.{BadNumber, NotWhole, TooBig}
 use Rattle.staat_off.specs.Coordinates.{coordinate_of, decision_of, denominator, numerator, quotient_of, within_limit}
 use Rattle.staat_off.specs.Numerals.{Numeral, numeral_of}
 use Rattle.staat_off.specs.Spelling.{Spells}

@@ -32,7 +32,8 @@ returns c =
     let ok = c.in_ok-placed.ensures in
     let items = c.as_slice.ensures.value in
     let boxes = length (boxes_of c.assembly-assembly.result.now) in
-    let placed : c.as_slice.result.now ≡ shifted_of (boxes_of c.args.sound.now) (plan_of c.args.tree.now) = items ∙ ok.0 ∙ ap (λ (a : List Part). shifted_of (boxes_of a) (plan_of c.args.tree.now)) same in
+    let placed : c.as_slice.result.now ≡ shifted_of (boxes_of c.args.sound.now) (plan_of c.args.tree.now) =
+    items ∙ ok.0 ∙ ap (λ (a : List Part). shifted_of (boxes_of a) (plan_of c.args.tree.now)) same in
     let count : c.parts-parts.result ≡ length c.args.sound.now = c.parts-parts.ensures.count ∙ ap length same in
     let found = c.from_vec.ensures ∙ c.in_ok-shifts.ensures in
     let value : c.from_vec.result ≡ shifts_of c.args.sound.now (plan_of c.args.tree.now) = found ∙ (λ i. map (vector_of_part (placed i)) (range_with_len 0 (count i))) in
