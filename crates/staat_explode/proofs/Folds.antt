@@ -1,11 +1,11 @@
 -- The least and the greatest of numbers, found from the first on.
-use Rattle.std.proofs.Common.{◌≡◌, ℕ, ◌+◌, ◌<◌, ◌≤◌, ◌+ℤ◌, ◌-ℤ◌, pos, subst}
+use Rattle.std.proofs.Common.{◌≡◌, ℕ, ◌+◌, ◌<◌, ◌≤◌, subst}
 use Rattle.std.proofs.Common.{append-nil, Option, Some, None, FitsSigned, to_z, of_z, List, [], ◌∷◌, ◌++◌}
 use Rattle.std.proofs.Common.{map, length, get_or, take, ap, sym, refl, ◌∙◌, arith, ℤ, Bool, true, false, cond}
 use Rattle.std.proofs.Common.{flat_map}
 use Rattle.std.specs.Int.{int_max, int_min}
 use Rattle.std.specs.List.{fold}
-use Rattle.std.specs.Prelude.{int_lt, All, if◌then◌else◌, slice_get, option_map, option_and_then, unsigned_abs, unwrap_or}
+use Rattle.std.specs.Prelude.{int_lt, All, slice_get, option_map, option_and_then, unwrap_or}
 use Rattle.std.proofs.lemmas.List.{take_more, take_all, map-append}
 use Rattle.std.proofs.lemmas.Option.{slice_get_within, get_or_from_slice_get}
 use Rattle.staat_model.proofs.Places.{some_at}
@@ -14,6 +14,7 @@ use Rattle.staat_model.specs.Assemblies.{piece_at, piece_count}
 use Rattle.std.specs.Int.{w128}
 use Rattle.std.proofs.lemmas.Int.{to_z-of_z, clamps, ints}
 use Rattle.std.proofs.lemmas.Grind.{flat_map-append}
+use Rattle.std.proofs.lemmas.List.Folds.{fold-map}
 use Rattle.std.proofs.lemmas.List.Sums.{fold-append}
 use Rattle.staat_vec.specs.declared.vector.V3.{V3}
 use Rattle.staat_vec.specs.declared.vector.TheConstants.{POINT}
@@ -25,22 +26,12 @@ use Rattle.staat_explode.specs.declared.axis.Axis.TheVariants.{X, Y, Z}
 use Rattle.staat_explode.specs.declared.boxes.Bounds.{Bounds}
 use Rattle.staat_explode.specs.declared.shifted.Shifted.{Shifted}
 use Rattle.staat_explode.specs.Boxes.{around, box_of, component, covering, pieces_of_part, points_at, points_of}
-use Rattle.staat_explode.specs.Shifts.{gap_along, high_along, highest, low_along, lowest}
+use Rattle.staat_explode.specs.Shifts.{high_along, highest, low_along, lowest}
 use Rattle.staat_model.proofs.PartCounts.{pieces_count}
 
 same_either : {A : Type 0} (b : Bool) (x : A) → cond b x x ≡ x
 same_either true x = refl
 same_either false x = refl
-
-fold_map : {A B C : Type 0} (f : C → B → C) (g : A → B) (a : C) (xs : List A) → fold (λ c x. f c (g x)) a xs
-    ≡ fold f a (map g xs)
-fold_map f g a [] = refl
-fold_map f g a (x ∷ xs) = fold_map f g (f a (g x)) xs
-
--- of two numbers within a bound either is
-pub either_within : (b : Bool) (x y : ℤ) (m : ℕ) → unsigned_abs x ≤ m → unsigned_abs y ≤ m → unsigned_abs (cond b x y) ≤ m
-either_within true x y m h k = h
-either_within false x y m h k = k
 
 abbrev pub lower : List Bounds → Axis → ℤ → Shifted → ℤ
 lower boxes axis z p = int_min z (low_along boxes axis p)
@@ -54,7 +45,7 @@ unfolding lowest
 lowest_is boxes axis [] d h = absurd (omega arith)
 lowest_is boxes axis (p ∷ ps) d h =
     let z = low_along boxes axis p in
-    ap (λ a. fold (lower boxes axis) a ps) (same_either (int_lt z z) z) ∙ fold_map int_min (low_along boxes axis) z ps
+    ap (λ a. fold (lower boxes axis) a ps) (same_either (int_lt z z) z) ∙ sym (fold-map int_min (low_along boxes axis) z ps)
 
 pub highest_is : (boxes : List Bounds) (axis : Axis) (ps : List Shifted) (d : Shifted) → 1 ≤ length ps
     → fold (higher boxes axis) (high_along boxes axis (get_or ps 0 d)) ps ≡ highest boxes axis ps
@@ -62,7 +53,7 @@ unfolding highest
 highest_is boxes axis [] d h = absurd (omega arith)
 highest_is boxes axis (p ∷ ps) d h =
     let z = high_along boxes axis p in
-    ap (λ a. fold (higher boxes axis) a ps) (same_either (int_lt z z) z) ∙ fold_map int_max (high_along boxes axis) z ps
+    ap (λ a. fold (higher boxes axis) a ps) (same_either (int_lt z z) z) ∙ sym (fold-map int_max (high_along boxes axis) z ps)
 
 -- the box that covers a box and points, by its numbers
 covered : (b : Bounds) (ps : List V3) → fold covering b ps ≡ record {
@@ -83,21 +74,11 @@ box_is (p ∷ ps) d h = ap (λ b. fold covering b ps) once ∙ covered (around p
       high = vector (same_either (int_lt p.x p.x) p.x i) (same_either (int_lt p.y p.y) p.y i) (same_either (int_lt p.z p.z) p.z i);
     }
 
-pub gap_down : (boxes : List Bounds) (axis : Axis) (step h l : ℤ) (moved rest : List Shifted) → int_lt (pos 0) step
-    ≡ false → h ≡ highest boxes axis moved → l ≡ lowest boxes axis rest → (h +ℤ pos 1) -ℤ l
-    ≡ gap_along boxes axis step moved rest
-gap_down boxes axis step h l moved rest e p q =
-    (λ i. (p i +ℤ pos 1) -ℤ q i) ∙ ap (λ b. if b then (highest boxes axis rest +ℤ pos 1) -ℤ lowest boxes axis moved else (highest boxes axis moved +ℤ pos 1) -ℤ lowest boxes axis rest) (sym e)
-
-pub min_read : (x y r : ℤ) → FitsSigned w128 x → FitsSigned w128 y → FitsSigned w128 r → r
-    ≡ int_min (to_z w128 (of_z w128 x)) (to_z w128 (of_z w128 y)) → to_z w128 (of_z w128 r) ≡ int_min x y
-min_read x y r f g small e =
-    to_z-of_z w128 r small ∙ e ∙ (λ i. int_min (to_z-of_z w128 x f i) (to_z-of_z w128 y g i))
-
-pub max_read : (x y r : ℤ) → FitsSigned w128 x → FitsSigned w128 y → FitsSigned w128 r → r
-    ≡ int_max (to_z w128 (of_z w128 x)) (to_z w128 (of_z w128 y)) → to_z w128 (of_z w128 r) ≡ int_max x y
-max_read x y r f g small e =
-    to_z-of_z w128 r small ∙ e ∙ (λ i. int_max (to_z-of_z w128 x f i) (to_z-of_z w128 y g i))
+-- what the machine's type holds of a function of two numbers
+pub read_by : (f : ℤ → ℤ → ℤ) (x y r : ℤ) → FitsSigned w128 x → FitsSigned w128 y → FitsSigned w128 r
+    → r ≡ f (to_z w128 (of_z w128 x)) (to_z w128 (of_z w128 y)) → to_z w128 (of_z w128 r) ≡ f x y
+read_by f x y r fits_x fits_y small e =
+    to_z-of_z w128 r small ∙ e ∙ (λ i. f (to_z-of_z w128 x fits_x i) (to_z-of_z w128 y fits_y i))
 
 -- ---- pieces
 

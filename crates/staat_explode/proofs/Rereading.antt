@@ -1,8 +1,8 @@
 -- What is read in the text of points and faces: those points and faces.
-use Rattle.std.proofs.Common.{◌≡◌, ℕ, suc, ◌+◌, ◌^◌, ◌<◌, ◌≤◌, Bool, true, false, List, []}
+use Rattle.std.proofs.Common.{◌≡◌, ℕ, ◌+◌, ◌^◌, ◌<◌, ◌≤◌, Bool, true, List, []}
 use Rattle.std.proofs.Common.{◌∷◌, ◌++◌, map, length, All, ap, sym, subst, refl, ◌∙◌, arith, decimal}
-use Rattle.std.proofs.Common.{ℤ, pos, unsigned_abs, Some, None, Ok, Err, append_assoc, flat_map}
-use Rattle.std.specs.Prelude.{◌==◌, ◌&&◌, nat_le, nat_lt, codes, if◌then◌else◌}
+use Rattle.std.proofs.Common.{append-nil, ℤ, pos, unsigned_abs, Some, None, Ok, Err, append_assoc, flat_map}
+use Rattle.std.specs.Prelude.{◌&&◌, nat_le, nat_lt, codes, if◌then◌else◌}
 use Rattle.std.specs.Char.{is_ascii_digit}
 use Rattle.std.specs.List.{list_all, prefix_len}
 use Rattle.std.specs.Fmt.{signed_decimal}
@@ -23,7 +23,7 @@ use Rattle.staat_off.specs.Coordinates.{coordinate_of}
 use Rattle.staat_off.specs.Reading.{accepted, coordinate, corner_count, count, end, end_or_trailing, face, file}
 use Rattle.staat_off.specs.Reading.{is_header, header, index, line_passed, point, reading, short_number, word}
 use Rattle.staat_off.specs.Reading.{word_or_short}
-use Rattle.staat_off.specs.Scan.{after_line, line_len}
+use Rattle.staat_off.specs.Scan.{Rest, after_line, line_len, next_word}
 use Rattle.staat_off.specs.Words.{Word, is_plain}
 use Rattle.staat_explode.specs.Scenes.{face_line, numbers_line, off_text, point_line}
 use Rattle.staat_explode.proofs.WordTexts.{coordinate_read, decimal_digits, decimal_some, digits_plain}
@@ -61,27 +61,25 @@ IsParted s = prefix_len is_plain s ≡ 0
 abbrev IsPlainWord : List ℕ → Type 0
 IsPlainWord w = (list_all is_plain w ≡ true) × (0 < length w)
 
--- a reader that begins with a word passes over a blank
-abbrev Skips : {A : Type 0} → Reader A → Type 0
-Skips r = (b : ℕ) (t : List ℕ) (at : ℕ) → is_plain b ≡ false → (b == 35) ≡ false
-    → r (record { bytes = b ∷ t; at = at }) ≡ r (record { bytes = t; at = suc at })
+-- bytes that stand before a word and are passed over
+abbrev IsPassed : List ℕ → Type 0
+IsPassed g = (t : List ℕ) (at : ℕ) → next_word (record { bytes = g ++ t; at = at }) ≡ next_word (record { bytes = t; at = at + length g })
 
-skipped : {A : Type 0} (r : Reader A) (b : ℕ) (t u : List ℕ) (x : A) → Skips r → is_plain b ≡ false
-    → (b == 35) ≡ false → Gets r t x u → Gets r (b ∷ t) x u
-skipped r b t u x skips blank other gets at = let p = gets (suc at) in (p.0, skips b t at blank other ∙ p.1)
+nothing : IsPassed []
+nothing t at = let here : at ≡ at + 0 = omega arith in ap (λ k. next_word (record { bytes = t; at = k })) here
 
-skips_then : {A B : Type 0} (r : Reader A) (next : A → Reader B) → Skips r → Skips (r >>= next)
-skips_then r next skips b t at blank other = ap (λ z. resumed z next) (skips b t at blank other)
+space : IsPassed (32 ∷ [])
+space t at = word_behind_blank 32 t at refl refl
 
-word_skips : Skips word
+feed : IsPassed (10 ∷ [])
+feed t at = word_behind_blank 10 t at refl refl
+
+word_gets : (g w s : List ℕ) → IsPassed g → IsPlainWord w → IsParted s → (at : ℕ)
+    → word (record { bytes = g ++ (w ++ s); at = at })
+    ≡ Ok (record { text = w; at = at + length g }, record { bytes = s; at = at + length g + length w })
 unfolding word
-word_skips b t at blank other = ap (λ found. word_or_short found.0 found.1) (word_behind_blank b t at blank other)
-
-word_gets : (w s : List ℕ) → IsPlainWord w → IsParted s → (at : ℕ)
-    → word (record { bytes = w ++ s; at = at })
-    ≡ Ok (record { text = w; at = at }, record { bytes = s; at = at + length w })
-unfolding word
-word_gets w s h parted at = ap (λ found. word_or_short found.0 found.1) (word_front w s at h.0 h.1 parted)
+word_gets g w s passed h parted at =
+    ap (λ found. word_or_short found.0 found.1) (passed (w ++ s) at ∙ word_front w s (at + length g) h.0 h.1 parted)
 
 -- ---- counts and indices
 
@@ -103,100 +101,57 @@ short_is n small =
     tests a b c v e f g h = grind arith
 
 -- a number that passes a test is read
-accepted_gets : (r : Reader ℕ) (test : ℕ → Bool) (refusal : Word → OffRefusal) (n : ℕ) (s : List ℕ)
-    → n ≤ MOST_COUNT → IsParted s → test n ≡ true
+accepted_gets : (r : Reader ℕ) (test : ℕ → Bool) (refusal : Word → OffRefusal) (g : List ℕ) (n : ℕ) (s : List ℕ)
+    → IsPassed g → n ≤ MOST_COUNT → IsParted s → test n ≡ true
     → ((at : ℕ)
-    → (word >>= (λ w. accepted test (short_number w.text) (refusal w))) (record {
-      bytes =
-          decimal n ++ s;
-      at = at;
-    }) ≡ r (record { bytes = decimal n ++ s; at = at }))
-    → Gets r (decimal n ++ s) n s
-accepted_gets r test refusal n s small parted passes same at = (
-  at + length (decimal n),
-  sym (same at)
-      ∙ ap (λ z. resumed z (λ w. accepted test (short_number w.text) (refusal w))) (word_gets (decimal n) s (natural_word n small) parted at)
-      ∙ ap (λ o. accepted test o (refusal (record { text = decimal n; at = at })) (record {
-        bytes =
-            s;
-        at = at + length (decimal n);
-      })) (short_is n small)
-      ∙ ap (λ (b : Bool). (if b then return n else refuse (refusal (record {
-        text =
-            decimal n;
-        at = at;
-      }))) (record { bytes = s; at = at + length (decimal n) })) passes,
-)
+    → (word >>= (λ w. accepted test (short_number w.text) (refusal w))) (record { bytes = g ++ (decimal n ++ s); at = at })
+    ≡ r (record { bytes = g ++ (decimal n ++ s); at = at }))
+    → Gets r (g ++ (decimal n ++ s)) n s
+accepted_gets r test refusal g n s passed small parted passes same at =
+    let w : Word = record { text = decimal n; at = at + length g } in
+    let rest : Rest = record { bytes = s; at = at + length g + length (decimal n) } in (
+      at + length g + length (decimal n),
+      sym (same at)
+          ∙ ap (λ z. resumed z (λ w. accepted test (short_number w.text) (refusal w))) (word_gets g (decimal n) s passed (natural_word n small) parted at)
+          ∙ ap (λ o. accepted test o (refusal w) rest) (short_is n small)
+          ∙ ap (λ (b : Bool). (if b then return n else refuse (refusal w)) rest) passes,
+    )
 
-count_gets : (n : ℕ) (s : List ℕ) → n ≤ MOST_COUNT → IsParted s → Gets count (decimal n ++ s) n s
+count_gets : (g : List ℕ) (n : ℕ) (s : List ℕ) → IsPassed g → n ≤ MOST_COUNT → IsParted s
+    → Gets count (g ++ (decimal n ++ s)) n s
 unfolding count
-count_gets n s small parted =
-    accepted_gets count (λ n. nat_le n MOST_COUNT) (λ w. BadCount w.at) n s small parted (le_test n MOST_COUNT small) (λ at. refl)
+count_gets g n s passed small parted =
+    accepted_gets count (λ n. nat_le n MOST_COUNT) (λ w. BadCount w.at) g n s passed small parted (le_test n MOST_COUNT small) (λ at. refl)
 
-count_skips : Skips count
-unfolding count
-count_skips = skips_then word _ word_skips
-
-corner_count_gets : (n : ℕ) (s : List ℕ) → 1 ≤ n → n ≤ MOST_COUNT → IsParted s
-    → Gets corner_count (decimal n ++ s) n s
+corner_count_gets : (g : List ℕ) (n : ℕ) (s : List ℕ) → IsPassed g → 1 ≤ n → n ≤ MOST_COUNT → IsParted s
+    → Gets corner_count (g ++ (decimal n ++ s)) n s
 unfolding corner_count
-corner_count_gets n s some small parted =
-    accepted_gets corner_count (λ n. nat_le 1 n && nat_le n MOST_COUNT) (λ w. BadCount w.at) n s small parted (and_from (nat_le 1 n) (nat_le n MOST_COUNT) (le_test 1 n some) (le_test n MOST_COUNT small)) (λ at. refl)
+corner_count_gets g n s passed some small parted =
+    accepted_gets corner_count (λ n. nat_le 1 n && nat_le n MOST_COUNT) (λ w. BadCount w.at) g n s passed small parted
+    (and_from (nat_le 1 n) (nat_le n MOST_COUNT) (le_test 1 n some) (le_test n MOST_COUNT small)) (λ at. refl)
 
-corner_count_skips : Skips corner_count
-unfolding corner_count
-corner_count_skips = skips_then word _ word_skips
-
-index_gets : (vertices n : ℕ) (s : List ℕ) → n < vertices → vertices ≤ MOST_COUNT → IsParted s
-    → Gets (index vertices) (decimal n ++ s) n s
+index_gets : (vertices : ℕ) (g : List ℕ) (n : ℕ) (s : List ℕ) → IsPassed g → n < vertices → vertices ≤ MOST_COUNT
+    → IsParted s → Gets (index vertices) (g ++ (decimal n ++ s)) n s
 unfolding index
-index_gets vertices n s lt small parted =
-    accepted_gets (index vertices) (λ n. nat_lt n vertices) (λ w. BadIndex w.at) n s (omega arith) parted (lt_test n vertices lt) (λ at. refl)
-
-index_skips : (vertices : ℕ) → Skips (index vertices)
-unfolding index
-index_skips vertices = skips_then word _ word_skips
+index_gets vertices g n s passed lt small parted =
+    accepted_gets (index vertices) (λ n. nat_lt n vertices) (λ w. BadIndex w.at) g n s passed (omega arith) parted (lt_test n vertices lt) (λ at. refl)
 
 -- ---- coordinates
 
-coordinate_gets : (z : ℤ) (s : List ℕ) → unsigned_abs z ≤ POINT → IsParted s
-    → Gets (coordinate 0) (signed_decimal z ++ s) z s
+coordinate_gets : (g : List ℕ) (z : ℤ) (s : List ℕ) → IsPassed g → unsigned_abs z ≤ POINT → IsParted s
+    → Gets (coordinate 0) (g ++ (signed_decimal z ++ s)) z s
 unfolding coordinate
-coordinate_gets z s small parted at =
-    let wide : unsigned_abs z < 10 ^ 64 = omega arith in (
-      at + length (signed_decimal z),
-      ap (λ t. resumed t (λ w. decided (coordinate_of 0 w))) (word_gets (signed_decimal z) s (signed_plain z wide, signed_some z wide) parted at)
-          ∙ ap (λ d. decided d (record {
-            bytes =
-                s;
-            at = at + length (signed_decimal z);
-          })) (coordinate_read z at small),
+coordinate_gets g z s passed small parted at =
+    let wide : unsigned_abs z < 10 ^ 64 = omega arith in
+    let rest : Rest = record { bytes = s; at = at + length g + length (signed_decimal z) } in (
+      at + length g + length (signed_decimal z),
+      ap (λ t. resumed t (λ w. decided (coordinate_of 0 w))) (word_gets g (signed_decimal z) s passed (signed_plain z wide, signed_some z wide) parted at)
+          ∙ ap (λ d. decided d rest) (coordinate_read z (at + length g) small),
     )
-
-coordinate_skips : Skips (coordinate 0)
-unfolding coordinate
-coordinate_skips = skips_then word _ word_skips
-
--- ---- a blank, and what follows a number
-
-space_blank : is_plain 32 ≡ false
-space_blank = refl
-
-feed_blank : is_plain 10 ≡ false
-feed_blank = refl
 
 parted_spaced : (zs : List ℤ) (t : List ℕ) → IsParted (spaced zs ++ t)
 parted_spaced [] t = refl
 parted_spaced (z ∷ zs) t = refl
-
--- a reader that skips, after a line feed
-after_feed : {A : Type 0} (r : Reader A) (t u : List ℕ) (x : A) → Skips r → Gets r t x u
-    → Gets r (10 ∷ t) x u
-after_feed r t u x skips gets = skipped r 10 t u x skips feed_blank refl gets
-
-after_space : {A : Type 0} (r : Reader A) (t u : List ℕ) (x : A) → Skips r → Gets r t x u
-    → Gets r (32 ∷ t) x u
-after_space r t u x skips gets = skipped r 32 t u x skips space_blank refl gets
 
 -- ---- points
 
@@ -209,18 +164,13 @@ point_gets p t small =
     let bytes : 10 ∷ (signed_decimal p.x
     ++ (32 ∷ (signed_decimal p.y ++ (32 ∷ (signed_decimal p.z ++ (10 ∷ t))))))
     ≡ 10 ∷ (point_line p ++ t) = simp append_assoc in
-    subst (λ l. Gets (coordinate 0 >>= (λ x. coordinate 0 >>= (λ y. coordinate 0 >>= (λ z. return (record {
-      x =
-          x;
-      y = y;
-      z = z;
-    }))))) l p (10 ∷ t)) bytes
+    subst (λ l. Gets (coordinate 0 >>= (λ x. coordinate 0 >>= (λ y. coordinate 0 >>= (λ z. return (record { x = x; y = y; z = z }))))) l p (10 ∷ t)) bytes
     (then_gets (coordinate 0) _ _ (32 ∷ first) (10 ∷ t) p.x p
-    (after_feed (coordinate 0) _ (32 ∷ first) p.x coordinate_skips (coordinate_gets p.x (32 ∷ first) small.x refl))
+    (coordinate_gets (10 ∷ []) p.x (32 ∷ first) feed small.x refl)
     (then_gets (coordinate 0) _ _ (32 ∷ second) (10 ∷ t) p.y p
-    (after_space (coordinate 0) _ (32 ∷ second) p.y coordinate_skips (coordinate_gets p.y (32 ∷ second) small.y refl))
+    (coordinate_gets (32 ∷ []) p.y (32 ∷ second) space small.y refl)
     (then_gets (coordinate 0) _ _ third (10 ∷ t) p.z p
-    (after_space (coordinate 0) _ third p.z coordinate_skips (coordinate_gets p.z third small.z refl))
+    (coordinate_gets (32 ∷ []) p.z third space small.z refl)
     (returned p (10 ∷ t)))))
 
 points_get : (ps : List V3) (t : List ℕ) → All (IsWithin POINT) ps
@@ -250,9 +200,7 @@ indices_get vertices (k ∷ ks) t small all =
     ap (λ (l : List ℕ). 32 ∷ l) (sym (append_assoc (decimal k) (spaced (map pos ks)) t)) in
     subst (λ l. Gets (index vertices >>= (λ x. many (length ks) (index vertices) >>= (λ xs. return (x ∷ xs)))) l (k ∷ ks) (10 ∷ t)) bytes
     (then_gets (index vertices) _ _ (spaced (map pos ks) ++ t) (10 ∷ t) k (k ∷ ks)
-    (after_space (index vertices) _ (spaced (map pos ks)
-    ++ t) k (index_skips vertices) (index_gets vertices k (spaced (map pos ks)
-    ++ t) (All-head (λ j. j < vertices) k ks all) small (parted_spaced (map pos ks) t)))
+    (index_gets vertices (32 ∷ []) k (spaced (map pos ks) ++ t) space (All-head (λ j. j < vertices) k ks all) small (parted_spaced (map pos ks) t))
     (then_gets (many (length ks) (index vertices)) _ _ (10 ∷ t) (10 ∷ t) ks (k ∷ ks)
     (indices_get vertices ks t small (All-tail (λ j. j < vertices) k ks all))
     (returned (k ∷ ks) (10 ∷ t))))
@@ -267,51 +215,41 @@ pub record IsFaceOf (vertices : ℕ) (ks : List ℕ) : Type 0 where
   pub few : length ks ≤ MOST_COUNT
   pub corners : All (λ k. k < vertices) ks
 
-face_gets : (vertices : ℕ) (ks : List ℕ) (t : List ℕ) → vertices ≤ MOST_COUNT → IsFaceOf vertices ks
-    → Gets (face vertices) (face_line ks ++ t) ks t
+face_gets : (vertices : ℕ) (g ks t : List ℕ) → IsPassed g → vertices ≤ MOST_COUNT → IsFaceOf vertices ks
+    → Gets (face vertices) (g ++ (face_line ks ++ t)) ks t
 unfolding face
-face_gets vertices ks t small h =
+face_gets vertices g ks t passed small h =
     let bytes : decimal (length ks) ++ (spaced (map pos ks) ++ t) ≡ face_line ks ++ t =
     sym (append_assoc (decimal (length ks)) (spaced (map pos ks)) t) in
-    subst (λ l. Gets (corner_count >>= (λ corners. many corners (index vertices) >>= (λ indices. line_passed >>= (λ passed. return indices)))) l ks t) bytes
+    subst (λ l. Gets (corner_count >>= (λ corners. many corners (index vertices) >>= (λ indices. line_passed >>= (λ passed. return indices)))) (g ++ l) ks t) bytes
     (then_gets corner_count _ _ (spaced (map pos ks) ++ t) t (length ks) ks
-    (corner_count_gets (length ks) (spaced (map pos ks) ++ t) h.some h.few (parted_spaced (map pos ks) t))
+    (corner_count_gets g (length ks) (spaced (map pos ks) ++ t) passed h.some h.few (parted_spaced (map pos ks) t))
     (then_gets (many (length ks) (index vertices)) _ _ (10 ∷ t) t ks ks
     (indices_get vertices ks t small h.corners)
     (passed_gets line_passed (return ks) _ t t ks (line_gets t) (returned ks t))))
 
-face_skips : (vertices : ℕ) → Skips (face vertices)
-unfolding face
-face_skips vertices = skips_then corner_count _ corner_count_skips
-
-faces_get : (vertices : ℕ) (fs : List (List ℕ)) → vertices ≤ MOST_COUNT → All (IsFaceOf vertices) fs
-    → Gets (many (length fs) (face vertices)) (flat_map face_line fs) fs []
+-- what is left behind the faces is passed over: where there is no face, the line feed of the last point
+faces_get : (vertices : ℕ) (g : List ℕ) (fs : List (List ℕ)) → IsPassed g → vertices ≤ MOST_COUNT
+    → All (IsFaceOf vertices) fs
+    → (u : List ℕ) × IsPassed u × Gets (many (length fs) (face vertices)) (g ++ flat_map face_line fs) fs u
 unfolding many
-faces_get vertices [] small all = returned [] []
-faces_get vertices (f ∷ fs) small all =
-    then_gets (face vertices) _ (face_line f ++ flat_map face_line fs) (flat_map face_line fs) [] f (f ∷ fs)
-    (face_gets vertices f (flat_map face_line fs) small (All-head (IsFaceOf vertices) f fs all))
-    (then_gets (many (length fs) (face vertices)) _ _ [] [] fs (f ∷ fs)
-    (faces_get vertices fs small (All-tail (IsFaceOf vertices) f fs all))
-    (returned (f ∷ fs) []))
+faces_get vertices g [] passed small all =
+    (g, passed, subst (λ l. Gets {A = List (List ℕ)} (return []) l [] g) (sym (append-nil g)) (returned [] g))
+faces_get vertices g (f ∷ fs) passed small all =
+    let rest = faces_get vertices [] fs nothing small (All-tail (IsFaceOf vertices) f fs all) in (
+      rest.0,
+      rest.1,
+      then_gets (face vertices) _ (g ++ (face_line f ++ flat_map face_line fs)) (flat_map face_line fs) rest.0 f (f ∷ fs)
+          (face_gets vertices g f (flat_map face_line fs) passed small (All-head (IsFaceOf vertices) f fs all))
+          (then_gets (many (length fs) (face vertices)) _ _ rest.0 rest.0 fs (f ∷ fs) rest.2 (returned (f ∷ fs) rest.0)),
+    )
 
--- what is left behind the faces: the line feed of the last point, where there is no face
-abbrev left_behind : List (List ℕ) → List ℕ
-left_behind [] = 10 ∷ []
-left_behind (f ∷ fs) = []
-
-faces_after_feed : (vertices : ℕ) (fs : List (List ℕ)) → vertices ≤ MOST_COUNT → All (IsFaceOf vertices) fs
-    → Gets (many (length fs) (face vertices)) (10 ∷ flat_map face_line fs) fs (left_behind fs)
-unfolding many
-faces_after_feed vertices [] small all = returned [] (10 ∷ [])
-faces_after_feed vertices (f ∷ fs) small all =
-    skipped (many (length (f ∷ fs)) (face vertices)) 10 (flat_map face_line (f ∷ fs)) [] (f ∷ fs) (skips_then (face vertices) _ (face_skips vertices)) feed_blank refl (faces_get vertices (f ∷ fs) small all)
-
-end_gets : (fs : List (List ℕ)) → Gets end (left_behind fs) tt []
+end_gets : (u : List ℕ) → IsPassed u → Gets end u tt []
 unfolding end
-end_gets [] at =
-    (suc at, ap (λ found. end_or_trailing found.0 found.1) (word_behind_blank 10 [] at feed_blank refl ∙ no_word_left (suc at)))
-end_gets (f ∷ fs) at = (at, ap (λ found. end_or_trailing found.0 found.1) (no_word_left at))
+end_gets u passed at = (
+  at + length u,
+  ap (λ found. end_or_trailing found.0 found.1) (ap (λ l. next_word (record { bytes = l; at = at })) (sym (append-nil u)) ∙ passed [] at ∙ no_word_left (at + length u)),
+)
 
 -- ---- the file
 
@@ -334,16 +272,17 @@ file_gets raw indexed counted corners =
     let points : List ℕ = flat_map point_line raw.points ++ faces in
     let edges : List ℕ = decimal 0 ++ (10 ∷ points) in
     let others : List ℕ = decimal f ++ (32 ∷ edges) in
+    let lists = faces_get v (10 ∷ []) raw.faces feed counted.points (faces_are raw indexed counted corners) in
     let bytes : codes "OFF\n" ++ (decimal v ++ (32 ∷ others)) ≡ codes "OFF\n"
     ++ (numbers_line (pos v) (pos f ∷ pos 0 ∷ []) ++ points) = simp append_assoc in
     subst (λ l. Gets (header >>= (λ first. count >>= (λ vertices. count >>= (λ faces. count >>= (λ edges. many vertices (point 0) >>= (λ points. many faces (face vertices) >>= (λ lists. end >>= (λ last. return (record { points = points; faces = lists }))))))))) l raw []) bytes
     (passed_gets header _ _ (10 ∷ (decimal v ++ (32 ∷ others))) [] raw (header_gets (decimal v ++ (32 ∷ others)))
-    (then_gets count _ _ (32 ∷ others) [] v raw (after_feed count _ (32 ∷ others) v count_skips (count_gets v (32 ∷ others) counted.points refl))
-    (then_gets count _ _ (32 ∷ edges) [] f raw (after_space count _ (32 ∷ edges) f count_skips (count_gets f (32 ∷ edges) counted.faces refl))
-    (then_gets count _ _ (10 ∷ points) [] 0 raw (after_space count _ (10 ∷ points) 0 count_skips (count_gets 0 (10 ∷ points) (omega arith) refl))
+    (then_gets count _ _ (32 ∷ others) [] v raw (count_gets (10 ∷ []) v (32 ∷ others) feed counted.points refl)
+    (then_gets count _ _ (32 ∷ edges) [] f raw (count_gets (32 ∷ []) f (32 ∷ edges) space counted.faces refl)
+    (then_gets count _ _ (10 ∷ points) [] 0 raw (count_gets (32 ∷ []) 0 (10 ∷ points) space (omega arith) refl)
     (then_gets (many v (point 0)) _ _ (10 ∷ faces) [] raw.points raw (points_get raw.points faces indexed.within)
-    (then_gets (many f (face v)) _ _ (left_behind raw.faces) [] raw.faces raw (faces_after_feed v raw.faces counted.points (faces_are raw indexed counted corners))
-    (passed_gets end _ _ [] [] raw (end_gets raw.faces)
+    (then_gets (many f (face v)) _ _ lists.0 [] raw.faces raw lists.2
+    (passed_gets end _ _ [] [] raw (end_gets lists.0 lists.1)
     (returned raw []))))))))
 
 -- reading the text gives the points and faces that were written

@@ -1,5 +1,5 @@
 -- The boxes of the parts of a plan stand apart.
-use Rattle.std.proofs.Common.{◌≡◌, ◌≢◌, ℕ, zero, suc, ◌≤◌, List, [], ◌∷◌, map, length}
+use Rattle.std.proofs.Common.{◌≡◌, ◌≢◌, ℕ, ◌≤◌, List, [], ◌∷◌, map, length}
 use Rattle.std.proofs.Common.{Contains, ap, sym, subst, refl, ◌∙◌, arith, ◌⊎◌, inl, inr, ◌+ℤ◌}
 use Rattle.std.proofs.Common.{◌*ℤ◌, ◌<ℤ◌, ◌≤ℤ◌, pos, ℤ}
 use Rattle.std.specs.Int.{int_max, int_min}
@@ -14,20 +14,14 @@ use Rattle.staat_explode.specs.declared.axis.Axis.{Axis}
 use Rattle.staat_explode.specs.declared.axis.Axis.TheVariants.{X, Y, Z}
 use Rattle.staat_explode.specs.declared.boxes.Bounds.{Bounds}
 use Rattle.staat_explode.specs.declared.shifted.Shifted.{Shifted}
-use Rattle.staat_explode.specs.Apart.{AreParted, IsIn, moved_box}
+use Rattle.staat_explode.specs.Apart.{AreParted, moved_box}
 use Rattle.staat_explode.specs.Boxes.{IsBoxOf, box_of, by_component, component, greatest, least}
 use Rattle.staat_explode.specs.Shifts.{ArePast, axis_of, box_at, high_along, highest, low_along, lowest, moved_on}
 use Rattle.staat_explode.specs.Shifts.{shifted_of, steps_apart}
 use Rattle.staat_explode.specs.Sizes.{IsShiftable}
 use Rattle.staat_explode.proofs.Stepping.{past}
-use Rattle.staat_vec.proofs.Unique.{Contains-nothing, Contains-front}
+use Rattle.staat_vec.proofs.Unique.{Contains-cases, Contains-nothing, Contains-front}
 use Rattle.staat_vec.proofs.ListLaws.{Contains-map, Contains-from_map, Contains-there}
-
--- ---- members
-
-contains_cons : {X : Type 0} (y x : X) (xs : List X) → Contains (y ∷ xs) x → (y ≡ x) ⊎ Contains xs x
-contains_cons y x xs (zero, lt, e) = inl e
-contains_cons y x xs (suc k, lt, e) = inr (k, omega arith, e)
 
 -- ---- the least and the greatest
 
@@ -104,7 +98,10 @@ pub all_apart : (boxes : List Bounds) (n : ℕ) (plan : Plan) → IsShiftable n 
     → Contains (shifted_of boxes plan) x → Contains (shifted_of boxes plan) y → x.part ≢ y.part
     → Parted boxes x y
 all_apart boxes n (leaf p) h x y hx hy differ =
-    absurd (elim (contains_cons _ x [] hx) [ inl e ↦ elim (contains_cons _ y [] hy) [ inl f ↦ differ (ap (λ (q : Shifted). q.part) (sym e ∙ f)) | inr k ↦ Contains-nothing y k ] | inr k ↦ Contains-nothing x k ])
+    absurd (elim (Contains-cases _ [] x hx) [
+      | inl e ↦ elim (Contains-cases _ [] y hy) [ inl f ↦ differ (ap (λ (q : Shifted). q.part) (e ∙ sym f)) | inr k ↦ Contains-nothing y k ]
+      | inr k ↦ Contains-nothing x k
+    ])
 all_apart boxes n (split d moved rest) h x y hx hy differ =
     let m = steps_apart boxes d (shifted_of boxes moved) (shifted_of boxes rest) in
     let beyond = past boxes d (shifted_of boxes moved) (shifted_of boxes rest) h.0 in
@@ -132,11 +129,6 @@ pub parted_boxes : (boxes : List Bounds) (x y : Shifted) → Parted boxes x y
 parted_boxes boxes x y (X, h) = (X, h)
 parted_boxes boxes x y (Y, h) = (Y, h)
 parted_boxes boxes x y (Z, h) = (Z, h)
-
--- parted boxes have no point in common
-pub no_common : (a b : Bounds) (x : V3) → AreParted a b → IsIn a x → IsIn b x → ⊥
-no_common a b x (axis, inl h) p q = let u = p axis in let v = q axis in absurd (omega (arith, ints, u.1, v.0))
-no_common a b x (axis, inr h) p q = let u = p axis in let v = q axis in absurd (omega (arith, ints, u.0, v.1))
 
 -- ---- the box of points
 

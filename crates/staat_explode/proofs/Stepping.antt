@@ -1,7 +1,7 @@
 -- The least number of steps that takes the moved parts past the resting ones.
 use Rattle.std.proofs.Common.{◌≡◌, ◌≢◌, ℕ, zero, suc, ◌+◌, ◌*◌, ◌<◌, ◌≤◌, ℤ, pos}
 use Rattle.std.proofs.Common.{negsuc, ◌+ℤ◌, ◌-ℤ◌, ◌*ℤ◌, ◌<ℤ◌, ◌≤ℤ◌, unsigned_abs, Bool}
-use Rattle.std.proofs.Common.{true, false, List, ap, refl, arith, ◌⊎◌, inl, inr}
+use Rattle.std.proofs.Common.{true, false, List, ap, refl, arith, inl, inr}
 use Rattle.std.specs.Prelude.{int_lt, if◌then◌else◌}
 use Rattle.std.specs.Int.{div_ceil}
 use Rattle.std.proofs.lemmas.Int.{ints}
@@ -9,6 +9,7 @@ use Rattle.std.proofs.lemmas.Grind.{div_ceil_times}
 use Rattle.std.proofs.Math.Nat.{mul-le-mul_right}
 use Rattle.staat_vec.specs.declared.vector.V3.{V3}
 use Rattle.staat_vec.specs.Vectors.{origin, vector}
+use Rattle.staat_explode.specs.declared.axis.Axis.{Axis}
 use Rattle.staat_explode.specs.declared.axis.Axis.TheVariants.{X, Y, Z}
 use Rattle.staat_explode.specs.declared.boxes.Bounds.{Bounds}
 use Rattle.staat_explode.specs.declared.shifted.Shifted.{Shifted}
@@ -61,44 +62,43 @@ past_down : (h l s : ℤ) (m : ℕ) → s ≤ℤ pos 0 → (h +ℤ (pos m *ℤ s
 past_down h l s m down e = let t = times_down m s down in let k = rw t at e in omega (arith, ints)
 
 module _ (boxes : List Bounds) (d : V3) (moved rest : List Shifted) (some : d ≢ origin) where
+  abbrev axis : Axis
+  axis = axis_of d
+
+  abbrev step : ℤ
+  step = component axis d
+
+  abbrev size : ℕ
+  size = unsigned_abs step
+
+  abbrev gap : Bool → ℤ
+  gap up =
+      if up then (highest boxes axis rest +ℤ pos 1) -ℤ lowest boxes axis moved else (highest boxes axis moved +ℤ pos 1) -ℤ lowest boxes axis rest
+
   -- the steps are enough
   pub past : ArePast boxes d moved rest (steps_apart boxes d moved rest)
   unfolding steps_apart
-  past =
-      let axis = axis_of d in
-      let s = component (axis_of d) d in
-      let size = size_some s (axis_some d some) in
-      let hm = highest boxes axis moved in
-      let lm = lowest boxes axis moved in
-      let hr = highest boxes axis rest in
-      let lr = lowest boxes axis rest in
-      go (int_lt (pos 0) s) refl size
+  past = go (int_lt (pos 0) step) refl (size_some step (axis_some d some))
     where
-      go : (b : Bool) → int_lt (pos 0) (component (axis_of d) d) ≡ b → 0 < unsigned_abs (component (axis_of d) d)
-          → ((pos 0 <ℤ component (axis_of d) d)
-          × ((highest boxes (axis_of d) rest +ℤ pos 1) ≤ℤ (lowest boxes (axis_of d) moved +ℤ (pos (rounds (if b then (highest boxes (axis_of d) rest +ℤ pos 1) -ℤ lowest boxes (axis_of d) moved else (highest boxes (axis_of d) moved +ℤ pos 1) -ℤ lowest boxes (axis_of d) rest) (unsigned_abs (component (axis_of d) d))) *ℤ component (axis_of d) d))))
-          ⊎ ((component (axis_of d) d <ℤ pos 0)
-          × ((highest boxes (axis_of d) moved +ℤ (pos (rounds (if b then (highest boxes (axis_of d) rest +ℤ pos 1) -ℤ lowest boxes (axis_of d) moved else (highest boxes (axis_of d) moved +ℤ pos 1) -ℤ lowest boxes (axis_of d) rest) (unsigned_abs (component (axis_of d) d))) *ℤ component (axis_of d) d)) ≤ℤ (lowest boxes (axis_of d) rest -ℤ pos 1)))
-      go true e size =
-          let up : pos 0 <ℤ component (axis_of d) d = grind (arith, ints) in
-          inl (up, up_past (lowest boxes (axis_of d) moved) (highest boxes (axis_of d) rest) (component (axis_of d) d) _ up (enough ((highest boxes (axis_of d) rest +ℤ pos 1) -ℤ lowest boxes (axis_of d) moved) (unsigned_abs (component (axis_of d) d)) size))
-      go false e size =
-          let low : component (axis_of d) d ≤ℤ pos 0 = grind (arith, ints) in
-          let down : component (axis_of d) d <ℤ pos 0 = omega (arith, ints) in
-          inr (down, down_past (highest boxes (axis_of d) moved) (lowest boxes (axis_of d) rest) (component (axis_of d) d) _ low (enough ((highest boxes (axis_of d) moved +ℤ pos 1) -ℤ lowest boxes (axis_of d) rest) (unsigned_abs (component (axis_of d) d)) size))
+      go : (b : Bool) → int_lt (pos 0) step ≡ b → 0 < size → ArePast boxes d moved rest (rounds (gap b) size)
+      go true e far =
+          let up : pos 0 <ℤ step = grind (arith, ints) in
+          inl (up, up_past (lowest boxes axis moved) (highest boxes axis rest) step _ up (enough (gap true) size far))
+      go false e far =
+          let low : step ≤ℤ pos 0 = grind (arith, ints) in
+          let down : step <ℤ pos 0 = omega (arith, ints) in
+          inr (down, down_past (highest boxes axis moved) (lowest boxes axis rest) step _ low (enough (gap false) size far))
 
   -- and no fewer are
   pub least_past : (k : ℕ) → ArePast boxes d moved rest k → steps_apart boxes d moved rest ≤ k
   unfolding steps_apart
-  least_past k h =
-      go (int_lt (pos 0) (component (axis_of d) d)) refl (size_some (component (axis_of d) d) (axis_some d some)) h
+  least_past k h = go (int_lt (pos 0) step) refl (size_some step (axis_some d some)) h
     where
-      go : (b : Bool) → int_lt (pos 0) (component (axis_of d) d) ≡ b → 0 < unsigned_abs (component (axis_of d) d)
-          → ArePast boxes d moved rest k
-          → rounds (if b then (highest boxes (axis_of d) rest +ℤ pos 1) -ℤ lowest boxes (axis_of d) moved else (highest boxes (axis_of d) moved +ℤ pos 1) -ℤ lowest boxes (axis_of d) rest) (unsigned_abs (component (axis_of d) d)) ≤ k
-      go true e size (inl a) =
-          fewest _ (unsigned_abs (component (axis_of d) d)) k size (past_up (lowest boxes (axis_of d) moved) (highest boxes (axis_of d) rest) (component (axis_of d) d) k a.0 a.1)
-      go true e size (inr a) = let wrong = a.0 in absurd (grind (arith, ints))
-      go false e size (inl a) = let wrong = a.0 in absurd (grind (arith, ints))
-      go false e size (inr a) = let down =
-          a.0 in fewest _ (unsigned_abs (component (axis_of d) d)) k size (past_down (highest boxes (axis_of d) moved) (lowest boxes (axis_of d) rest) (component (axis_of d) d) k (omega (arith, ints)) a.1)
+      go : (b : Bool) → int_lt (pos 0) step ≡ b → 0 < size → ArePast boxes d moved rest k → rounds (gap b) size ≤ k
+      go true e far (inl a) =
+          fewest _ size k far (past_up (lowest boxes axis moved) (highest boxes axis rest) step k a.0 a.1)
+      go true e far (inr a) = let wrong = a.0 in absurd (grind (arith, ints))
+      go false e far (inl a) = let wrong = a.0 in absurd (grind (arith, ints))
+      go false e far (inr a) =
+          let down = a.0 in
+          fewest _ size k far (past_down (highest boxes axis moved) (lowest boxes axis rest) step k (omega (arith, ints)) a.1)

@@ -1,10 +1,11 @@
 -- What is said of the vectors that are found.
-use Rattle.std.proofs.Common.{◌≡◌, ℕ, ◌<◌, Bool, true, false, List, [], ◌∷◌, map, length, All, sym}
+use Rattle.std.proofs.Common.{◌≡◌, ℕ, ◌<◌, Bool, true, false, List, map, length, All, sym, get_or}
 use Rattle.std.proofs.Common.{subst, refl, ◌∙◌, arith}
 use Rattle.std.specs.List.{range_with_len}
 use Rattle.std.proofs.lemmas.List.{length-map}
-use Rattle.std.proofs.lemmas.List.Elements.{All-contains, All-cons, All-nil}
+use Rattle.std.proofs.lemmas.List.Elements.{All-contains}
 use Rattle.staat_vec.specs.Vectors.{IsWithin}
+use Rattle.staat_vec.proofs.ListLaws.{All-map}
 use Rattle.staat_model.specs.declared.assembly.Part.{Part}
 use Rattle.staat_model.specs.declared.set.PartSet.{PartSet}
 use Rattle.staat_model.specs.Plans.{Plan, IsGood}
@@ -53,28 +54,14 @@ vector_near n part ps all = go (has_part ps part) refl
   where
     go : (b : Bool) → has_part ps part ≡ b → IsWithin FARTHEST (vector_of_part ps part)
     go true e =
-        (All-contains (IsShifted n) ps (record {
-          part =
-              part;
-          by = vector_of_part ps part;
-        }) all (stands ps part e)).near
+        (All-contains (IsShifted n) ps (record { part = part; by = vector_of_part ps part }) all (stands ps part e)).near
     go false e =
-        subst (IsWithin FARTHEST) (sym (no_vector ps part e)) (record {
-          x =
-              omega arith;
-          y = omega arith;
-          z = omega arith;
-        })
-
-all_mapped : {X Y : Type 0} (f : X → Y) (P : Y → Type 0) → ((x : X) → P (f x)) → (xs : List X)
-    → All P (map f xs)
-all_mapped f P h [] = All-nil P
-all_mapped f P h (x ∷ xs) = All-cons P (f x) (map f xs) (h x) (all_mapped f P h xs)
+        subst (IsWithin FARTHEST) (sym (no_vector ps part e)) (record { x = omega arith; y = omega arith; z = omega arith })
 
 pub all_near : (n count : ℕ) (ps : List Shifted) → All (IsShifted n) ps
     → All (IsWithin FARTHEST) (map (vector_of_part ps) (range_with_len 0 count))
 all_near n count ps all =
-    all_mapped (vector_of_part ps) (IsWithin FARTHEST) (λ part. vector_near n part ps all) (range_with_len 0 count)
+    All-map (vector_of_part ps) (IsWithin FARTHEST) (range_with_len 0 count) (λ k d lt. vector_near n (get_or (range_with_len 0 count) k d) ps all)
 
 pub boxes_length : (parts : List Part) → length (boxes_of parts) ≡ length parts
 boxes_length parts = length-map parts (λ part. box_of (points_of part))

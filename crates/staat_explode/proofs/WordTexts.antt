@@ -2,7 +2,7 @@
 use Rattle.std.proofs.Common.{◌≡◌, ℕ, suc, ◌+◌, ◌^◌, ◌<◌, ◌≤◌, Bool, true, false, List, []}
 use Rattle.std.proofs.Common.{◌∷◌, ◌++◌, take, drop, length, ap, sym, refl, ◌∙◌, arith, add-one}
 use Rattle.std.proofs.Common.{decimal, ℤ, pos, negsuc, unsigned_abs, inl, inr, Some, None, Result, Ok, Err}
-use Rattle.std.proofs.Common.{append-nil}
+use Rattle.std.proofs.Common.{append-nil, Option}
 use Rattle.std.specs.Prelude.{◌==◌, ◌||◌, ◌&&◌, not, nat_le, codes, if◌then◌else◌}
 use Rattle.std.specs.Char.{is_ascii_digit}
 use Rattle.std.specs.List.{list_all, prefix_len}
@@ -15,14 +15,13 @@ use Rattle.std.proofs.lemmas.Str.Parse.{digit_at}
 use Rattle.std.proofs.Math.Seq.{take-append_seam, drop-append_seam}
 use Rattle.staat_vec.specs.declared.vector.TheConstants.{POINT}
 use Rattle.staat_off.specs.declared.refusal.OffRefusal.{OffRefusal}
-use Rattle.staat_off.specs.declared.refusal.OffRefusal.TheVariants.{BadNumber, NotWhole, TooBig, NoHeader, BadCount}
-use Rattle.staat_off.specs.declared.refusal.OffRefusal.TheVariants.{BadIndex, ShortFile, Trailing, OutOfMemory}
+use Rattle.staat_off.specs.declared.refusal.OffRefusal.TheVariants.{NotWhole, TooBig}
 use Rattle.staat_off.specs.Coordinates.{coordinate_of}
 use Rattle.staat_off.specs.Numerals.{Numeral}
-use Rattle.staat_off.specs.Spelling.{Spells}
+use Rattle.staat_off.specs.Spelling.{IsSign, Spells}
 use Rattle.staat_off.specs.Values.{IsValueOf, IsMagnitude, signed}
-use Rattle.staat_off.specs.Scan.{gap, next_word, word_in_front}
-use Rattle.staat_off.specs.Words.{is_plain}
+use Rattle.staat_off.specs.Scan.{Rest, gap, next_word, word_in_front}
+use Rattle.staat_off.specs.Words.{Word, is_plain}
 use Rattle.staat_off.proofs.Decisions.{spelled_decides}
 use Rattle.staat_vec.proofs.Decimals.{decimal_value}
 
@@ -81,51 +80,34 @@ short : (n : ℕ) → n ≤ POINT → (n < 10 ^ 64) × (length (decimal n) ≤ 7
 short n small =
     let wide : n < 10 ^ 64 = omega arith in (wide, length-decimal-le_wide 7 n (omega arith) (omega arith) wide)
 
-spelled_up : (n : ℕ) → n ≤ POINT → Spells (decimal n) (numeral false n)
-spelled_up n small =
-    let s = short n small in
-    let some = decimal_some n s.0 in
-    record {
-      sign = [];
-      point = [];
-      power = [];
-      digits = record {
-        whole =
-            digits_tested (decimal n) (decimal_digits n s.0);
-        fraction =
-            refl;
-        exponent = refl;
-        short = omega (arith, s.1);
-      };
-      is_sign = inr (refl, inr refl);
-      is_point = inl (refl, refl, some);
-      is_power = inl (refl, refl, refl);
-      whole = sym (append-nil (decimal n));
-      short = omega (arith, s.1);
-    }
+abbrev sign_text : Bool → List ℕ
+sign_text true = codes "-"
+sign_text false = []
 
-spelled_down : (n : ℕ) → n ≤ POINT → Spells (codes "-" ++ decimal n) (numeral true n)
-spelled_down n small =
+number_spells : (b : Bool) (n : ℕ) → n ≤ POINT → IsSign b (sign_text b) → Spells (sign_text b ++ decimal n) (numeral b n)
+number_spells b n small sign =
     let s = short n small in
     let some = decimal_some n s.0 in
     record {
-      sign = codes "-";
+      sign = sign_text b;
       point = [];
       power = [];
       digits = record {
-        whole =
-            digits_tested (decimal n) (decimal_digits n s.0);
-        fraction =
-            refl;
+        whole = digits_tested (decimal n) (decimal_digits n s.0);
+        fraction = refl;
         exponent = refl;
         short = omega (arith, s.1);
       };
-      is_sign = inl (refl, refl);
+      is_sign = sign;
       is_point = inl (refl, refl, some);
       is_power = inl (refl, refl, refl);
-      whole = ap (λ l. codes "-" ++ l) (sym (append-nil (decimal n)));
-      short = omega (arith, s.1);
+      whole = ap (λ l. sign_text b ++ l) (sym (append-nil (decimal n)));
+      short = fits b;
     }
+  where
+    fits : (t : Bool) → length (sign_text t ++ decimal n) ≤ 64
+    fits true = let s = short n small in omega (arith, s.1)
+    fits false = let s = short n small in omega (arith, s.1)
 
 magnitude : (b : Bool) (n v : ℕ) → n < 10 ^ 64 → IsMagnitude (numeral b n) 0 v → v ≡ n
 unfolding IsMagnitude
@@ -144,28 +126,14 @@ decided b n at (Ok z) small h =
 decided b n at (Err (NotWhole place)) small h = absurd (h.1 n (is_magnitude b n (omega arith)))
 decided b n at (Err (TooBig place)) small h =
     let wide : n < 10 ^ 64 = omega arith in let same = magnitude b n h.1.0 wide h.1.1 in absurd (omega (arith, h.1.2))
-decided b n at (Err (BadNumber place)) small h = absurd h
-decided b n at (Err NoHeader) small h = absurd h
-decided b n at (Err (BadCount place)) small h = absurd h
-decided b n at (Err (BadIndex place)) small h = absurd h
-decided b n at (Err ShortFile) small h = absurd h
-decided b n at (Err (Trailing place)) small h = absurd h
-decided b n at (Err OutOfMemory) small h = absurd h
+decided b n at (Err other) small h = absurd h
 
 pub coordinate_read : (z : ℤ) (at : ℕ) → unsigned_abs z ≤ POINT
     → coordinate_of 0 (record { text = signed_decimal z; at = at }) ≡ Ok z
 coordinate_read (pos n) at small =
-    decided false n at _ small (spelled_decides 0 (record {
-      text =
-          decimal n;
-      at = at;
-    }) (numeral false n) (spelled_up n small))
+    decided false n at _ small (spelled_decides 0 (record { text = decimal n; at = at }) (numeral false n) (number_spells false n small (inr (refl, inr refl))))
 coordinate_read (negsuc n) at small =
-    decided true (suc n) at _ small (spelled_decides 0 (record {
-      text =
-          codes "-" ++ decimal (suc n);
-      at = at;
-    }) (numeral true (suc n)) (spelled_down (suc n) small))
+    decided true (suc n) at _ small (spelled_decides 0 (record { text = codes "-" ++ decimal (suc n); at = at }) (numeral true (suc n)) (number_spells true (suc n) small (inl (refl, refl))))
 
 -- ---- the next word
 
@@ -182,7 +150,7 @@ prefix_all p (b ∷ w) s all none = go (p b) all (prefix_all p w s)
 
 -- a blank is passed over
 pub word_behind_blank : (b : ℕ) (t : List ℕ) (at : ℕ) → is_plain b ≡ false → (b == 35) ≡ false
-    → next_word (record { bytes = b ∷ t; at = at }) ≡ next_word (record { bytes = t; at = suc at })
+    → next_word (record { bytes = b ∷ t; at = at }) ≡ next_word (record { bytes = t; at = at + 1 })
 unfolding next_word gap
 word_behind_blank b t at blank other =
     let n = gap false t in
@@ -190,7 +158,7 @@ word_behind_blank b t at blank other =
     ap (λ (x : Bool). if x then 0 else gap (b == 35) t + 1) blank ∙ ap (λ (x : Bool). gap x t + 1) other in
     let bytes : drop (gap false t + 1) (b ∷ t) ≡ drop (gap false t) t =
     ap (λ (k : ℕ). drop k (b ∷ t)) (add-one (gap false t)) in
-    let place : at + (gap false t + 1) ≡ suc at + gap false t = omega arith in
+    let place : at + (gap false t + 1) ≡ at + 1 + gap false t = omega arith in
     ap (λ (k : ℕ). word_in_front (record { bytes = drop k (b ∷ t); at = at + k })) one
     ∙ (λ i. word_in_front (record { bytes = bytes i; at = place i }))
 
@@ -209,50 +177,22 @@ pub word_front : (w s : List ℕ) (at : ℕ) → list_all is_plain w ≡ true �
     ≡ (Some (record { text = w; at = at }), record { bytes = s; at = at + length w })
 unfolding next_word
 word_front w s at all some none =
-    let n : prefix_len is_plain (w ++ s) ≡ length w = prefix_all is_plain w s all none in
-    let far : (length w == 0) ≡ false = not_zero (length w) some in
     let here : at + 0 ≡ at = omega arith in
     ap (λ (k : ℕ). word_in_front (record { bytes = drop k (w ++ s); at = at + k })) (no_gap w s all some)
     ∙ ap (λ (k : ℕ). word_in_front (record { bytes = w ++ s; at = k })) here
-    ∙ (λ i. if n i == 0 then (
-      None,
-      record {
-        bytes = w ++ s;
-        at =
-            at;
-      },
-    ) else (
-      Some (record { text = take (n i) (w ++ s); at = at }),
-      record {
-        bytes =
-            drop (n i) (w ++ s);
-        at = at + n i;
-      },
-    ))
-    ∙ ap (λ (x : Bool). if x then (
-      None,
-      record {
-        bytes = w ++ s;
-        at =
-            at;
-      },
-    ) else (
-      Some (record { text = take (length w) (w ++ s); at = at }),
-      record {
-        bytes =
-            drop (length w) (w ++ s);
-        at = at + length w;
-      },
-    )) far
-    ∙ (λ i. (
-      Some (record { text = take-append_seam w s i; at = at }),
-      record {
-        bytes =
-            drop-append_seam w s i;
-        at = at + length w;
-      },
-    ))
+    ∙ ap (front (w ++ s)) (prefix_all is_plain w s all none)
+    ∙ ap (λ (x : Bool). if x then nothing_found (w ++ s) else found (w ++ s) (length w)) (not_zero (length w) some)
+    ∙ (λ i. (Some (record { text = take-append_seam w s i; at = at }), record { bytes = drop-append_seam w s i; at = at + length w }))
   where
+    nothing_found : List ℕ → Option Word × Rest
+    nothing_found bs = (None, record { bytes = bs; at = at })
+
+    found : List ℕ → ℕ → Option Word × Rest
+    found bs n = (Some (record { text = take n bs; at = at }), record { bytes = drop n bs; at = at + n })
+
+    front : List ℕ → ℕ → Option Word × Rest
+    front bs n = if n == 0 then nothing_found bs else found bs n
+
     not_zero : (k : ℕ) → 0 < k → (k == 0) ≡ false
     not_zero k h = grind (arith, nat_tests)
 

@@ -9,7 +9,7 @@ use Rattle.staat_off.specs.declared.coordinate.TheConstants.{FAR, TOO_MANY}
 use Rattle.staat_off.specs.declared.trim.TheConstants.{BEYOND}
 use Rattle.staat_limits.specs.declared.limits.TheConstants.{MOST_DIGITS}
 use Rattle.staat_off.specs.declared.refusal.OffRefusal.{OffRefusal}
-use Rattle.staat_off.specs.declared.refusal.OffRefusal.TheVariants.{BadCount, BadIndex, BadNumber, NoHeader, NotWhole, OutOfMemory, ShortFile, TooBig, Trailing}
+use Rattle.staat_off.specs.declared.refusal.OffRefusal.TheVariants.{BadNumber, NotWhole, TooBig}
 use Rattle.staat_off.specs.Coordinates.{coordinate_of, decision_of, denominator, numerator, quotient_of, within_limit}
 use Rattle.staat_off.specs.Numerals.{Numeral, numeral_of}
 use Rattle.staat_off.specs.Spelling.{Spells}
@@ -98,13 +98,7 @@ decided_by_quotient k n at (Err (NotWhole place)) h =
     ap (λ p. Err (NotWhole p)) h.0
     ∙ at_rest n.is_negative at (numerator n k % denominator n k) (numerator n k / denominator n k)
     (λ e. h.1 (numerator n k / denominator n k) (by_one_power n k (numerator n k / denominator n k) (no_rest (numerator n k) (denominator n k) e)))
-decided_by_quotient k n at (Err NoHeader) h = absurd h
-decided_by_quotient k n at (Err (BadNumber place)) h = absurd h
-decided_by_quotient k n at (Err (BadCount place)) h = absurd h
-decided_by_quotient k n at (Err (BadIndex place)) h = absurd h
-decided_by_quotient k n at (Err ShortFile) h = absurd h
-decided_by_quotient k n at (Err (Trailing place)) h = absurd h
-decided_by_quotient k n at (Err OutOfMemory) h = absurd h
+decided_by_quotient k n at (Err other) h = absurd h
 
 -- ---- the quotient decides
 

@@ -12,26 +12,12 @@ with_front front read = resumed read (λ x. return (front ++ x))
 
 -- a refusal ends all that follows
 pub refused_on : {A B : Type 0} (e : OffRefusal) (read : Result (A × Rest) OffRefusal) (next : A → Reader B) → Refuses e read → Refuses e (resumed read next)
-refused_on refusal.NoHeader read next h = ap (λ r. resumed r next) h
-refused_on (refusal.BadNumber at) read next h = ap (λ r. resumed r next) h
-refused_on (refusal.NotWhole at) read next h = ap (λ r. resumed r next) h
-refused_on (refusal.TooBig at) read next h = ap (λ r. resumed r next) h
-refused_on (refusal.BadCount at) read next h = ap (λ r. resumed r next) h
-refused_on (refusal.BadIndex at) read next h = ap (λ r. resumed r next) h
-refused_on refusal.ShortFile read next h = ap (λ r. resumed r next) h
-refused_on (refusal.Trailing at) read next h = ap (λ r. resumed r next) h
 refused_on refusal.OutOfMemory read next h = tt
+refused_on e read next h = ap (λ r. resumed r next) h
 
 pub refuses_by : {A : Type 0} (e : OffRefusal) (read : Result A OffRefusal) → read ≡ Err e → Refuses e read
-refuses_by refusal.NoHeader read h = h
-refuses_by (refusal.BadNumber at) read h = h
-refuses_by (refusal.NotWhole at) read h = h
-refuses_by (refusal.TooBig at) read h = h
-refuses_by (refusal.BadCount at) read h = h
-refuses_by (refusal.BadIndex at) read h = h
-refuses_by refusal.ShortFile read h = h
-refuses_by (refusal.Trailing at) read h = h
 refuses_by refusal.OutOfMemory read h = tt
+refuses_by e read h = h
 
 module _ {A : Type 0} (read : Reader A) where
   one_more : (front : List A) (x : A) (rest : Result (List A × Rest) OffRefusal) → with_front front (resumed rest (λ xs. return (x ∷ xs))) ≡ with_front (front ++ x ∷ []) rest

@@ -1,7 +1,5 @@
-use Rattle.std.proofs.Common.{◌∷◌, ◌++◌, [], ◌∙◌, ap, sym, subst, arith, map, All}
-use Rattle.std.proofs.lemmas.List.{take_all}
+use Rattle.std.proofs.Common.{◌∷◌, ◌++◌, [], ◌∙◌, ap, sym, subst, arith, All}
 use Rattle.std.proofs.lemmas.List.Elements.{All-append, All-cons, All-nil}
-use Rattle.staat_explode.specs.Boxes.{box_of, points_of}
 use Rattle.staat_explode.specs.Sizes.{AreBounds}
 use Rattle.staat_explode.proofs.Folds.{boxes_more}
 use Rattle.staat_explode.proofs.boxes.boxes_of.Goals as goal
@@ -14,10 +12,3 @@ loop-a-preserved c =
       so_far = value ∙ boxes_more c.args.assembly.now c.loop-a.a c.loop-a.boxes.items (omega (arith, c.parts-a-end.ensures.count)) c.loop-a.invariant.so_far;
       size = subst (All AreBounds) (sym items) (All-append AreBounds c.loop-a.boxes.items (c.box_of.result ∷ []) c.loop-a.invariant.size (All-cons AreBounds c.box_of.result [] c.box_of.ensures.size (All-nil AreBounds)));
     }
-
-pub returns : goal.returns
-returns c = record {
-  boxes = c.loop-a.invariant.so_far
-      ∙ ap (map (λ part. box_of (points_of part))) (take_all c.loop-a.a c.args.assembly.now (omega (arith, c.parts-a-end.ensures.count, c.loop-a-test.false)));
-  size = c.loop-a.invariant.size;
-}

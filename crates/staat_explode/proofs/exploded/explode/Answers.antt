@@ -24,42 +24,22 @@ pub placed_of-requires-clause-nodes : goal.placed_of-requires-clause-nodes
 placed_of-requires-clause-nodes c =
     omega (arith, few_nodes c.args.sound.now (length c.args.sound.now) (plan_of c.args.tree.now) c.requires.good, c.parts-parts.ensures.assembly.at_most, ap length c.assembly-assembly.ensures.assembly)
 
-pub returns-clause-exact : goal.returns-clause-exact
-returns-clause-exact c =
+pub returns : goal.returns
+returns c =
     let sound = c.args.sound.now in
     let plan = plan_of c.args.tree.now in
     let same = c.assembly-assembly.ensures.assembly in
     let ok = c.in_ok-placed.ensures in
-    let placed : c.as_slice.result.now ≡ shifted_of (boxes_of c.args.sound.now) (plan_of c.args.tree.now) = c.as_slice.ensures.value ∙ ok.0 ∙ ap (λ (a : List Part). shifted_of (boxes_of a) (plan_of c.args.tree.now)) same in
-    let count : c.parts-parts.result ≡ length c.args.sound.now = c.parts-parts.ensures.count ∙ ap length c.assembly-assembly.ensures.assembly in
-    let value : c.from_vec.result ≡ shifts_of c.args.sound.now (plan_of c.args.tree.now) = c.from_vec.ensures ∙ c.in_ok-shifts.ensures ∙ (λ i. map (vector_of_part (placed i)) (range_with_len 0 (count i))) in
-    (value, subst (λ (a : List Part). AllNear (boxes_of a) 0 plan) same ok.2)
-
-pub returns-clause-sums : goal.returns-clause-sums
-returns-clause-sums c =
-    let sound = c.args.sound.now in
-    let plan = plan_of c.args.tree.now in
-    let same = c.assembly-assembly.ensures.assembly in
-    let ok = c.in_ok-placed.ensures in
-    let placed : c.as_slice.result.now ≡ shifted_of (boxes_of c.args.sound.now) (plan_of c.args.tree.now) = c.as_slice.ensures.value ∙ ok.0 ∙ ap (λ (a : List Part). shifted_of (boxes_of a) (plan_of c.args.tree.now)) same in
-    let count : c.parts-parts.result ≡ length c.args.sound.now = c.parts-parts.ensures.count ∙ ap length c.assembly-assembly.ensures.assembly in
-    let value : c.from_vec.result ≡ shifts_of c.args.sound.now (plan_of c.args.tree.now) = c.from_vec.ensures ∙ c.in_ok-shifts.ensures ∙ (λ i. map (vector_of_part (placed i)) (range_with_len 0 (count i))) in
-    subst (AreSums plan) (sym value) (sums sound plan c.requires.good)
-
-pub returns-clause-apart : goal.returns-clause-apart
-returns-clause-apart c =
-    let sound = c.args.sound.now in
-    let plan = plan_of c.args.tree.now in
-    let same = c.assembly-assembly.ensures.assembly in
-    let ok = c.in_ok-placed.ensures in
-    let placed : c.as_slice.result.now ≡ shifted_of (boxes_of c.args.sound.now) (plan_of c.args.tree.now) = c.as_slice.ensures.value ∙ ok.0 ∙ ap (λ (a : List Part). shifted_of (boxes_of a) (plan_of c.args.tree.now)) same in
-    let count : c.parts-parts.result ≡ length c.args.sound.now = c.parts-parts.ensures.count ∙ ap length c.assembly-assembly.ensures.assembly in
-    let value : c.from_vec.result ≡ shifts_of c.args.sound.now (plan_of c.args.tree.now) = c.from_vec.ensures ∙ c.in_ok-shifts.ensures ∙ (λ i. map (vector_of_part (placed i)) (range_with_len 0 (count i))) in
-    subst (StandApart sound) (sym value) (apart sound plan c.requires.good)
-
-pub returns-clause-near : goal.returns-clause-near
-returns-clause-near c =
-    let value = c.from_vec.ensures ∙ c.in_ok-shifts.ensures in
     let items = c.as_slice.ensures.value in
-    let count = length (boxes_of c.assembly-assembly.result.now) in
-    subst (All (IsWithin FARTHEST)) (sym value) (all_near count c.parts-parts.result c.as_slice.result.now (subst (All (IsShifted count)) (sym items) c.in_ok-placed.ensures.1))
+    let boxes = length (boxes_of c.assembly-assembly.result.now) in
+    let placed : c.as_slice.result.now ≡ shifted_of (boxes_of c.args.sound.now) (plan_of c.args.tree.now) =
+    items ∙ ok.0 ∙ ap (λ (a : List Part). shifted_of (boxes_of a) (plan_of c.args.tree.now)) same in
+    let count : c.parts-parts.result ≡ length c.args.sound.now = c.parts-parts.ensures.count ∙ ap length same in
+    let found = c.from_vec.ensures ∙ c.in_ok-shifts.ensures in
+    let value : c.from_vec.result ≡ shifts_of c.args.sound.now (plan_of c.args.tree.now) = found ∙ (λ i. map (vector_of_part (placed i)) (range_with_len 0 (count i))) in
+    record {
+      exact = (value, subst (λ (a : List Part). AllNear (boxes_of a) 0 plan) same ok.2);
+      sums = subst (AreSums plan) (sym value) (sums sound plan c.requires.good);
+      apart = subst (StandApart sound) (sym value) (apart sound plan c.requires.good);
+      near = subst (All (IsWithin FARTHEST)) (sym found) (all_near boxes c.parts-parts.result c.as_slice.result.now (subst (All (IsShifted boxes)) (sym items) ok.1));
+    }

@@ -9,9 +9,6 @@ use Rattle.staat_explode.specs.Splits.{HasFar}
 use Rattle.staat_explode.proofs.Exploding.{refused_on}
 use Rattle.staat_explode.proofs.exploded.parted.Goals as goal
 
-pub all_moved_on-requires : goal.all_moved_on-requires
-all_moved_on-requires c = record { near = λ k d lt. (c.requires.moved k d lt).near; size = c.requires.size }
-
 pub returns : goal.returns
 returns c =
     let items = c.in_ok-extend_from_slice.ensures.items in

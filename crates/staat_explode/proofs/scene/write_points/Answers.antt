@@ -5,7 +5,7 @@ use Rattle.staat_vec.specs.declared.vector.TheConstants.{POINT}
 use Rattle.staat_vec.specs.Vectors.{IsWithin, plus}
 use Rattle.staat_explode.specs.Scenes.{point_line}
 use Rattle.staat_explode.specs.Sheets.{AddsText}
-use Rattle.staat_explode.proofs.Lines.{adds_none, adds_then, line_more}
+use Rattle.staat_explode.proofs.Lines.{adds_then, line_more}
 use Rattle.staat_explode.proofs.scene.write_points.Goals as goal
 
 pub loop-vertex-preserved : goal.loop-vertex-preserved
@@ -26,18 +26,6 @@ pub placed-requires-clause-p : goal.placed-requires-clause-p
 placed-requires-clause-p c =
     let same = c.point.ensures ∙ c.vertex-item.is in
     subst (IsWithin POINT) (sym same) (c.requires.points c.loop-vertex.vertex-index c.vertex-item.result c.loop-vertex-test.true)
-
-pub write-requires : goal.write-requires
-write-requires c = omega (arith, c.loop-vertex.invariant.room, c.requires.room, c.loop-vertex-test.true)
-
-pub placed-requires-clause-at : goal.placed-requires-clause-at
-placed-requires-clause-at c = c.requires.at
-
-pub placed-requires-clause-shift : goal.placed-requires-clause-shift
-placed-requires-clause-shift c = c.requires.shift
-
-pub loop-vertex-init : goal.loop-vertex-init
-loop-vertex-init c = record { text = adds_none c.args.sheet.now; room = omega arith }
 
 pub returns-clause-text : goal.returns-clause-text
 returns-clause-text c =
