@@ -18,6 +18,9 @@ union_single s one p e = same_members (set.union s one) (set.insert s p)
     (λ q h. (has-insert s p q).1 (⊎_elim {C = (q ≡ p) ⊎ Has s q} (λ a. inr a) (λ b. inl ((has-single p q).0 (subst (λ t. Has t q) e b))) ((has-union s one q).0 h)))
     (λ q h. (has-union s one q).1 (⊎_elim {C = Has s q ⊎ Has one q} (λ a. inr (subst (λ t. Has t q) (sym e) ((has-single p q).1 a))) (λ b. inl b) ((has-insert s p q).0 h)))
 
+pub leads_by : (w reached : PartSet) (p q from to : ℕ) → p ≡ from → q ≡ to → ReachesNew w reached from to → ReachesNew w reached p q
+leads_by w reached p q from to e f h = subst (λ n. ReachesNew w reached n q) (sym e) (subst (λ n. ReachesNew w reached from n) (sym f) h)
+
 module _ (step : Arc → ℕ × ℕ) (w start : PartSet) (arcs : List Arc) where
   abbrev pub Whole : Type 0
   Whole = ReachesAll w start (map step arcs)

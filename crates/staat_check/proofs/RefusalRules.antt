@@ -130,9 +130,8 @@ few_lines witnesses each few =
 pub lines_fit : (witnesses : List Witness) (k lines : ℕ) (w : Witness) → k < length witnesses → w ≡ get_or witnesses k w → lines ≡ sum_by witness_size (take k witnesses) → lines + witness_size w ≤ sum_by witness_size witnesses
 lines_fit witnesses k lines w lt is e = omega (arith, e, ap witness_size is, sum_by_more_le witness_size witnesses k w lt)
 
-pub lines_more : (witnesses : List Witness) (k lines : ℕ) (w : Witness) (outs ins : List Arc) → k < length witnesses → w ≡ get_or witnesses k w → outs ≡ w.outs → ins ≡ w.ins → lines ≡ sum_by witness_size (take k witnesses)
-    → lines + (1 + length outs + length ins) ≡ sum_by witness_size (take (k + 1) witnesses)
-lines_more witnesses k lines w outs ins lt is outs_are ins_are e = omega (arith, e, ap length outs_are, ap length ins_are, ap witness_size is, sum_by_more witness_size witnesses k w lt)
+pub lines_more : (witnesses : List Witness) (k lines here : ℕ) (w : Witness) → k < length witnesses → w ≡ get_or witnesses k w → here ≡ witness_size w → lines ≡ sum_by witness_size (take k witnesses) → lines + here ≡ sum_by witness_size (take (k + 1) witnesses)
+lines_more witnesses k lines here w lt is size e = omega (arith, e, size, ap witness_size is, sum_by_more witness_size witnesses k w lt)
 
 -- ---- reasons
 

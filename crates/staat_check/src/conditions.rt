@@ -32,42 +32,17 @@ pub fn both_normals(alloc: Global, planes: &[Normal]) -> Result<Vec<Normal>, Out
     Ok(normals)
 }
 
-// the number, among the normals of both sides, of a facet on the plane k
-fn number_ahead(planes: &[Normal], k: usize, facet: V3) -> usize
-    requires facet { IsTableFacet planes.now facet }
-    requires plane { slice_get planes.now k ≡ Some (canon facet) }
-    ensures { slice_get (both_sides planes.now) result ≡ Some facet }
-{
-    if is_same(canon(facet), facet) {
-        k
-    } else {
-        planes.len() + k
-    }
-}
-
-// the number of its opposite
-fn number_behind(planes: &[Normal], k: usize, facet: V3) -> usize
-    requires facet { IsTableFacet planes.now facet }
-    requires plane { slice_get planes.now k ≡ Some (canon facet) }
-    ensures { slice_get (both_sides planes.now) result ≡ Some (negative facet) }
-{
-    if is_same(canon(facet), facet) {
-        planes.len() + k
-    } else {
-        k
-    }
-}
-
-// the number of the facet, or of its opposite
+// the number, among the normals of both sides, of a facet on the plane k, or of its opposite
 fn number_of(planes: &[Normal], k: usize, facet: V3, turned: bool) -> usize
     requires facet { IsTableFacet planes.now facet }
     requires plane { slice_get planes.now k ≡ Some (canon facet) }
     ensures { slice_get (both_sides planes.now) result ≡ Some (turned_if turned facet) }
 {
-    if turned {
-        number_behind(planes, k, facet)
+    let ahead = is_same(canon(facet), facet);
+    if ahead == turned {
+        planes.len() + k
     } else {
-        number_ahead(planes, k, facet)
+        k
     }
 }
 
