@@ -9,17 +9,13 @@ use Rattle.staat_model.specs.Reasons.{witness_size}
 use Rattle.staat_check.proofs.RefusalRules.{bad_arc_reason, few_lines, refusal_said}
 use Rattle.staat_check.proofs.refusal.judge_by.Goals as goal
 
-pub first_free-requires-clause-across : goal.first_free-requires-clause-across
-first_free-requires-clause-across c = c.requires.across
-
-pub first_free-requires-clause-named : goal.first_free-requires-clause-named
-first_free-requires-clause-named c = c.requires.fit.order.named
-
-pub first_free-requires-clause-sizes : goal.first_free-requires-clause-sizes
-first_free-requires-clause-sizes c = c.requires.fit.sizes
-
-pub first_free-requires-clause-few : goal.first_free-requires-clause-few
-first_free-requires-clause-few c = omega (arith, c.requires.fit.order.dir_count)
+pub first_free-requires : goal.first_free-requires
+first_free-requires c = record {
+  across = c.requires.across;
+  named = c.requires.fit.order.named;
+  sizes = c.requires.fit.sizes;
+  few = omega (arith, c.requires.fit.order.dir_count);
+}
 
 pub lines_of-requires : goal.lines_of-requires
 lines_of-requires c = let few : sum_by witness_size c.args.witnesses.now ≤ 33554432 * 63 = few_lines c.args.witnesses.now c.requires.fit.order.each c.requires.fit.order.witness_count in omega (arith, few)
@@ -37,14 +33,12 @@ returns-in-Some c = λ parts made stuck trees.
     bad_arc_reason parts c.args.table.now.of c.args.witnesses.now c.args.dirs.now stuck trees c.args.version c.lines_of.result c.in-Some.place c.lines_of.ensures
     (subst (λ o. MatchOption o (All (IsBlocked parts c.args.witnesses.now) c.args.dirs.now) (FailsFirst (IsBlocked parts c.args.witnesses.now) c.args.dirs.now)) c.in-Some.is (c.in_ok-free.ensures.answer parts made))
 
-pub first_missing-requires-clause-ascending : goal.first_missing-requires-clause-ascending
-first_missing-requires-clause-ascending c = c.requires.fit.order.ascending
-
-pub first_missing-requires-clause-apart : goal.first_missing-requires-clause-apart
-first_missing-requires-clause-apart c = subst NoneParallel (sym c.planes.ensures.is) c.requires.apart
-
-pub first_missing-requires-clause-few : goal.first_missing-requires-clause-few
-first_missing-requires-clause-few c = omega (arith, c.requires.fit.order.dir_count)
+pub first_missing-requires : goal.first_missing-requires
+first_missing-requires c = record {
+  ascending = c.requires.fit.order.ascending;
+  apart = subst NoneParallel (sym c.planes.ensures.is) c.requires.apart;
+  few = omega (arith, c.requires.fit.order.dir_count);
+}
 
 pub returns-in_ok-missing-in-None : goal.returns-in_ok-missing-in-None
 returns-in_ok-missing-in-None c = λ parts made stuck trees.
