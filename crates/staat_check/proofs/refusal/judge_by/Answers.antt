@@ -1,12 +1,13 @@
-use Rattle.std.proofs.Common.{◌<◌, ◌≤◌, ◌*◌, List, arith, refl, subst, sym, All, length}
+use Rattle.std.proofs.Common.{◌+◌, ap, ◌<◌, ◌≤◌, ◌*◌, List, arith, refl, subst, sym, All, length}
 use Rattle.std.specs.Prelude.{sum_by, MatchOption, IfSome}
 use Rattle.staat_vec.specs.declared.vector.V3.{V3}
 use Rattle.staat_vec.specs.Lists.{FailsFirst, IsFirst}
 use Rattle.staat_model.proofs.PlaneLemmas.{NoneParallel}
 use Rattle.staat_model.specs.Certificates.{IsBlocked, IsListed}
 use Rattle.staat_model.specs.Planes.{vertices}
-use Rattle.staat_model.specs.Reasons.{witness_size}
-use Rattle.staat_check.proofs.RefusalRules.{bad_arc_reason, few_lines, refusal_said}
+use Rattle.staat_model.specs.Reasons.{bad_arc, witness_size}
+use Rattle.staat_model.specs.declared.verdict.Reason.TheVariants.{BadArc}
+use Rattle.staat_check.proofs.RefusalRules.{few_lines, refusal_said}
 use Rattle.staat_check.proofs.refusal.judge_by.Goals as goal
 
 pub first_free-requires : goal.first_free-requires
@@ -30,8 +31,9 @@ overflow_add-line-in-Some c =
 
 pub returns-in-Some : goal.returns-in-Some
 returns-in-Some c = λ parts made stuck trees.
-    bad_arc_reason parts c.args.table.now.of c.args.witnesses.now c.args.dirs.now stuck trees c.args.version c.lines_of.result c.in-Some.place c.lines_of.ensures
+    bad_arc c.in-Some.place refl stuck trees
     (subst (λ o. MatchOption o (All (IsBlocked parts c.args.witnesses.now) c.args.dirs.now) (FailsFirst (IsBlocked parts c.args.witnesses.now) c.args.dirs.now)) c.in-Some.is (c.in_ok-free.ensures.answer parts made))
+    (ap (λ n. BadArc (4 + n + c.in-Some.place)) c.lines_of.ensures)
 
 pub first_missing-requires : goal.first_missing-requires
 first_missing-requires c = record {
@@ -42,6 +44,6 @@ first_missing-requires c = record {
 
 pub returns-in_ok-missing-in-None : goal.returns-in_ok-missing-in-None
 returns-in_ok-missing-in-None c = λ parts made stuck trees.
-    refusal_said parts c.args.version c.args.table.now.of c.args.witnesses.now c.args.dirs.now c.args.table.now c.in_ok-missing-in-None.missing c.said_of.result stuck trees refl made
+    refusal_said parts c.args.version c.args.witnesses.now c.args.dirs.now c.args.table.now c.in_ok-missing-in-None.missing c.said_of.result stuck trees made
     (subst (λ o. MatchOption o (All (IsBlocked parts c.args.witnesses.now) c.args.dirs.now) (FailsFirst (IsBlocked parts c.args.witnesses.now) c.args.dirs.now)) c.in-None.is (c.in_ok-free.ensures.answer parts made))
     (subst (λ (planes : List V3). MatchOption c.in_ok-missing-in-None.missing (All (IsListed c.args.version c.args.dirs.now) (vertices planes)) (IsFirst (λ v. IsListed c.args.version c.args.dirs.now v → ⊥) (vertices planes))) c.planes.ensures.is c.in_ok-missing-in-None.ensures) c.said_of.ensures
