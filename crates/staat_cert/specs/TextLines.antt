@@ -119,13 +119,6 @@ abbrev pub ReadsOn : {S C : Type 0} → (List ℕ → C → Type 0) → (S → L
 ReadsOn spells taken old new more = (text : List ℕ) → HasRead spells taken old text
     → HasRead spells taken new (text ++ more)
 
--- the line is whole: a text that was read up to it is read on by its line feed
-abbrev pub EndsLine : {S C : Type 0} → (List ℕ → C → Type 0) → (S → List ℕ → Type 0)
-    → (old new : Progress S) → Type 0
-EndsLine spells taken old new =
-    (text front : List ℕ) → old.line.items ≡ front ++ 10 ∷ [] → old.is_bad ≡ false →
-    IsReadTo spells (taken old.stage) front old.count text → HasRead spells taken new (text ++ 10 ∷ [])
-
 -- no line feed
 abbrev pub is_inner : ℕ → Bool
 is_inner b = not (b == 10)
