@@ -12,23 +12,15 @@ use staat_pairs::{FacetTable, back};
 use staat_vec::{Listed, Normal, OutOfMemory, V3, canon, is_same, neg};
 use std::alloc::Global;
 
-// adds the opposites of the normals
-fn push_opposites(normals: &mut Vec<Normal>, planes: &[Normal]) -> Result<(), OutOfMemory>
-    ensures { OnOk result (normals.new.items ≡ normals.old.items ++ map negative planes.now) }
-{
-    for n in planes {
-        normals.push(Normal::of(neg(n.vector())))?;
-    }
-    Ok(())
-}
-
 /// The normals of both sides of planes: those of the planes, and then their opposites in the same order.
 pub fn both_normals(alloc: Global, planes: &[Normal]) -> Result<Vec<Normal>, OutOfMemory>
     ensures { IfOk result (λ normals. normals.items ≡ both_sides planes.now) }
 {
     let mut normals = Vec::new(alloc);
     normals.extend_from_slice(planes)?;
-    push_opposites(&mut normals, planes)?;
+    for n in planes {
+        normals.push(Normal::of(neg(n.vector())))?;
+    }
     Ok(normals)
 }
 
