@@ -39,20 +39,24 @@ pub returns-then-is_word-6 : goal.returns-then-is_word-6
 unfolding line_from
 returns-then-is_word-6 c =
     let is : c.map-then-is_word-6.result ≡ option_map line.Split (vector_alone DIRECTION c.args.numbers.now) = grind (arith, common_steps) in
-    rw (← c.if-is_word.ensures, ← c.if-is_word-2.ensures, ← c.if-is_word-3.ensures, ← c.if-is_word-4.ensures, ← c.if-is_word-5.ensures, ← c.if-is_word-6.ensures) is
+    rw (← c.if-is_word.ensures, ← c.if-is_word-2.ensures, ← c.if-is_word-3.ensures, ← c.if-is_word-4.ensures)
+    (rw (← c.if-is_word-5.ensures, ← c.if-is_word-6.ensures) is)
 
 pub returns-then-is_word-7 : goal.returns-then-is_word-7
 unfolding line_from
 returns-then-is_word-7 c =
     let is : c.map-then-is_word-7.result ≡ option_map line.Witness (natural_alone LIST_LIMIT c.args.numbers.now) = grind (arith, common_steps) in
-    rw (← c.if-is_word.ensures, ← c.if-is_word-2.ensures, ← c.if-is_word-3.ensures, ← c.if-is_word-4.ensures, ← c.if-is_word-5.ensures, ← c.if-is_word-6.ensures, ← c.if-is_word-7.ensures) is
+    rw (← c.if-is_word.ensures, ← c.if-is_word-2.ensures, ← c.if-is_word-3.ensures, ← c.if-is_word-4.ensures)
+    (rw (← c.if-is_word-5.ensures, ← c.if-is_word-6.ensures, ← c.if-is_word-7.ensures) is)
 
 pub returns-then-is_word-8 : goal.returns-then-is_word-8
 unfolding line_from
 returns-then-is_word-8 c =
-    rw (← c.if-is_word.ensures, ← c.if-is_word-2.ensures, ← c.if-is_word-3.ensures, ← c.if-is_word-4.ensures, ← c.if-is_word-5.ensures, ← c.if-is_word-6.ensures, ← c.if-is_word-7.ensures, ← c.if-is_word-8.ensures) c.bare_line.ensures
+    rw (← c.if-is_word.ensures, ← c.if-is_word-2.ensures, ← c.if-is_word-3.ensures, ← c.if-is_word-4.ensures)
+    (rw (← c.if-is_word-5.ensures, ← c.if-is_word-6.ensures, ← c.if-is_word-7.ensures, ← c.if-is_word-8.ensures) c.bare_line.ensures)
 
 pub returns-else-is_word-8 : goal.returns-else-is_word-8
 unfolding line_from
 returns-else-is_word-8 c =
-    rw (← c.if-is_word.ensures, ← c.if-is_word-2.ensures, ← c.if-is_word-3.ensures, ← c.if-is_word-4.ensures, ← c.if-is_word-5.ensures, ← c.if-is_word-6.ensures, ← c.if-is_word-7.ensures, ← c.if-is_word-8.ensures) c.opening_line.ensures
+    rw (← c.if-is_word.ensures, ← c.if-is_word-2.ensures, ← c.if-is_word-3.ensures, ← c.if-is_word-4.ensures)
+    (rw (← c.if-is_word-5.ensures, ← c.if-is_word-6.ensures, ← c.if-is_word-7.ensures, ← c.if-is_word-8.ensures) c.opening_line.ensures)
