@@ -31,11 +31,7 @@ fn number_of(planes: &[Normal], k: usize, facet: V3, turned: bool) -> usize
     ensures { slice_get (both_sides planes.now) result ≡ Some (turned_if turned facet) }
 {
     let ahead = is_same(canon(facet), facet);
-    if ahead == turned {
-        planes.len() + k
-    } else {
-        k
-    }
+    if ahead == turned { planes.len() + k } else { k }
 }
 
 // adds the numbers of the facets of two pieces, that of the lesser part first, or of their opposites

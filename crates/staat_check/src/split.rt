@@ -23,10 +23,7 @@ pub fn is_across(assembly: &Assembly, s: PartSet, r: PartSet, arc: Arc) -> bool
     requires arc { IsArcInBounds arc }
     ensures { IsTrue result ↔ IsAcross assembly.now s r arc }
 {
-    s.has(arc.a)
-        && r.has(arc.b)
-        && arc.i < assembly.pieces(arc.a)
-        && arc.j < assembly.pieces(arc.b)
+    s.has(arc.a) && r.has(arc.b) && arc.i < assembly.pieces(arc.a) && arc.j < assembly.pieces(arc.b)
 }
 
 // whether the wall shows that the first piece never meets the second along d

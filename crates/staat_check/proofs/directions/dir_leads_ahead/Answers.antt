@@ -12,8 +12,8 @@ leads_ahead_small-requires c = record {
   normals = c.requires.small c.if-small.true;
   direction = c.is_within.ensures.0 c.if-is_within.true;
   numbers = let same = sym (c.as_slice-numbers.ensures ∙ other_default c.args.lists.now c.args.dir.witness c.index-lists-dir.result []
-    c.requires.dir.named c.index-lists-dir.is) in
-    subst (λ (numbers : List ℕ). All (λ k. k < length c.args.normals.now) numbers) same c.requires.dir.numbers;
+      c.requires.dir.named c.index-lists-dir.is) in
+      subst (λ (numbers : List ℕ). All (λ k. k < length c.args.normals.now) numbers) same c.requires.dir.numbers;
 }
 
 pub leads_ahead-requires-clause-direction : goal.leads_ahead-requires-clause-direction
