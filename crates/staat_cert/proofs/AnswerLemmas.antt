@@ -14,6 +14,12 @@ answer_of (whole c) = Ok c
 answer_of (bad_line k) = Err (BadLine k)
 answer_of too_short = Err ShortCert
 
+-- and the reading that an answer is
+abbrev reading_of : Result Certificate CertRefusal → Reading
+reading_of (Ok c) = whole c
+reading_of (Err (BadLine k)) = bad_line k
+reading_of (Err e) = too_short
+
 one_of : (text : List ℕ) (r s : Reading) → IsReading text r → IsReading text s → answer_of r ≡ answer_of s
 one_of text r s g h = ap answer_of (IsReading-unique text r s g h)
 
@@ -21,18 +27,6 @@ pub one_read_answer : (text : List ℕ) (r s : Result Certificate CertRefusal) �
 one_read_answer text (Err OutOfMemory) s g h p q = absurd (p refl)
 one_read_answer text r (Err OutOfMemory) g h p q = absurd (q refl)
 one_read_answer text (Err TooLong) (Err TooLong) g h p q = refl
-one_read_answer text (Err TooLong) (Ok d) g h p q = absurd (omega (arith, g, h.0))
-one_read_answer text (Err TooLong) (Err (BadLine m)) g h p q = absurd (omega (arith, g, h.0))
-one_read_answer text (Err TooLong) (Err ShortCert) g h p q = absurd (omega (arith, g, h.0))
-one_read_answer text (Ok c) (Err TooLong) g h p q = absurd (omega (arith, g.0, h))
-one_read_answer text (Err (BadLine k)) (Err TooLong) g h p q = absurd (omega (arith, g.0, h))
-one_read_answer text (Err ShortCert) (Err TooLong) g h p q = absurd (omega (arith, g.0, h))
-one_read_answer text (Ok c) (Ok d) g h p q = one_of text (whole c) (whole d) g.1 h.1
-one_read_answer text (Ok c) (Err (BadLine m)) g h p q = one_of text (whole c) (bad_line m) g.1 h.1
-one_read_answer text (Ok c) (Err ShortCert) g h p q = one_of text (whole c) too_short g.1 h.1
-one_read_answer text (Err (BadLine k)) (Ok d) g h p q = one_of text (bad_line k) (whole d) g.1 h.1
-one_read_answer text (Err (BadLine k)) (Err (BadLine m)) g h p q = one_of text (bad_line k) (bad_line m) g.1 h.1
-one_read_answer text (Err (BadLine k)) (Err ShortCert) g h p q = one_of text (bad_line k) too_short g.1 h.1
-one_read_answer text (Err ShortCert) (Ok d) g h p q = one_of text too_short (whole d) g.1 h.1
-one_read_answer text (Err ShortCert) (Err (BadLine m)) g h p q = one_of text too_short (bad_line m) g.1 h.1
-one_read_answer text (Err ShortCert) (Err ShortCert) g h p q = refl
+one_read_answer text (Err TooLong) s g h p q = absurd (omega (arith, g, h.0))
+one_read_answer text r (Err TooLong) g h p q = absurd (omega (arith, g.0, h))
+one_read_answer text r s g h p q = one_of text (reading_of r) (reading_of s) g.1 h.1

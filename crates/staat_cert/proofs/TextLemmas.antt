@@ -1,15 +1,17 @@
 -- What has been read of a text of lines: the front of a whole text, or a first bad line.
-use Rattle.std.proofs.Common.{◌≡◌, ◌≢◌, ◌++◌, ◌∷◌, ◌⊎◌, ◌+◌, ℕ, true, List, [], length, All, ap, sym, subst, refl, ◌∙◌, arith, inl, inr, append_assoc, append-nil, length-append}
-use Rattle.std.specs.Prelude.{Bool, Err, Ok, Result}
+use Rattle.std.proofs.Common.{◌≡◌, ◌≢◌, ◌++◌, ◌∷◌, ◌⊎◌, ◌+◌, ◌<◌, ◌≤◌, ℕ, true, false, List, [], length, take, drop, All, ap, sym, subst, refl, ◌∙◌, arith, inl, inr, append_assoc, append-nil, length-append}
+use Rattle.std.specs.Prelude.{Bool, Err, Result}
 use Rattle.std.proofs.lemmas.Grind.{flat_map-append}
-use Rattle.std.proofs.lemmas.List.Elements.{All-head, All-nil, All-tail, All-weaker}
+use Rattle.std.proofs.lemmas.List.{length-take-le, take-append-drop}
+use Rattle.std.proofs.lemmas.List.Elements.{All-append, All-head, All-nil, All-tail, All-take, All-weaker}
+use Rattle.staat_limits.specs.declared.limits.TheConstants.{LINE_LIMIT}
 use Rattle.staat_model.specs.Texts.{HasNoFeed, IsLine, joined}
 use Rattle.staat_model.proofs.OneReading.{with_feed, lines_once, line_some, no_feed_stops}
 use Rattle.staat_model.proofs.Members.{all_back, all_front}
 use Rattle.staat_vec.proofs.ListLaws.{append_not_nil}
 use Rattle.staat_cert.specs.declared.cert_refusal.CertRefusal.{CertRefusal}
-use Rattle.staat_cert.specs.declared.cert_refusal.CertRefusal.TheVariants.{BadLine, ShortCert, TooLong, OutOfMemory}
-use Rattle.staat_cert.specs.TextLines.{AreWholeTexts, BeginsWhole, IsBadBehind, IsCutShort, IsFirstBadOf, IsKeptLine, IsReadTo, lacks_memory}
+use Rattle.staat_cert.specs.declared.cert_refusal.CertRefusal.TheVariants.{OutOfMemory}
+use Rattle.staat_cert.specs.TextLines.{AreWholeTexts, BeginsWhole, IsBadBehind, IsCutShort, IsFirstBadOf, IsKeptLine, IsReadTo, IsToldWhole, lacks_memory}
 
 -- ---- lines of bytes
 
@@ -18,6 +20,11 @@ pub no_line : (l p rest : List ℕ) → IsLine l → HasNoFeed rest → rest ≡
 no_line l p rest a h e =
     let is : rest ≡ a.front ++ 10 ∷ p = e ∙ ap (λ x. x ++ p) a.is ∙ with_feed a.front p in
     no_feed_stops rest a.front [] p h (omega (arith, ap length is, length-append a.front (10 ∷ p))) (append-nil rest ∙ is)
+
+-- nor do they go on with such lines
+no_more : (back : List (List ℕ)) (p rest : List ℕ) → All IsLine back → HasNoFeed rest → rest ≡ joined back ++ p → (back ≡ []) × (rest ≡ p)
+no_more [] p rest a h e = (refl, e)
+no_more (l ∷ back) p rest a h e = absurd (no_line l (joined back ++ p) rest (All-head IsLine l back a) h (e ∙ append_assoc l (joined back) p))
 
 whole_lines : (ls : List (List ℕ)) → All IsKeptLine ls → All IsLine ls
 whole_lines ls h = All-weaker IsKeptLine IsLine (λ l k. k.whole) ls h
@@ -61,13 +68,14 @@ module _ {C : Type 0} (spells : List ℕ → C → Type 0) where
   not_bad texts few l ahead rest kept b a (inr (inr x)) =
       line_some l b.more kept.whole (texts.apart (joined few) (l ++ b.more) x.certificate b.whole x.whole (subst (λ t. spells t b.whole) (append_assoc (joined few) l b.more) b.is))
 
-  -- nor one of these lines
-  none_among : AreWholeTexts spells → (few back : List (List ℕ)) (l ahead rest : List ℕ) → All IsKeptLine (few ++ l ∷ back) → BeginsWhole spells (joined (few ++ l ∷ back))
-      → ahead ≡ joined (l ∷ back) ++ rest → IsBadBehind spells (joined few) ahead → ⊥
-  none_among texts few back l ahead rest each b a bad =
-      let all : joined (few ++ l ∷ back) ≡ (joined few ++ l) ++ joined back = flat_map-append (λ x. x) few (l ∷ back) ∙ sym (append_assoc (joined few) l (joined back)) in
-      not_bad texts few l ahead (joined back ++ rest) (All-head IsKeptLine l back (all_back IsKeptLine few (l ∷ back) each)) (begins_front (joined few ++ l) (joined back) (subst
-      (BeginsWhole spells) all b)) (a ∙ append_assoc l (joined back) rest) bad
+  -- nor is there one before them
+  none_earlier : AreWholeTexts spells → (few many back : List (List ℕ)) (ahead rest : List ℕ) → All IsKeptLine many → BeginsWhole spells (joined many) → IsBadBehind spells (joined few) ahead
+      → many ≡ few ++ back → ahead ≡ joined back ++ rest → (few ≡ many) × (ahead ≡ rest)
+  none_earlier texts few many [] ahead rest each b bad e a = (sym (e ∙ append-nil few), a)
+  none_earlier texts few many (l ∷ back) ahead rest each b bad e a =
+      let all : joined many ≡ (joined few ++ l) ++ joined back = ap joined e ∙ flat_map-append (λ x. x) few (l ∷ back) ∙ sym (append_assoc (joined few) l (joined back)) in
+      absurd (not_bad texts few l ahead (joined back ++ rest) (All-head IsKeptLine l back (all_back IsKeptLine few (l ∷ back) (subst (All IsKeptLine) e each)))
+      (begins_front (joined few ++ l) (joined back) (subst (BeginsWhole spells) all b)) (a ∙ append_assoc l (joined back) rest) bad)
 
   -- a bad line stays the first bad one
   pub bad_more : (bytes more : List ℕ) (k : ℕ) → IsFirstBadOf spells bytes k → IsFirstBadOf spells (bytes ++ more) k
@@ -104,6 +112,39 @@ module _ {C : Type 0} (spells : List ℕ → C → Type 0) (taken : List ℕ →
     bad = b;
   }
 
+  -- bytes after a whole text
+  pub bad_after_end : (more : List ℕ) (is_whole : Bool) → 0 < length more → is_whole ≡ true → ((t : List ℕ) → taken t → IsToldWhole spells t is_whole) → IsFirstBadOf spells (text ++ more) (count + 1)
+  bad_after_end more is_whole some e told =
+      let c : (c : C) × spells (joined h.lines) c = subst (IsToldWhole spells (joined h.lines)) e (told (joined h.lines) h.took) in
+      bad_at more (inr (inr (record { certificate = c.0; whole = c.1; some = λ none. omega (arith, some, ap length none, length-append rest more) })))
+
+  -- bytes with which the line that follows becomes too long
+  pub bad_too_long : (more : List ℕ) → HasNoFeed more → LINE_LIMIT ≤ length rest + length more → IsFirstBadOf spells (text ++ more) (count + 1)
+  bad_too_long more inner many =
+      let all : List ℕ = rest ++ more in
+      bad_at more (inr (inl (record {
+        line = take LINE_LIMIT all;
+        rest = drop LINE_LIMIT all;
+        is = sym (take-append-drop LINE_LIMIT all);
+        long = length-take-le LINE_LIMIT all (omega (arith, many, length-append rest more));
+        no_feed = All-take (λ b. b ≢ 10) LINE_LIMIT all (All-append (λ b. b ≢ 10) rest more h.no_feed inner);
+      })))
+
+  -- bytes of the line that follows
+  pub goes_on : (more : List ℕ) (is_whole : Bool) → is_whole ≡ false → ((t : List ℕ) → taken t → IsToldWhole spells t is_whole) → HasNoFeed more → length rest + length more < LINE_LIMIT
+      → IsReadTo spells taken (rest ++ more) count (text ++ more)
+  goes_on more is_whole e told inner few = record {
+    lines = h.lines;
+    is = ap (λ x. x ++ more) h.is ∙ append_assoc (joined h.lines) rest more;
+    number = h.number;
+    each = h.each;
+    took = h.took;
+    begins = h.begins;
+    no_feed = All-append (λ b. b ≢ 10) rest more h.no_feed inner;
+    short = omega (arith, few, length-append rest more);
+    closed = λ c k. absurd ((subst (IsToldWhole spells (joined h.lines)) e (told (joined h.lines) h.took)) c k);
+  }
+
   -- what follows the lines is not bad
   not_bad_rest : IsBadBehind spells (joined h.lines) rest → ⊥
   not_bad_rest (inl w) = no_line w.line w.rest rest w.whole h.no_feed w.is
@@ -114,22 +155,13 @@ module _ {C : Type 0} (spells : List ℕ → C → Type 0) (taken : List ℕ →
   pub at_no_bad : AreWholeTexts spells → (k : ℕ) → IsFirstBadOf spells text k → ⊥
   at_no_bad texts k x =
       elim (nested x.before h.lines x.ahead rest x.lines lines_are (sym x.is ∙ h.is)) [
-        | inl g ↦ shorter x.before g.back x.ahead x.bad g.is g.ahead_is
-        | inr g ↦ longer x.before g.back x.ahead x.bad x.lines g.is g.ahead_is
+        | inl g ↦ (let e = none_earlier spells texts x.before h.lines g.back x.ahead rest h.each h.begins x.bad g.is g.ahead_is in same e.0 e.1)
+        | inr g ↦ (let e = no_more g.back x.ahead rest (all_back IsLine h.lines g.back (subst (All IsLine) g.is x.lines)) h.no_feed g.ahead_is in
+            same (g.is ∙ ap (λ back. h.lines ++ back) e.0 ∙ append-nil h.lines) (sym e.1))
       ]
     where
-      same : (before : List (List ℕ)) (ahead : List ℕ) → IsBadBehind spells (joined before) ahead → before ≡ h.lines → ahead ≡ rest → ⊥
-      same before ahead bad e a = not_bad_rest (subst (IsBadBehind spells (joined h.lines)) a (subst (λ (f : List (List ℕ)). IsBadBehind spells (joined f) ahead) e bad))
-
-      shorter : (before back : List (List ℕ)) (ahead : List ℕ) → IsBadBehind spells (joined before) ahead → h.lines ≡ before ++ back → ahead ≡ joined back ++ rest → ⊥
-      shorter before [] ahead bad e a = same before ahead bad (sym (e ∙ append-nil before)) a
-      shorter before (l ∷ back) ahead bad e a =
-          none_among spells texts before back l ahead rest (subst (All IsKeptLine) e h.each) (subst (λ (ls : List (List ℕ)). BeginsWhole spells (joined ls)) e h.begins) a bad
-
-      longer : (before back : List (List ℕ)) (ahead : List ℕ) → IsBadBehind spells (joined before) ahead → All IsLine before → before ≡ h.lines ++ back → rest ≡ joined back ++ ahead → ⊥
-      longer before [] ahead bad f e a = same before ahead bad (e ∙ append-nil h.lines) (sym a)
-      longer before (l ∷ back) ahead bad f e a =
-          no_line l (joined back ++ ahead) rest (All-head IsLine l back (all_back IsLine h.lines (l ∷ back) (subst (All IsLine) e f))) h.no_feed (a ∙ append_assoc l (joined back) ahead)
+      same : x.before ≡ h.lines → x.ahead ≡ rest → ⊥
+      same e a = not_bad_rest (subst (IsBadBehind spells (joined h.lines)) a (subst (λ (f : List (List ℕ)). IsBadBehind spells (joined f) x.ahead) e x.bad))
 
   -- all of the text is lines
   all_lines : rest ≡ [] → text ≡ joined h.lines
@@ -143,22 +175,15 @@ module _ {C : Type 0} (spells : List ℕ → C → Type 0) (taken : List ℕ →
   pub cut_short : AreWholeTexts spells → ((c : C) → spells (joined h.lines) c → ⊥) → IsCutShort spells text
   cut_short texts none = record { no_text = no_text; no_bad_line = at_no_bad texts }
     where
-      on : (c : C) → spells text c → (back : List (List ℕ)) → All IsLine (h.lines ++ back) → rest ≡ joined back ++ [] → ⊥
-      on c k [] f a = none c (subst (λ t. spells t c) (all_lines a) k)
-      on c k (l ∷ back) f a = no_line l (joined back ++ []) rest (All-head IsLine l back (all_back IsLine h.lines (l ∷ back) f)) h.no_feed (a ∙ append_assoc l (joined back) [])
-
-      off : (c : C) → spells text c → (ls back : List (List ℕ)) → All IsLine (ls ++ back) → [] ≡ joined back ++ rest → ⊥
-      off c k ls [] f a = none c (subst (λ t. spells t c) (all_lines (sym a)) k)
-      off c k ls (l ∷ back) f a = line_some l (joined back ++ rest) (All-head IsLine l back (all_back IsLine ls (l ∷ back) f)) (sym (append_assoc l (joined back) rest) ∙ sym a)
-
       no_text : (c : C) → spells text c → ⊥
       no_text c k =
           let w = texts.lines text c k in
           let each = whole_lines w.lines w.each in
-          elim (nested h.lines w.lines rest [] lines_are each (sym h.is ∙ w.is ∙ sym (append-nil (joined w.lines)))) [
-            | inl g ↦ on c k g.back (subst (All IsLine) g.is each) g.ahead_is
-            | inr g ↦ off c k w.lines g.back (subst (All IsLine) g.is lines_are) g.ahead_is
-          ]
+          let nothing : rest ≡ [] = elim (nested h.lines w.lines rest [] lines_are each (sym h.is ∙ w.is ∙ sym (append-nil (joined w.lines)))) [
+            | inl g ↦ (no_more g.back [] rest (all_back IsLine h.lines g.back (subst (All IsLine) g.is each)) h.no_feed g.ahead_is).1
+            | inr g ↦ sym (no_more g.back rest [] (all_back IsLine w.lines g.back (subst (All IsLine) g.is lines_are)) (All-nil (λ b. b ≢ 10)) g.ahead_is).1
+          ] in
+          none c (subst (λ t. spells t c) (all_lines nothing) k)
 
 -- ---- one first bad line
 
@@ -169,28 +194,17 @@ module _ {C : Type 0} (spells : List ℕ → C → Type 0) (texts : AreWholeText
       let w = texts.lines (joined ls ++ b.more) b.whole b.is in
       elim (nested ls w.lines b.more [] each (whole_lines w.lines w.each) (w.is ∙ sym (append-nil (joined w.lines)))) [
         | inl g ↦ all_front IsKeptLine ls g.back (subst (All IsKeptLine) g.is w.each)
-        | inr g ↦ longer w.lines w.each g.back g.is g.ahead_is
+        | inr g ↦ (let e = no_more g.back b.more [] (all_back IsLine w.lines g.back (subst (All IsLine) g.is each)) (All-nil (λ b. b ≢ 10)) g.ahead_is in
+            subst (All IsKeptLine) (sym (g.is ∙ ap (λ back. w.lines ++ back) e.0 ∙ append-nil w.lines)) w.each)
       ]
-    where
-      longer : (many : List (List ℕ)) → All IsKeptLine many → (back : List (List ℕ)) → ls ≡ many ++ back → [] ≡ joined back ++ b.more → All IsKeptLine ls
-      longer many kept [] is a = subst (All IsKeptLine) (sym (is ∙ append-nil many)) kept
-      longer many kept (l ∷ back) is a = absurd (line_some l (joined back ++ b.more) (All-head IsLine l back (all_back IsLine many (l ∷ back) (subst (All IsLine) is each))) (sym (append_assoc l
-          (joined back) b.more) ∙ sym a))
-
-  -- a bad line after fewer lines of the same bytes
-  earlier : (few many back : List (List ℕ)) (ahead rest : List ℕ) → All IsKeptLine many → BeginsWhole spells (joined many) → IsBadBehind spells (joined few) ahead → many ≡ few ++ back
-      → ahead ≡ joined back ++ rest → length few ≡ length many
-  earlier few many [] ahead rest each b bad e a = sym (ap length (e ∙ append-nil few))
-  earlier few many (l ∷ back) ahead rest each b bad e a =
-      absurd (none_among spells texts few back l ahead rest (subst (All IsKeptLine) e each) (subst (λ (ls : List (List ℕ)). BeginsWhole spells (joined ls)) e b) a bad)
 
   pub one_bad : (bytes : List ℕ) (j k : ℕ) → IsFirstBadOf spells bytes j → IsFirstBadOf spells bytes k → j ≡ k
   one_bad bytes j k x y =
-      let counts : length x.before ≡ length y.before = elim (nested x.before y.before x.ahead y.ahead x.lines y.lines (sym x.is ∙ y.is)) [
-        | inl g ↦ earlier x.before y.before g.back x.ahead y.ahead (kept_lines y.before y.lines y.begins) y.begins x.bad g.is g.ahead_is
-        | inr g ↦ sym (earlier y.before x.before g.back y.ahead x.ahead (kept_lines x.before x.lines x.begins) x.begins y.bad g.is g.ahead_is)
+      let same : x.before ≡ y.before = elim (nested x.before y.before x.ahead y.ahead x.lines y.lines (sym x.is ∙ y.is)) [
+        | inl g ↦ (none_earlier spells texts x.before y.before g.back x.ahead y.ahead (kept_lines y.before y.lines y.begins) y.begins x.bad g.is g.ahead_is).0
+        | inr g ↦ sym (none_earlier spells texts y.before x.before g.back y.ahead x.ahead (kept_lines x.before x.lines x.begins) x.begins y.bad g.is g.ahead_is).0
       ] in
-      omega (arith, counts, x.number, y.number)
+      omega (arith, ap length same, x.number, y.number)
 
   -- a whole text has none
   pub no_bad_in_whole : (bytes : List ℕ) (c : C) (k : ℕ) → spells bytes c → IsFirstBadOf spells bytes k → ⊥
@@ -215,8 +229,5 @@ pub memory_told : {C : Type 0} (b : Bool) (r : Result C CertRefusal) → b ≡ l
 memory_told b r is e = is ∙ ap lacks_memory e
 
 pub memory_is : {C : Type 0} (b : Bool) (r : Result C CertRefusal) → b ≡ lacks_memory r → b ≡ true → r ≡ Err OutOfMemory
-memory_is b (Ok x) is e = cc
-memory_is b (Err (BadLine k)) is e = cc
-memory_is b (Err ShortCert) is e = cc
-memory_is b (Err TooLong) is e = cc
 memory_is b (Err OutOfMemory) is e = refl
+memory_is b r is e = cc

@@ -119,21 +119,20 @@ abbrev pub ReadsOn : {S C : Type 0} → (List ℕ → C → Type 0) → (S → L
 ReadsOn spells taken old new more = (text : List ℕ) → HasRead spells taken old text
     → HasRead spells taken new (text ++ more)
 
--- the line is whole: a text that was read up to it is read on by its line feed
-abbrev pub EndsLine : {S C : Type 0} → (List ℕ → C → Type 0) → (S → List ℕ → Type 0)
-    → (old new : Progress S) → Type 0
-EndsLine spells taken old new =
-    (text front : List ℕ) → old.line.items ≡ front ++ 10 ∷ [] → old.is_bad ≡ false →
-    Stands spells (taken old.stage) front old.count false text → HasRead spells taken new (text ++ 10 ∷ [])
-
 -- no line feed
 abbrev pub is_inner : ℕ → Bool
 is_inner b = not (b == 10)
+
+-- nothing, or a line feed in front
+abbrev pub IsAtFeed : List ℕ → Type 0
+IsAtFeed [] = Unit {0}
+IsAtFeed (b ∷ bytes) = b ≡ 10
 
 -- the bytes before the first line feed, and what follows
 pub record IsRun (bytes run rest : List ℕ) : Type 0 where
   pub is : bytes ≡ run ++ rest
   pub inner : HasNoFeed run
+  pub stops : IsAtFeed rest
 
 -- ---- a reader in pieces
 

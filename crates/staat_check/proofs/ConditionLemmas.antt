@@ -1,6 +1,8 @@
 -- The facets of the arcs of a witness, by their numbers.
-use Rattle.std.proofs.Common.{◌≡◌, ◌↔◌, ⊎_elim, ℕ, ℤ, ◌+◌, ◌<◌, ◌≤◌, arith, refl, sym, ap, subst, ◌∙◌, List, [], ◌∷◌, ◌++◌, append-nil, append_assoc, length, get_or, take, pos, ◌<ℤ◌, true≢false, All, Contains}
-use Rattle.std.specs.Prelude.{Bool, Err, Ok, OnOk, Result, Some, false, flat_map, map, slice_get, true}
+use Rattle.std.proofs.Common.{◌≡◌, ◌↔◌, ⊎_elim, ℕ, ℤ, ◌+◌, ◌<◌, ◌≤◌, arith, refl, sym, ap, subst, ◌∙◌, List, [], ◌∷◌, ◌++◌, append-nil, append_assoc, length, get_or, take, pos, ◌<ℤ◌, All, Contains}
+use mathlib.Core.Bool.{beq}
+use Rattle.std.proofs.lemmas.Bool.{false≢true}
+use Rattle.std.specs.Prelude.{Bool, Err, IsTrue, Ok, OnOk, Result, Some, false, flat_map, map, slice_get, true}
 use Rattle.staat_vec.specs.declared.memory.OutOfMemory.{OutOfMemory}
 use Rattle.std.proofs.lemmas.List.{drop_at, flat_map_more, get_or-map, get_or_append_left, get_or_push, length-append, length-map, take_all, take_more}
 use Rattle.std.proofs.lemmas.Option.{get_or_from_slice_get}
@@ -28,20 +30,27 @@ use Rattle.staat_check.specs.Conditions.{AddsNumbers, AreConditions, AreLists, A
 
 -- ---- both sides of planes
 
-pub side_ahead : (planes : List V3) (k : ℕ) (n : V3) → slice_get planes k ≡ Some n → slice_get (both_sides planes) k ≡ Some n
-side_ahead planes k n at = get_front planes (map negative planes) k n at
-
-pub side_behind : (planes : List V3) (k : ℕ) (n : V3) → slice_get planes k ≡ Some n → slice_get (both_sides planes) (length planes + k) ≡ Some (negative n)
+side_behind : (planes : List V3) (k : ℕ) (n : V3) → slice_get planes k ≡ Some n → slice_get (both_sides planes) (length planes + k) ≡ Some (negative n)
 side_behind planes k n at =
     sym (get_drop (both_sides planes) (length planes) k) ∙ ap (λ l. slice_get l k) (drop_at planes (map negative planes) (length planes) refl) ∙ map_at_place negative planes k n at
+
+turned_of : (facet seen : V3) → seen ≡ canon facet → IsTrue false ↔ (seen ≡ facet) → canon facet ≡ negative facet
+turned_of facet seen e told = ⊎_elim {C = canon facet ≡ negative facet} (λ here. absurd (false≢true (told.1 (e ∙ here)))) (λ turned. turned) (canon-either facet)
+
+-- the number of a facet, or of its opposite, whose canonical vector stands at place k
+pub number_is : (planes : List V3) (k : ℕ) (facet seen : V3) (same turned : Bool) → seen ≡ canon facet → IsTrue same ↔ (seen ≡ facet) → slice_get planes k ≡ Some (canon facet)
+    → (beq same turned ≡ true → slice_get (both_sides planes) (length planes + k) ≡ Some (turned_if turned facet)) × (beq same turned ≡ false → slice_get (both_sides planes) k ≡ Some (turned_if turned facet))
+number_is planes k facet seen true true e told at = (λ is. side_behind planes k facet (at ∙ ap Some (sym e ∙ told.0 refl)), λ not. absurd (false≢true (sym not)))
+number_is planes k facet seen true false e told at = (λ is. absurd (false≢true is), λ not. get_front planes (map negative planes) k facet (at ∙ ap Some (sym e ∙ told.0 refl)))
+number_is planes k facet seen false true e told at = (λ is. absurd (false≢true is), λ not. get_front planes (map negative planes) k (negative facet) (at ∙ ap Some (turned_of facet seen e told)))
+number_is planes k facet seen false false e told at = (
+  λ is. side_behind planes k (canon facet) at ∙ ap Some (ap negative (turned_of facet seen e told) ∙ negative-negative facet),
+  λ not. absurd (false≢true (sym not)),
+)
 
 -- the product with a normal that was read
 pub product_is : (normals : List V3) (d : V3) (r : ℤ) (k : ℕ) (n : V3) → k < length normals → n ≡ get_or normals k n → r ≡ dot n d → r ≡ dot (get_or normals k origin) d
 product_is normals d r k n lt is e = e ∙ ap (λ m. dot m d) (other_default normals k n origin lt is)
-
--- what is seen of a facet whose canonical vector is another
-pub turned_of : (facet seen : V3) (same : Bool) → seen ≡ canon facet → (seen ≡ facet → same ≡ true) → same ≡ false → canon facet ≡ negative facet
-turned_of facet seen same e told is = ⊎_elim {C = canon facet ≡ negative facet} (λ here. absurd (true≢false (sym (told (e ∙ here)) ∙ is))) (λ turned. turned) (canon-either facet)
 
 -- ---- numbers
 

@@ -1,29 +1,26 @@
 -- The rules of a refusal, by what was found of them.
-use Rattle.std.proofs.Common.{◌≡◌, ◌↔◌, inl, inr, ⊎_elim, ℕ, ◌+◌, ◌*◌, ◌<◌, ◌≤◌, arith, refl, sym, ap, subst, ◌∙◌, pos, List, [], ◌∷◌, ◌++◌, map, length, take, get_or, All, Contains}
+use Rattle.std.proofs.Common.{◌≡◌, ◌↔◌, inl, inr, ⊎_elim, ℕ, ◌+◌, ◌*◌, ◌<◌, ◌≤◌, arith, refl, sym, ap, subst, ◌∙◌, List, [], length, take, get_or, All, Contains}
 use Rattle.staat_vec.specs.declared.memory.OutOfMemory.{OutOfMemory}
 use Rattle.std.specs.Prelude.{Err, IfOk, Ok, Option, None, Result, Some, slice_index_or, MatchOption, sum_by}
 use Rattle.std.specs.FinSet as set
-use Rattle.std.proofs.lemmas.List.{map-append, take_more}
 use Rattle.std.proofs.lemmas.List.Elements.{All-contains, All-weaker}
 use Rattle.std.proofs.lemmas.Option.{slice_get-get_or}
 use Rattle.std.proofs.lemmas.List.Sums.{sum_by-le, sum_by_more, sum_by_more_le}
 use Rattle.staat_vec.specs.declared.vector.V3.{V3}
 use Rattle.staat_vec.specs.declared.vector.TheConstants.{DIRECTION}
-use Rattle.staat_vec.specs.Lists.{FailsFirst, IsFirst, Lists}
-use Rattle.staat_vec.specs.Vectors.{IsWithin, vector_cmp}
+use Rattle.staat_vec.specs.Lists.{FailsFirst, IsFirst}
+use Rattle.staat_vec.specs.Vectors.{IsWithin}
 use Rattle.staat_model.specs.declared.assembly.Part.{Part}
 use Rattle.staat_model.specs.declared.certificate.Arc.{Arc}
 use Rattle.staat_model.specs.declared.certificate.Dir.{Dir}
 use Rattle.staat_model.specs.declared.certificate.Witness.{Witness}
 use Rattle.staat_model.specs.declared.set.PartSet.{PartSet}
-use Rattle.staat_model.specs.Certificates.{HasLine, IsArcWithin, IsBlocked, IsBlocking, IsListed, IsStuckSet, IsWitness, RefusalHolds}
-use Rattle.staat_model.specs.declared.verdict.Reason.TheVariants.{BadArc, MissingDirection}
+use Rattle.staat_model.specs.Certificates.{HasLine, IsArcWithin, IsBlocked, IsBlocking, IsListed, IsStuckSet, IsWitness}
+use Rattle.staat_model.specs.declared.verdict.Reason.TheVariants.{MissingDirection}
 use Rattle.staat_model.specs.declared.verdict.Verdict.{Verdict}
 use Rattle.staat_model.specs.declared.verdict.Verdict.TheVariants.{ValidRefusal, Not}
-use Rattle.staat_model.specs.Certify.{IsDirection}
-use Rattle.staat_model.specs.Planes.{ArePlanes, vertices}
-use Rattle.staat_model.proofs.PlaneLemmas.{NoneParallel, planes_apart}
-use Rattle.staat_model.specs.Reasons.{IsNoStuckSet, IsRefusalReason, bad_arc, missing_direction, witness_size}
+use Rattle.staat_model.specs.Planes.{vertices}
+use Rattle.staat_model.specs.Reasons.{IsNoStuckSet, missing_direction, witness_size}
 use Rattle.staat_model.specs.Sets.{Has, IsNonempty, IsSubset, below}
 use Rattle.staat_model.specs.Texts.{IsWitnessInOrder}
 use Rattle.staat_model.proofs.Members.{All-from_members}
@@ -31,7 +28,6 @@ use Rattle.staat_model.proofs.Places.{one_at_place, some_at}
 use Rattle.staat_model.proofs.RestrictLemmas.{nonempty_or}
 use Rattle.staat_model.proofs.SetBits.{has-below}
 use Rattle.staat_model.proofs.SetMembers.{has-difference}
-use Rattle.staat_model.proofs.ListedVertices.{all_listed}
 use Rattle.staat_pairs.specs.Tables.{IsTableArc, Table, WasMadeFrom}
 use Rattle.staat_check.specs.Conditions.{AreLists, IsAcrossAll, IsFitDir, LeadsAhead, asked_facets}
 use Rattle.staat_check.specs.Verdicts.{IsRefusalVerdict, IsSaidBy}
@@ -130,48 +126,26 @@ few_lines witnesses each few =
 pub lines_fit : (witnesses : List Witness) (k lines : ℕ) (w : Witness) → k < length witnesses → w ≡ get_or witnesses k w → lines ≡ sum_by witness_size (take k witnesses) → lines + witness_size w ≤ sum_by witness_size witnesses
 lines_fit witnesses k lines w lt is e = omega (arith, e, ap witness_size is, sum_by_more_le witness_size witnesses k w lt)
 
-pub lines_more : (witnesses : List Witness) (k lines : ℕ) (w : Witness) (outs ins : List Arc) → k < length witnesses → w ≡ get_or witnesses k w → outs ≡ w.outs → ins ≡ w.ins → lines ≡ sum_by witness_size (take k witnesses)
-    → lines + (1 + length outs + length ins) ≡ sum_by witness_size (take (k + 1) witnesses)
-lines_more witnesses k lines w outs ins lt is outs_are ins_are e = omega (arith, e, ap length outs_are, ap length ins_are, ap witness_size is, sum_by_more witness_size witnesses k w lt)
+pub lines_more : (witnesses : List Witness) (k lines here : ℕ) (w : Witness) → k < length witnesses → w ≡ get_or witnesses k w → here ≡ witness_size w → lines ≡ sum_by witness_size (take k witnesses) → lines + here ≡ sum_by witness_size (take (k + 1) witnesses)
+lines_more witnesses k lines here w lt is size e = omega (arith, e, size, ap witness_size is, sum_by_more witness_size witnesses k w lt)
 
--- ---- reasons
+-- ---- what is said where all directions are blocked
 
-module _ (parts : List Part) (w : PartSet) (witnesses : List Witness) (dirs : List Dir) (set_is : IsStuckSet parts w) (trees : All (IsWitness parts w) witnesses) where
-  pub bad_arc_reason : (version lines place : ℕ) → lines ≡ sum_by witness_size witnesses → FailsFirst (IsBlocked parts witnesses) dirs place → IsRefusalReason parts version (length parts) w witnesses dirs (BadArc (4 + lines + place))
-  bad_arc_reason version lines place e first = bad_arc place refl set_is trees first (ap (λ n. BadArc (4 + n + place)) e)
-
-  pub missing_reason : (version : ℕ) (t : Table) (d : V3) → t.of ≡ w → WasMadeFrom parts t → All (IsBlocked parts witnesses) dirs → IsFirst (λ v. IsListed version dirs v → ⊥) (vertices t.planes) d → IsRefusalReason parts version (length parts) w witnesses dirs (MissingDirection d)
-  missing_reason version t d e made blocked first = missing_direction t.planes d refl set_is trees blocked (subst (λ s. ArePlanes parts s t.planes) e made.planes) first refl
-
-  pub refusal_holds : (version : ℕ) (t : Table) → t.of ≡ w → WasMadeFrom parts t → All (IsBlocked parts witnesses) dirs → All (IsListed version dirs) (vertices t.planes) → RefusalHolds parts version (length parts) w witnesses dirs
-  refusal_holds version t e made blocked all = record { count = refl; stuck_set = set_is; trees = trees; blocked = blocked; planes = t.planes; planes_are = subst (λ s. ArePlanes parts s t.planes) e made.planes; all = all }
-
-pub refusal_said : (parts : List Part) (version : ℕ) (w : PartSet) (witnesses : List Witness) (dirs : List Dir) (t : Table) (missing : Option V3) (v : Verdict) → IsStuckSet parts w → All (IsWitness parts w) witnesses → t.of ≡ w → WasMadeFrom parts t → All (IsBlocked parts witnesses) dirs
-    → MatchOption missing (All (IsListed version dirs) (vertices t.planes)) (IsFirst (λ u. IsListed version dirs u → ⊥) (vertices t.planes)) → MatchOption missing (v ≡ ValidRefusal) (λ d. v ≡ Not (MissingDirection d)) → IsRefusalVerdict parts version (length parts) w witnesses dirs v
-refusal_said parts version w witnesses dirs t None v set_is trees e made blocked all said = subst (IsRefusalVerdict parts version (length parts) w witnesses dirs) (sym said) (refusal_holds parts w witnesses dirs set_is trees version t e made blocked all)
-refusal_said parts version w witnesses dirs t (Some d) v set_is trees e made blocked first said = subst (IsRefusalVerdict parts version (length parts) w witnesses dirs) (sym said) (missing_reason parts w witnesses dirs set_is trees version t d e made blocked first)
-
-pub planes_not_parallel : (parts : List Part) (t : Table) → WasMadeFrom parts t → NoneParallel t.planes
-planes_not_parallel parts t made = planes_apart parts t.of t.planes made.planes
+pub refusal_said : (parts : List Part) (version : ℕ) (witnesses : List Witness) (dirs : List Dir) (t : Table) (missing : Option V3) (v : Verdict) → IsStuckSet parts t.of → All (IsWitness parts t.of) witnesses → WasMadeFrom parts t → All (IsBlocked parts witnesses) dirs
+    → MatchOption missing (All (IsListed version dirs) (vertices t.planes)) (IsFirst (λ u. IsListed version dirs u → ⊥) (vertices t.planes)) → MatchOption missing (v ≡ ValidRefusal) (λ d. v ≡ Not (MissingDirection d)) → IsRefusalVerdict parts version (length parts) t.of witnesses dirs v
+refusal_said parts version witnesses dirs t None v set_is trees made blocked all said =
+    subst (IsRefusalVerdict parts version (length parts) t.of witnesses dirs) (sym said)
+    (record { count = refl; stuck_set = set_is; trees = trees; blocked = blocked; planes = t.planes; planes_are = made.planes; all = all })
+refusal_said parts version witnesses dirs t (Some d) v set_is trees made blocked first said =
+    subst (IsRefusalVerdict parts version (length parts) t.of witnesses dirs) (sym said) (missing_direction t.planes d refl set_is trees blocked made.planes first refl)
 
 -- ---- directions
-
-abbrev pub no_dir : Dir
-no_dir = record { d = record { x = pos 0; y = pos 0; z = pos 0 }; witness = 0 }
-
-pub dirs_more : (dirs : List Dir) (k : ℕ) (e : Dir) (old new : List V3) → k < length dirs → old ≡ map (λ (dir : Dir). dir.d) (take k dirs) → new ≡ old ++ (get_or dirs k e).d ∷ [] → new ≡ map (λ (dir : Dir). dir.d) (take (k + 1) dirs)
-dirs_more dirs k e old new lt are is =
-    is ∙ ap (λ l. l ++ (get_or dirs k e).d ∷ []) are ∙ sym (ap (λ l. map (λ (dir : Dir). dir.d) l) (take_more dirs k e lt) ∙ map-append (λ (dir : Dir). dir.d) (take k dirs) (get_or dirs k e ∷ []))
 
 pub next_line : (directions : List V3) (dirs : List Dir) (found k : ℕ) (u : V3) (e : Dir) → found < length directions → k < length dirs → get_or directions found u ≡ (get_or dirs k e).d → All (HasLine dirs) (take found directions) → All (HasLine dirs) (take (found + 1) directions)
 next_line directions dirs found k u e lt in_dirs same all =
     let x : Dir = get_or dirs k e in
     let c : Contains dirs x = from_place dirs k x (slice_get-get_or dirs k e in_dirs) in
     more_all (HasLine dirs) directions found (get_or directions found u) (slice_get-get_or directions found u lt) all (subst (HasLine dirs) (sym same) (Contains-map (λ (dir : Dir). dir.d) dirs x c))
-
-pub each_listed : (version : ℕ) (planes ds wanted : List V3) (dirs : List Dir) → wanted ≡ ds → NoneParallel planes → Lists vector_cmp (IsDirection version planes) ds → All (HasLine dirs) wanted → All (IsListed version dirs) (vertices planes)
-each_listed version planes ds wanted dirs is apart lists all =
-    all_listed version planes dirs apart (λ v d. All-contains (HasLine dirs) wanted v all (subst (λ l. Contains l v) (sym is) (lists.all v d)))
 
 -- ---- what is said by a table
 

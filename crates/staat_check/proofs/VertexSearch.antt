@@ -1,8 +1,8 @@
 -- The first vertex that is not listed.
-use Rattle.std.proofs.Common.{◌≡◌, ◌≢◌, ◌↔◌, ◌⊎◌, inl, inr, ⊎_elim, ℕ, ◌+◌, ◌<◌, ◌≤◌, refl, sym, ap, subst, ◌∙◌, arith, List, [], ◌∷◌, ◌++◌, length, get_or, drop, All, Contains}
-use Rattle.std.specs.Prelude.{Some, slice_get}
+use Rattle.std.proofs.Common.{◌≡◌, ◌≢◌, ◌↔◌, ◌⊎◌, inl, inr, ⊎_elim, ℕ, ◌+◌, ◌<◌, sym, ap, subst, ◌∙◌, List, [], ◌∷◌, ◌++◌, length, get_or, drop, All, Contains}
+use Rattle.std.specs.Prelude.{None, Option, Some, slice_get}
 use Rattle.std.specs.declared.cmp.Ordering.TheVariants.{Equal}
-use Rattle.std.proofs.lemmas.List.Elements.{All-append, All-cons, All-contains, All-nil, All-tail}
+use Rattle.std.proofs.lemmas.List.Elements.{All-append, All-cons, All-nil, All-weaker}
 use Rattle.staat_vec.specs.declared.vector.V3.{V3}
 use Rattle.staat_vec.specs.Lists.{IsFirst}
 use Rattle.staat_vec.specs.Primitives.{canon, primitive}
@@ -10,70 +10,47 @@ use Rattle.staat_vec.specs.Vectors.{cross, negative, vector_cmp}
 use Rattle.staat_vec.proofs.Canons.{canon-either, negative-negative}
 use Rattle.staat_vec.proofs.VectorOrder.{vector_exact}
 use Rattle.staat_model.specs.Planes.{crossings, vertices}
-use Rattle.staat_check.specs.Known.{AskedBehind, IsKnown, IsUnknown}
+use Rattle.staat_check.specs.Known.{IsKnown, IsUnknown, IsUnknownOfBoth}
+use Rattle.staat_check.specs.Searches.{AskedBehind, TellsFirst}
 use Rattle.staat_pairs.proofs.DropLemmas.{drop_at}
-use Rattle.staat_vec.proofs.ListLaws.{drop_end}
+use Rattle.staat_vec.proofs.ListLaws.{first_left, first_right}
 
 -- ---- what is found by halving
 
 pub found : (vs : List V3) (v : V3) (n : ℕ) → n < length vs → ((d : V3) → vector_cmp (get_or vs n d) v ≡ Equal) → Contains vs v
 found vs v n lt equal = (n, lt, vector_exact (get_or vs n v) v (equal v))
 
--- ---- known in front
+-- ---- a search, front by front
 
-known_front : (version : ℕ) (listed xs ys : List V3) (v : V3) → All (IsKnown version listed) xs → IsFirst (IsUnknown version listed) ys v → IsFirst (IsUnknown version listed) (xs ++ ys) v
-known_front version listed [] ys v all first = first
-known_front version listed (x ∷ xs) ys v all first =
-    inr ((λ unknown. unknown (All-contains (IsKnown version listed) (x ∷ xs) x all (0, omega arith, refl))), known_front version listed xs ys v (All-tail (IsKnown version listed) x xs all) first)
-
-first_in_front : (version : ℕ) (listed xs ys : List V3) (v : V3) → IsFirst (IsUnknown version listed) xs v → IsFirst (IsUnknown version listed) (xs ++ ys) v
-first_in_front version listed [] ys v first = absurd first
-first_in_front version listed (x ∷ xs) ys v (inl h) = inl h
-first_in_front version listed (x ∷ xs) ys v (inr h) = inr (h.0, first_in_front version listed xs ys v h.1)
-
-module _ (version : ℕ) (listed : List V3) where
-  -- the crossings of one plane, pair by pair
-
-  pub asked_next : (g h : V3) (hs : List V3) (k : ℕ) (v : V3) → slice_get hs k ≡ Some h → v ≡ primitive (cross g h) → IsKnown version listed v → IsKnown version listed (negative v)
-      → AskedBehind version listed (crossings g hs) (crossings g (drop k hs)) → AskedBehind version listed (crossings g hs) (crossings g (drop (k + 1) hs))
-  asked_next g h hs k v at e here opposite asked = record {
-    all = λ all. asked.all (subst (λ l. All (IsKnown version listed) (crossings g l)) (sym (drop_at hs k h at))
-        (subst (λ u. All (IsKnown version listed) (u ∷ negative u ∷ crossings g (drop (k + 1) hs))) e (All-cons (IsKnown version listed) v (negative v ∷ crossings g (drop (k + 1) hs)) here (All-cons (IsKnown version listed) (negative v) (crossings g (drop (k + 1) hs)) opposite all))));
-    first = λ u first. asked.first u (subst (λ l. IsFirst (IsUnknown version listed) (crossings g l) u) (sym (drop_at hs k h at))
-        (subst (λ w. IsFirst (IsUnknown version listed) (w ∷ negative w ∷ crossings g (drop (k + 1) hs)) u) e (inr ((λ unknown. unknown here), inr ((λ unknown. unknown opposite), first)))));
-  }
-
-  pub asked_found : (g h : V3) (hs : List V3) (k : ℕ) (v d : V3) → slice_get hs k ≡ Some h → v ≡ primitive (cross g h) → ((d ≡ v) × IsUnknown version listed v) ⊎ (IsKnown version listed v × (d ≡ negative v) × IsUnknown version listed (negative v))
-      → AskedBehind version listed (crossings g hs) (crossings g (drop k hs)) → IsFirst (IsUnknown version listed) (crossings g hs) d
-  asked_found g h hs k v d at e one asked = asked.first d (subst (λ l. IsFirst (IsUnknown version listed) (crossings g l) d) (sym (drop_at hs k h at))
-      (subst (λ w. IsFirst (IsUnknown version listed) (w ∷ negative w ∷ crossings g (drop (k + 1) hs)) d) e (go one)))
+module _ {X : Type 0} (P : X → Type 0) (whole old front behind : List X) (cut : old ≡ front ++ behind) (asked : AskedBehind P whole old) where
+  -- what is in front keeps the rule
+  pub asked_next : All P front → AskedBehind P whole behind
+  asked_next all answer tells = asked answer (subst (λ l. TellsFirst P l answer) (sym cut) (go answer tells))
     where
-      go : ((d ≡ v) × IsUnknown version listed v) ⊎ (IsKnown version listed v × (d ≡ negative v) × IsUnknown version listed (negative v)) → IsFirst (IsUnknown version listed) (v ∷ negative v ∷ crossings g (drop (k + 1) hs)) d
-      go (inl h) = inl h
-      go (inr h) = inr ((λ unknown. unknown h.0), inl (h.1, h.2))
+      go : (answer : Option X) → TellsFirst P behind answer → TellsFirst P (front ++ behind) answer
+      go None rest = All-append P front behind all rest
+      go (Some x) first = first_right (λ y. P y → ⊥) front behind x (All-weaker P (λ y. (P y → ⊥) → ⊥) (λ y kept fails. fails kept) front all) first
 
-  pub asked_end : (g : V3) (hs : List V3) (k : ℕ) → length hs ≤ k → AskedBehind version listed (crossings g hs) (crossings g (drop k hs)) → All (IsKnown version listed) (crossings g hs)
-  asked_end g hs k le asked = asked.all (subst (λ l. All (IsKnown version listed) (crossings g l)) (sym (drop_end hs k le)) (All-nil (IsKnown version listed)))
+  pub asked_found : (x : X) → IsFirst (λ y. P y → ⊥) front x → IsFirst (λ y. P y → ⊥) whole x
+  asked_found x first = asked (Some x) (subst (λ l. IsFirst (λ y. P y → ⊥) l x) (sym cut) (first_left (λ y. P y → ⊥) front behind x first))
 
-  -- the vertices, plane by plane
+pub asked_end : {X : Type 0} (P : X → Type 0) (whole old : List X) → old ≡ [] → AskedBehind P whole old → All P whole
+asked_end P whole old none asked = asked None (subst (All P) (sym none) (All-nil P))
 
-  pub plane_next : (g : V3) (gs behind : List V3) (k : ℕ) → slice_get gs k ≡ Some g → behind ≡ drop (k + 1) gs → All (IsKnown version listed) (crossings g behind)
-      → AskedBehind version listed (vertices gs) (vertices (drop k gs)) → AskedBehind version listed (vertices gs) (vertices (drop (k + 1) gs))
-  plane_next g gs behind k at e known asked =
-      let here : All (IsKnown version listed) (crossings g (drop (k + 1) gs)) = subst (λ l. All (IsKnown version listed) (crossings g l)) e known in
-      record {
-        all = λ all. asked.all (subst (λ l. All (IsKnown version listed) (vertices l)) (sym (drop_at gs k g at)) (All-append (IsKnown version listed) (crossings g (drop (k + 1) gs)) (vertices (drop (k + 1) gs)) here all));
-        first = λ u first. asked.first u (subst (λ l. IsFirst (IsUnknown version listed) (vertices l) u) (sym (drop_at gs k g at)) (known_front version listed (crossings g (drop (k + 1) gs)) (vertices (drop (k + 1) gs)) u here first));
-      }
+-- the crossings of one plane, pair by pair
+pub crossings_at : (g h : V3) (hs : List V3) (k : ℕ) (v : V3) → slice_get hs k ≡ Some h → v ≡ primitive (cross g h) → crossings g (drop k hs) ≡ (v ∷ negative v ∷ []) ++ crossings g (drop (k + 1) hs)
+crossings_at g h hs k v at e = ap (crossings g) (drop_at hs k h at) ∙ ap (λ u. u ∷ negative u ∷ crossings g (drop (k + 1) hs)) (sym e)
 
-  pub plane_found : (g : V3) (gs behind : List V3) (k : ℕ) (v : V3) → slice_get gs k ≡ Some g → behind ≡ drop (k + 1) gs → IsFirst (IsUnknown version listed) (crossings g behind) v
-      → AskedBehind version listed (vertices gs) (vertices (drop k gs)) → IsFirst (IsUnknown version listed) (vertices gs) v
-  plane_found g gs behind k v at e first asked =
-      asked.first v (subst (λ l. IsFirst (IsUnknown version listed) (vertices l) v) (sym (drop_at gs k g at))
-      (first_in_front version listed (crossings g (drop (k + 1) gs)) (vertices (drop (k + 1) gs)) v (subst (λ l. IsFirst (IsUnknown version listed) (crossings g l) v) e first)))
+-- the vertices, plane by plane
+pub vertices_at : (g : V3) (gs behind : List V3) (k : ℕ) → slice_get gs k ≡ Some g → behind ≡ drop (k + 1) gs → vertices (drop k gs) ≡ crossings g behind ++ vertices (drop (k + 1) gs)
+vertices_at g gs behind k at e = ap vertices (drop_at gs k g at) ∙ ap (λ l. crossings g l ++ vertices (drop (k + 1) gs)) (sym e)
 
-  pub plane_end : (gs : List V3) (k : ℕ) → length gs ≤ k → AskedBehind version listed (vertices gs) (vertices (drop k gs)) → All (IsKnown version listed) (vertices gs)
-  plane_end gs k le asked = asked.all (subst (λ l. All (IsKnown version listed) (vertices l)) (sym (drop_end gs k le)) (All-nil (IsKnown version listed)))
+pub both_known : {X : Type 0} (P : X → Type 0) (x y : X) → P x → P y → All P (x ∷ y ∷ [])
+both_known P x y a b = All-cons P x (y ∷ []) a (All-cons P y [] b (All-nil P))
+
+pub first_unknown_of : (version : ℕ) (listed : List V3) (v d : V3) → IsUnknownOfBoth version listed v (Some d) → IsFirst (IsUnknown version listed) (v ∷ negative v ∷ []) d
+first_unknown_of version listed v d (inl h) = inl h
+first_unknown_of version listed v d (inr h) = inr ((λ unknown. unknown h.0), inl (h.1, h.2))
 
 -- ---- opposite vectors
 

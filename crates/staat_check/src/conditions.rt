@@ -12,63 +12,26 @@ use staat_pairs::{FacetTable, back};
 use staat_vec::{Listed, Normal, OutOfMemory, V3, canon, is_same, neg};
 use std::alloc::Global;
 
-// adds the opposites of the normals
-fn push_opposites(normals: &mut Vec<Normal>, planes: &[Normal]) -> Result<(), OutOfMemory>
-    ensures { OnOk result (normals.new.items ≡ normals.old.items ++ map negative planes.now) }
-{
-    for n in planes {
-        normals.push(Normal::of(neg(n.vector())))?;
-    }
-    Ok(())
-}
-
 /// The normals of both sides of planes: those of the planes, and then their opposites in the same order.
 pub fn both_normals(alloc: Global, planes: &[Normal]) -> Result<Vec<Normal>, OutOfMemory>
     ensures { IfOk result (λ normals. normals.items ≡ both_sides planes.now) }
 {
     let mut normals = Vec::new(alloc);
     normals.extend_from_slice(planes)?;
-    push_opposites(&mut normals, planes)?;
+    for n in planes {
+        normals.push(Normal::of(neg(n.vector())))?;
+    }
     Ok(normals)
 }
 
-// the number, among the normals of both sides, of a facet on the plane k
-fn number_ahead(planes: &[Normal], k: usize, facet: V3) -> usize
-    requires facet { IsTableFacet planes.now facet }
-    requires plane { slice_get planes.now k ≡ Some (canon facet) }
-    ensures { slice_get (both_sides planes.now) result ≡ Some facet }
-{
-    if is_same(canon(facet), facet) {
-        k
-    } else {
-        planes.len() + k
-    }
-}
-
-// the number of its opposite
-fn number_behind(planes: &[Normal], k: usize, facet: V3) -> usize
-    requires facet { IsTableFacet planes.now facet }
-    requires plane { slice_get planes.now k ≡ Some (canon facet) }
-    ensures { slice_get (both_sides planes.now) result ≡ Some (negative facet) }
-{
-    if is_same(canon(facet), facet) {
-        planes.len() + k
-    } else {
-        k
-    }
-}
-
-// the number of the facet, or of its opposite
+// the number, among the normals of both sides, of a facet on the plane k, or of its opposite
 fn number_of(planes: &[Normal], k: usize, facet: V3, turned: bool) -> usize
     requires facet { IsTableFacet planes.now facet }
     requires plane { slice_get planes.now k ≡ Some (canon facet) }
     ensures { slice_get (both_sides planes.now) result ≡ Some (turned_if turned facet) }
 {
-    if turned {
-        number_behind(planes, k, facet)
-    } else {
-        number_ahead(planes, k, facet)
-    }
+    let ahead = is_same(canon(facet), facet);
+    if ahead == turned { planes.len() + k } else { k }
 }
 
 // adds the numbers of the facets of two pieces, that of the lesser part first, or of their opposites

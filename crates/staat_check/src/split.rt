@@ -9,30 +9,12 @@ ghost use Rattle.staat_model.specs.Lines.{IsArcInBounds};
 ghost use Rattle.staat_model.specs.Reasons.{IsSplitReason};
 ghost use Rattle.staat_model.specs.Sets.{Has};
 ghost use Rattle.staat_model.specs.Walls.{IsShown};
-ghost use Rattle.staat_check.specs.Forests.{ArePartsOf, IsSepInBounds};
+ghost use Rattle.staat_check.specs.Forests.{AreFitSides, ArePartsOf, IsSepInBounds};
 ghost use Rattle.staat_check.specs.Searches.{TellsPlace};
 
 use staat_cone::separates;
 use staat_model::{Arc, Assembly, PartSet, Reason, Sep};
 use staat_vec::{DIRECTION, NORMAL, ORIGIN, V3, dot, is_same};
-
-// whether the arc leads from a part of s to one of r
-fn has_ends(s: PartSet, r: PartSet, arc: Arc) -> bool
-    requires { IsArcInBounds arc }
-    ensures { IsTrue result ↔ (Has s arc.a × Has r arc.b) }
-{
-    s.has(arc.a) && r.has(arc.b)
-}
-
-// whether the two pieces of the arc exist
-fn has_pieces(assembly: &Assembly, arc: Arc) -> bool
-    requires a { arc.a < length assembly.now }
-    requires b { arc.b < length assembly.now }
-    ensures { IsTrue result
-        ↔ ((arc.i < piece_count assembly.now arc.a) × (arc.j < piece_count assembly.now arc.b)) }
-{
-    arc.i < assembly.pieces(arc.a) && arc.j < assembly.pieces(arc.b)
-}
 
 /// Whether the arc joins a piece of a part of `s` and a piece of a part of `r`. Both hold parts of the assembly alone.
 pub fn is_across(assembly: &Assembly, s: PartSet, r: PartSet, arc: Arc) -> bool
@@ -41,7 +23,7 @@ pub fn is_across(assembly: &Assembly, s: PartSet, r: PartSet, arc: Arc) -> bool
     requires arc { IsArcInBounds arc }
     ensures { IsTrue result ↔ IsAcross assembly.now s r arc }
 {
-    has_ends(s, r, arc) && has_pieces(assembly, arc)
+    s.has(arc.a) && r.has(arc.b) && arc.i < assembly.pieces(arc.a) && arc.j < assembly.pieces(arc.b)
 }
 
 // whether the wall shows that the first piece never meets the second along d
@@ -72,9 +54,7 @@ pub(crate) struct Parting<'a> {
 impl<'a> Parting<'a> {
     // whether the wall is for two pieces across, and shows that the first never meets the second along the direction
     fn is_wall(&self, sep: Sep) -> bool
-        requires side { ArePartsOf self.now.assembly.now self.now.side }
-        requires rest { ArePartsOf self.now.assembly.now self.now.rest }
-        requires direction { IsWithin DIRECTION self.now.d }
+        requires sides { AreFitSides self.now.assembly.now self.now.side self.now.rest self.now.d }
         requires sep { IsSepInBounds sep }
         ensures { IsTrue result ↔ IsWall self.now.assembly.now self.now.side self.now.rest self.now.d sep }
     {
@@ -84,9 +64,7 @@ impl<'a> Parting<'a> {
 
     // the first wall that breaks its rule
     fn first_bad_wall(&self) -> Option<u32>
-        requires side { ArePartsOf self.now.assembly.now self.now.side }
-        requires rest { ArePartsOf self.now.assembly.now self.now.rest }
-        requires direction { IsWithin DIRECTION self.now.d }
+        requires sides { AreFitSides self.now.assembly.now self.now.side self.now.rest self.now.d }
         requires seps { All IsSepInBounds self.now.seps.now }
         requires few { length self.now.seps.now < 2 ^ 32 }
         ensures answer { TellsPlace (IsWall self.now.assembly.now self.now.side self.now.rest self.now.d)
@@ -103,9 +81,7 @@ impl<'a> Parting<'a> {
 
     /// The first rule that the split breaks, which is the node of this number, on this line.
     pub(crate) fn reason(&self, node: u32, line: u32) -> Option<Reason>
-        requires side { ArePartsOf self.now.assembly.now self.now.side }
-        requires rest { ArePartsOf self.now.assembly.now self.now.rest }
-        requires direction { IsWithin DIRECTION self.now.d }
+        requires sides { AreFitSides self.now.assembly.now self.now.side self.now.rest self.now.d }
         requires seps { All IsSepInBounds self.now.seps.now }
         requires ascending { IsStrictlySortedBy arc_cmp (map (λ sep. sep.arc) self.now.seps.now) }
         requires few { line + length self.now.seps.now < 2 ^ 32 }

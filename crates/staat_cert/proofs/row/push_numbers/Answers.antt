@@ -3,7 +3,7 @@ use Rattle.std.specs.Int.{w128}
 use Rattle.std.proofs.lemmas.Int.{ints, to_z-of_z}
 use Rattle.std.specs.Fmt.{signed_decimal}
 use Rattle.std.proofs.lemmas.List.{at_drop_all, at_drop_more}
-use Rattle.std.proofs.lemmas.Result.{err_from_is_err_and}
+use Rattle.std.proofs.lemmas.Result.{IfOk-from_err}
 use Rattle.staat_model.specs.Lines.{spaced}
 use Rattle.staat_cert.proofs.row.push_numbers.Goals as goal
 
@@ -24,14 +24,10 @@ numbers-preserved c =
     spaced_more c.numbers.out.items c.push_spaced.new.out.items _ c.args.numbers.now c.numbers.z-index (pos 0) c.numbers-test.true (rw same at c.in_ok-push_spaced.ensures) c.numbers.invariant
 
 pub returns-in_err-push : goal.returns-in_err-push
-returns-in_err-push c =
-    let p = err_from_is_err_and c.from_residual-in_err-push.result c.from_residual-in_err-push.ensures.1 in
-    rw p.1 tt
+returns-in_err-push c = IfOk-from_err c.from_residual-in_err-push.result _ c.from_residual-in_err-push.ensures.0
 
 pub returns-in_err-push_spaced : goal.returns-in_err-push_spaced
-returns-in_err-push_spaced c =
-    let p = err_from_is_err_and c.from_residual.result c.from_residual.ensures.1 in
-    rw p.1 tt
+returns-in_err-push_spaced c = IfOk-from_err c.from_residual.result _ c.from_residual.ensures.0
 
 pub returns : goal.returns
 returns c =

@@ -7,17 +7,14 @@ use Rattle.staat_vec.proofs.ListLaws.{other_default}
 pub bounds-lists-dir : goal.bounds-lists-dir
 bounds-lists-dir c = c.requires.dir.named
 
-pub leads_ahead_small-requires-clause-normals : goal.leads_ahead_small-requires-clause-normals
-leads_ahead_small-requires-clause-normals c = c.requires.small c.if-small.true
-
-pub leads_ahead_small-requires-clause-direction : goal.leads_ahead_small-requires-clause-direction
-leads_ahead_small-requires-clause-direction c = c.is_within.ensures.0 c.if-is_within.true
-
-pub leads_ahead_small-requires-clause-numbers : goal.leads_ahead_small-requires-clause-numbers
-leads_ahead_small-requires-clause-numbers c =
-    let same = sym (c.as_slice-numbers.ensures ∙ other_default c.args.lists.now c.args.dir.witness c.index-lists-dir.result []
-    c.requires.dir.named c.index-lists-dir.is) in
-    subst (λ (numbers : List ℕ). All (λ k. k < length c.args.normals.now) numbers) same c.requires.dir.numbers
+pub leads_ahead_small-requires : goal.leads_ahead_small-requires
+leads_ahead_small-requires c = record {
+  normals = c.requires.small c.if-small.true;
+  direction = c.is_within.ensures.0 c.if-is_within.true;
+  numbers = let same = sym (c.as_slice-numbers.ensures ∙ other_default c.args.lists.now c.args.dir.witness c.index-lists-dir.result []
+      c.requires.dir.named c.index-lists-dir.is) in
+      subst (λ (numbers : List ℕ). All (λ k. k < length c.args.normals.now) numbers) same c.requires.dir.numbers;
+}
 
 pub leads_ahead-requires-clause-direction : goal.leads_ahead-requires-clause-direction
 leads_ahead-requires-clause-direction c = c.requires.dir.size

@@ -6,14 +6,8 @@ use Rattle.staat_check.proofs.plan.node_reason.Goals as goal
 pub returns-in-Leaf : goal.returns-in-Leaf
 returns-in-Leaf c = subst (λ node. IsNodeAnswer c.args.assembly.now node c.args.behind.now c.args.number c.args.line None) (sym c.in-Leaf.is) refl
 
-pub reason-requires-clause-side : goal.reason-requires-clause-side
-reason-requires-clause-side c = c.sides-side.ensures.moved_in
-
-pub reason-requires-clause-rest : goal.reason-requires-clause-rest
-reason-requires-clause-rest c = c.sides-side.ensures.rest_in
-
-pub reason-requires-clause-direction : goal.reason-requires-clause-direction
-reason-requires-clause-direction c = let fit = subst IsFitNode c.in-Split.is c.requires.fit in fit.0
+pub reason-requires-clause-sides : goal.reason-requires-clause-sides
+reason-requires-clause-sides c = let fit = subst IsFitNode c.in-Split.is c.requires.fit in record { moved_in = c.sides-side.ensures.moved_in; rest_in = c.sides-side.ensures.rest_in; direction = fit.0 }
 
 pub reason-requires-clause-seps : goal.reason-requires-clause-seps
 reason-requires-clause-seps c = let fit = subst IsFitNode c.in-Split.is c.requires.fit in subst (All IsSepInBounds) (sym c.as_slice.ensures) fit.1

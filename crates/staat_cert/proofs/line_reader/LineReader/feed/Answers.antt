@@ -3,7 +3,7 @@ use Rattle.std.proofs.Common.{length-append, refl, sym, arith}
 use Rattle.staat_vec.proofs.Truth.{false_true_clash}
 use Rattle.staat_cert.specs.declared.line_reader.LineReader.{LineReader}
 use Rattle.staat_cert.specs.TextLines.{AreWholeTexts, ReadsOn, TookIn}
-use Rattle.staat_cert.proofs.TextSteps.{no_bad_line}
+use Rattle.staat_cert.proofs.TextLemmas.{at_no_bad}
 use Rattle.staat_cert.proofs.line_reader.LineReader.feed.Goals as goal
 use Rattle.staat_cert.proofs.line_reader.LineReader.feed.Goals.{then-self-2-via-then-self-2}
 use Rattle.staat_cert.proofs.line_reader.LineReader.feed.Goals.{then-self-2-via-else-self-2+then-piece-self}
@@ -53,7 +53,7 @@ returns-then-self-3-clause-answer g c = λ text h. (
 pub returns-else-self-3-clause-answer : goal.returns-else-self-3-clause-answer
 returns-else-self-3-clause-answer g c = λ text h. (
   omega (arith, h.total c.if-self.false c.if-self-2.false, length-append text c.args.piece.now),
-  no_bad_line _ _ h.texts _ _ _ _ c.if-self-3.false (c.in-Ok.ensures.read text (h.read c.if-self.false c.if-self-2.false)),
+  at_no_bad _ _ _ _ _ ((c.in-Ok.ensures.read text (h.read c.if-self.false c.if-self-2.false)).good c.if-self-3.false) h.texts,
 )
 
 pub returns-then-self-2-clause-answer : goal.returns-then-self-2-clause-answer

@@ -17,14 +17,8 @@ loop-m-preserved c = All-more (IsWall c.args.self.now.assembly.now c.args.self.n
 pub returns-clause-answer : goal.returns-clause-answer
 returns-clause-answer c = All-taken (IsWall c.args.self.now.assembly.now c.args.self.now.side c.args.self.now.rest c.args.self.now.d) c.args.self.now.seps.now c.loop-m.m c.loop-m-test.false c.loop-m.invariant
 
-pub is_wall-requires-clause-side : goal.is_wall-requires-clause-side
-is_wall-requires-clause-side c = c.requires.side
-
-pub is_wall-requires-clause-rest : goal.is_wall-requires-clause-rest
-is_wall-requires-clause-rest c = c.requires.rest
-
-pub is_wall-requires-clause-direction : goal.is_wall-requires-clause-direction
-is_wall-requires-clause-direction c = c.requires.direction
-
-pub is_wall-requires-clause-sep : goal.is_wall-requires-clause-sep
-is_wall-requires-clause-sep c = All-at IsSepInBounds c.args.self.now.seps.now c.loop-m.m _ (slice_get-get_or c.args.self.now.seps.now c.loop-m.m _ c.loop-m-test.true) c.requires.seps
+pub is_wall-requires : goal.is_wall-requires
+is_wall-requires c = record {
+  sides = c.requires.sides;
+  sep = All-at IsSepInBounds c.args.self.now.seps.now c.loop-m.m _ (slice_get-get_or c.args.self.now.seps.now c.loop-m.m _ c.loop-m-test.true) c.requires.seps;
+}

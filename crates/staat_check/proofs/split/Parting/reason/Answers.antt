@@ -13,14 +13,8 @@ returns-in-Some-first_missing c = missing_reason c.args.self.now.assembly.now c.
 pub returns-in-None-first_missing : goal.returns-in-None-first_missing
 returns-in-None-first_missing c = split_holds c.args.self.now.assembly.now c.args.self.now.side c.args.self.now.rest c.args.self.now.d c.args.self.now.seps.now (λ e. false≢true (c.if-is_same.ensures.1 e)) c.in-None.ensures.answer c.requires.ascending c.in-None-first_missing.ensures
 
-pub first_bad_wall-requires-clause-side : goal.first_bad_wall-requires-clause-side
-first_bad_wall-requires-clause-side c = c.requires.side
-
-pub first_bad_wall-requires-clause-rest : goal.first_bad_wall-requires-clause-rest
-first_bad_wall-requires-clause-rest c = c.requires.rest
-
-pub first_bad_wall-requires-clause-direction : goal.first_bad_wall-requires-clause-direction
-first_bad_wall-requires-clause-direction c = c.requires.direction
+pub first_bad_wall-requires-clause-sides : goal.first_bad_wall-requires-clause-sides
+first_bad_wall-requires-clause-sides c = c.requires.sides
 
 pub first_bad_wall-requires-clause-seps : goal.first_bad_wall-requires-clause-seps
 first_bad_wall-requires-clause-seps c = c.requires.seps

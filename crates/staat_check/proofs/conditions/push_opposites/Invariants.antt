@@ -1,6 +1,0 @@
-use Rattle.std.proofs.Common.{◌≡◌, ◌++◌, map, take}
-use Rattle.staat_vec.specs.Vectors.{negative}
-use Rattle.staat_check.proofs.conditions.push_opposites.Given as goal
-
-abbrev pub invariant-loop-n : goal.invariant-loop-n
-invariant-loop-n l = l.normals.items ≡ l.initial.normals.items ++ map negative (take l.n-index l.planes)
