@@ -58,9 +58,6 @@ positive_pos k h = omega (arith, ints)
 
 -- ---- opposites
 
-pub neg_is_minus : (a : ℤ) → neg_ℤ a ≡ pos 0 -ℤ a
-neg_is_minus a = omega (arith, ints)
-
 pub opposite_zero : (p q : ℤ) → p ≡ neg_ℤ q → q ≡ pos 0 → p ≡ pos 0
 opposite_zero p q e h = omega (arith, ints)
 
@@ -166,9 +163,6 @@ add-comm_ℤ x y = omega (arith, ints)
 
 pub sum_zero : (a b : ℤ) → a ≡ pos 0 → b ≡ pos 0 → a +ℤ b ≡ pos 0
 sum_zero a b e f = omega (arith, ints)
-
-pub le_refl_ℤ : (a : ℤ) → a ≤ℤ a
-le_refl_ℤ a = omega (arith, ints)
 
 pub le_trans_ℤ : (a b c : ℤ) → a ≤ℤ b → b ≤ℤ c → a ≤ℤ c
 le_trans_ℤ a b c h g = omega (arith, ints)
