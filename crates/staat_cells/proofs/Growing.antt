@@ -3,9 +3,6 @@ use Rattle.std.proofs.Common.{◌≡◌, ◌⊎◌, ◌↔◌, inl, inr, ⊎_eli
 use Rattle.staat_cells.proofs.Elements.{any_more}
 use Rattle.staat_vec.proofs.Naturals.{lt_one_more_cases}
 
-pub grown_none : {O P : Type 0} → (P → ⊥) → O ↔ (O ⊎ P)
-grown_none none = (λ o. inl o, ⊎_elim (λ o. o) (λ p. absurd (none p)))
-
 pub grown_same : {O N P Q : Type 0} → N ↔ (O ⊎ P) → P ↔ Q → N ↔ (O ⊎ Q)
 grown_same {O} {N} {P} {Q} n same = (
   λ x. ⊎_elim {C = O ⊎ Q} (λ o. inl o) (λ p. inr (same.0 p)) (n.0 x),

@@ -10,7 +10,8 @@ use Rattle.staat_cells.specs.Batches.{IsBatch}
 use Rattle.staat_cells.specs.CellGraphs.{AddsArcs, AddsConesOf, ArePartsAhead, ListsArcsOf}
 use Rattle.staat_cells.specs.CellGraphs.{IsAheadBy, IsArcInside, IsFromPart, IsPairAhead, IsPieceAhead}
 use Rattle.staat_cells.specs.HalfSpaces.{AreInside}
-use Rattle.staat_cells.proofs.Growing.{Below, grown_first, grown_more, grown_none, grown_same, none_below}
+use Rattle.staat_planes.proofs.Gaining.{adds_nothing}
+use Rattle.staat_cells.proofs.Growing.{Below, grown_first, grown_more, grown_same, none_below}
 
 -- ---- pieces
 
@@ -36,7 +37,7 @@ BelowParts F k signs a b = Below (λ j. F j signs a b) k
 
 pub below_none : (F : ℕ → List Sign → ℕ → ℕ → Type 0) (old : List Batch) → All IsBatch old
     → AddsArcs (BelowParts F 0) old old
-below_none F old rules = record { arcs = λ signs a b. grown_none (none_below (λ j. F j signs a b)); batches = rules }
+below_none F old rules = record { arcs = λ signs a b. adds_nothing (none_below (λ j. F j signs a b)); batches = rules }
 
 pub below_more : (F : ℕ → List Sign → ℕ → ℕ → Type 0) (k : ℕ) (old mid new : List Batch)
     → AddsArcs (BelowParts F k) old mid

@@ -48,7 +48,8 @@ joined_finding m (planned moved ms) (planned rest rs) =
     planned (split m.step.d moved rest) (option_to_list m.mark ++ ms ++ rs)
 
 -- the first of these directions that serves w is that of the step, which has its mark, and the side moves along it
-pub record IsFirstOf {X : Type 0} (try : X → Try) (parts : List Part) (w : PartSet) (xs : List X) (m : Marked) : Type 0
+pub record IsFirstOf {X : Type 0} (try : X → Try) (parts : List Part) (w : PartSet) (xs : List X)
+    (m : Marked) : Type 0
   where
     pub at : X
     pub first : IsFirst (λ x. Serves parts w (try x).d) xs at

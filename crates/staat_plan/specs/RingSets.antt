@@ -1,5 +1,6 @@
 -- Rings of a table from which the planes that are none of a set of parts are taken out in their turn.
-use Rattle.std.specs.Prelude.{◌≡◌, ◌⊎◌, ◌↔◌, ℕ, ◌<◌, ◌≤◌, Bool, List, [], Contains, Option, IfSome}
+use Rattle.std.specs.Prelude.{◌≡◌, ◌⊎◌, ◌↔◌, ℕ, ◌<◌, ◌≤◌, Bool}
+use Rattle.std.specs.Prelude.{List, [], Contains, Option, IfSome}
 use Rattle.staat_pairs.specs.Tables.{Table}
 use Rattle.staat_planes.specs.MarkedPlanes.{IsPlaneMarked}
 use Rattle.staat_plan.specs.declared.walker.Walker.{Walker}

@@ -1,5 +1,6 @@
 -- What a search over directions finds: the first that serves.
-use Rattle.std.specs.Prelude.{◌≡◌, ◌≢◌, ℕ, ◌*◌, ◌≤◌, Bool, false, List, ◌++◌, All, Option, MatchOption, length, ⊤}
+use Rattle.std.specs.Prelude.{◌≡◌, ◌≢◌, ℕ, ◌*◌, ◌≤◌, Bool, false}
+use Rattle.std.specs.Prelude.{List, ◌++◌, All, Option, MatchOption, length, ⊤}
 use Rattle.staat_vec.specs.declared.vector.V3.{V3}
 use Rattle.staat_vec.specs.declared.vector.TheConstants.{DIRECTION}
 use Rattle.staat_vec.specs.Lists.{IsFirst}

@@ -39,6 +39,7 @@ use Rattle.staat_ring.proofs.SoundLemmas.{entry_in, two_cases}
 use Rattle.staat_ring.proofs.Stops.{none_parallel}
 use Rattle.staat_ring.proofs.Unlinking.{planes_of_rings}
 use Rattle.staat_ring.proofs.ViewLemmas.{nodes_of_is}
+use Rattle.staat_ring.proofs.WithoutNumber.{tagged_from}
 use Rattle.staat_vec.proofs.Naturals.{lt_suc_cases}
 use Rattle.staat_vec.proofs.ListLaws.{Contains-from_map, Contains-map, map_twice, place_in_map}
 
@@ -84,10 +85,6 @@ on_circle n c e ne = go (c == e.plane) (Rattle.staat_vec.proofs.Naturals.eq_test
 some_list : {X : Type 0} (f : X → ℕ) (xs : List X) → 0 < length xs → is_empty (map f xs) ≡ false
 some_list f [] h = absurd (omega (arith, h))
 some_list f (x ∷ xs) h = refl
-
-tagged_by : (tag : ℕ → ℕ) (t : ℕ) (xs : List ℕ) → ((x : ℕ) → Contains xs x → tag x ≡ t) → Tagged tag t xs
-tagged_by tag t [] h = tt
-tagged_by tag t (x ∷ xs) h = (h x (zero, omega arith, refl), tagged_by tag t xs (λ y c. h y (suc c.0, omega (arith, c.1), c.2)))
 
 -- ---- nodes do not matter to a circle
 
@@ -139,7 +136,7 @@ module _ (planes : List V3) (table : AreTablePlanes planes) (few : length planes
   circle_ring c lc = record {
     ring = (has c lc).holds.circle;
     distinct = rules.circle_distinct n c lc (stops c lc) (can c lc);
-    tagged = tagged_by (shape n).circle ((shape n).circle (head_number n c)) (head_number n c ∷ nodes c lc) (λ x cx. rules.circle_of_ring n c lc (stops c lc) (can c lc) x cx ∙ sym (head_circle n c lc));
+    tagged = tagged_from (shape n).circle ((shape n).circle (head_number n c)) (head_number n c ∷ nodes c lc) (λ x cx. rules.circle_of_ring n c lc (stops c lc) (can c lc) x cx ∙ sym (head_circle n c lc));
   }
 
   all_within : (c : ℕ) (lc : c < n) (x : ℕ) → Contains (head_number n c ∷ nodes c lc) x → x < 4 * (n * n)
@@ -168,7 +165,7 @@ module _ (planes : List V3) (table : AreTablePlanes planes) (few : length planes
   stop_ring c lc k lk = record {
     ring = (has c lc).holds.vertices k lk;
     distinct = rules.row_distinct n c lc (stops c lc) (can c lc) k lk;
-    tagged = tagged_by (home_of a) (home_of a (node c lc k)) (node c lc k ∷ numbers c lc k) (home_of_row c lc k lk);
+    tagged = tagged_from (home_of a) (home_of a (node c lc k)) (node c lc k ∷ numbers c lc k) (home_of_row c lc k lk);
   }
 
   short_stop : (c : ℕ) (lc : c < n) (k : ℕ) → k < length (stops c lc) → length (numbers c lc k) < length a.vertices.next

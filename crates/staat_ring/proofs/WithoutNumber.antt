@@ -72,7 +72,7 @@ tagged_in tag t [] x h (k, lt, e) = absurd (omega arith)
 tagged_in tag t (y ∷ xs) x h (zero, lt, e) = ap tag (sym e) ∙ h.0
 tagged_in tag t (y ∷ xs) x h (suc k, lt, e) = tagged_in tag t xs x h.1 (k, omega arith, e)
 
-tagged_from : (tag : ℕ → ℕ) (t : ℕ) (xs : List ℕ) → ((x : ℕ) → Contains xs x → tag x ≡ t) → Tagged tag t xs
+pub tagged_from : (tag : ℕ → ℕ) (t : ℕ) (xs : List ℕ) → ((x : ℕ) → Contains xs x → tag x ≡ t) → Tagged tag t xs
 tagged_from tag t [] h = tt
 tagged_from tag t (x ∷ xs) h = (h x (Contains-front x xs), tagged_from tag t xs (λ y c. h y (Contains-later x xs y c)))
 

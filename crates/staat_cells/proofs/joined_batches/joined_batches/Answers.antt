@@ -5,7 +5,8 @@ use Rattle.staat_cells.specs.declared.joined_batches.JoinedBatch.{JoinedBatch}
 use Rattle.staat_cells.specs.Batches.{IsBatchArc, IsJoinedArc, IsJoinedBatch, IsBatch}
 use Rattle.staat_cells.specs.CellGraphs.{IsArcAt, IsListedArc}
 use Rattle.staat_cells.proofs.Elements.{any_pushed}
-use Rattle.staat_cells.proofs.Growing.{grown_first, grown_none, grown_same, grown_take}
+use Rattle.staat_planes.proofs.Gaining.{adds_nothing}
+use Rattle.staat_cells.proofs.Growing.{grown_first, grown_same, grown_take}
 use Rattle.std.proofs.lemmas.List.{take_all}
 use Rattle.staat_cells.proofs.joined_batches.joined_batches.Goals as goal
 
@@ -14,7 +15,7 @@ loop-batch-init c = record {
   rules = subst (All IsJoinedBatch) (sym c.in_ok-found.ensures.items) (All-nil IsJoinedBatch);
   arcs = subst (λ (l : List JoinedBatch). (signs : List Sign) (a b : ℕ) → IsArcAt l signs a b
       ↔ (IsArcAt [] signs a b ⊎ IsListedArc (take 0 c.args.batches.now) signs a b))
-      (sym c.in_ok-found.ensures.items) (λ signs a b. grown_none (λ none. let lt = none.2 in omega (arith, lt)));
+      (sym c.in_ok-found.ensures.items) (λ signs a b. adds_nothing (λ none. let lt = none.2 in omega (arith, lt)));
 }
 
 pub joined_batch-requires : goal.joined_batch-requires

@@ -2,12 +2,13 @@ use Rattle.std.proofs.Common.{◌∙◌, ◌≤◌, arith, length, sym, subst, L
 use Rattle.std.proofs.lemmas.List.Elements.{All-get_or}
 use Rattle.staat_cells.specs.declared.joined_batches.JoinedBatch.{JoinedBatch}
 use Rattle.staat_cells.specs.Batches.{IsJoinedArc, IsJoinedBatch}
-use Rattle.staat_cells.proofs.Growing.{grown_none, grown_take}
+use Rattle.staat_planes.proofs.Gaining.{adds_nothing}
+use Rattle.staat_cells.proofs.Growing.{grown_take}
 use Rattle.staat_cells.proofs.GraphRows.{HasArcsUpTo, graph_is, graph_shows}
 use Rattle.staat_cells.proofs.graphs.CellGraphs.graph_of.Goals as goal
 
 pub loop-batch-init : goal.loop-batch-init
-loop-batch-init c = λ a b. grown_none (λ none. let lt = none.2 in omega (arith, lt))
+loop-batch-init c = λ a b. adds_nothing (λ none. let lt = none.2 in omega (arith, lt))
 
 pub add_batch_arcs-requires : goal.add_batch_arcs-requires
 add_batch_arcs-requires c =
