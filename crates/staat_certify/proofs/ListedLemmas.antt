@@ -10,7 +10,7 @@ use Rattle.staat_model.specs.declared.certificate.Dir.{Dir}
 use Rattle.staat_model.specs.declared.certificate.Witness.{Witness}
 use Rattle.staat_model.specs.declared.set.PartSet.{PartSet}
 use Rattle.staat_model.specs.Certify.{IsWitnessAt, NamesWitness, IsBodyOf, IsDirection, IsRefusalOf}
-use Rattle.staat_certify.specs.WitnessListings.{AreListed, IsNumberOf, AreDifferent, IsSizedDirection, IsWitnessListing}
+use Rattle.staat_certify.specs.WitnessListings.{AreListed, IsNumberOf, EachStandsOnce, IsSizedDirection, IsWitnessListing}
 use Rattle.staat_certify.proofs.Numbering.{numbers_next, numbers_none}
 use Rattle.staat_vec.proofs.ListLaws.{push_front, take_next}
 use Rattle.staat_vec.specs.declared.vector.TheConstants.{DIRECTION, NORMAL}
@@ -111,7 +111,7 @@ few_visits version planes visited few lists =
 
 -- ---- the whole list
 
-pub refusal_listed : (parts : List Part) (version : ℕ) (w : PartSet) (planes ds : List V3) (witnesses : List Witness) (dirs : List Dir) → ArePlanes parts w planes → Lists vector_cmp (IsDirection version planes) ds → AreDifferent witnesses → AreListed parts w witnesses dirs → map (λ dir. dir.d) dirs ≡ ds → IsRefusalOf parts version w witnesses dirs
+pub refusal_listed : (parts : List Part) (version : ℕ) (w : PartSet) (planes ds : List V3) (witnesses : List Witness) (dirs : List Dir) → ArePlanes parts w planes → Lists vector_cmp (IsDirection version planes) ds → EachStandsOnce witnesses → AreListed parts w witnesses dirs → map (λ dir. dir.d) dirs ≡ ds → IsRefusalOf parts version w witnesses dirs
 refusal_listed parts version w planes ds witnesses dirs planes_are lists apart listed e = record {
   planes = planes;
   planes_are = planes_are;

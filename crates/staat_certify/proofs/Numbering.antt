@@ -3,7 +3,7 @@ use Rattle.std.proofs.Common.{◌≡◌, ◌∷◌, [], ◌++◌, ℕ, List, ref
 use Rattle.std.specs.Prelude.{flat_map, Some, slice_get, map, nat_eq, ◌||◌, not, cond, if◌then◌else◌}
 use Rattle.staat_model.specs.declared.certificate.Arc.{Arc}
 use Rattle.staat_model.specs.declared.certificate.Witness.{Witness}
-use Rattle.staat_certify.specs.WitnessListings.{key_of, key_numbers, AreDifferent, IsNumberOf, AreKeys}
+use Rattle.staat_certify.specs.WitnessListings.{key_of, key_numbers, EachStandsOnce, IsNumberOf, AreKeys}
 use lib.Pointwise.{pointwise}
 use Rattle.std.specs.List.{AllByRecursion, IsDistinct, list_any, position_or_len}
 use Rattle.std.proofs.lemmas.List.{length-map, map-append}
@@ -63,7 +63,7 @@ module _ {X : Type 0} (items : X → List ℕ) where
       cc
   later_differs x (y ∷ xs) (suc m) l all e same = later_differs x xs m l all.1 e same
 
-  pub places_differ : (xs : List X) → IsDistinct (λ x y. pointwise nat_eq (items x) (items y)) xs → AreDifferent (map items xs)
+  pub places_differ : (xs : List X) → IsDistinct (λ x y. pointwise nat_eq (items x) (items y)) xs → EachStandsOnce (map items xs)
   unfolding IsDistinct
   places_differ [] distinct k m l a b = absurd cc
   places_differ (x ∷ xs) distinct zero zero l a b = refl
@@ -124,7 +124,7 @@ key_tells x y e = let both = both_same x.outs y.outs x.ins y.ins e in λ t. reco
 
 -- ---- a witness and its number
 
-module _ (keys more : List (List ℕ)) (witnesses : List Witness) (witness : Witness) (i : ℕ) (before : AreKeys keys witnesses) (of : IsNumberOf keys more (key_of witness) i) (distinct : AreDifferent more) where
+module _ (keys more : List (List ℕ)) (witnesses : List Witness) (witness : Witness) (i : ℕ) (before : AreKeys keys witnesses) (of : IsNumberOf keys more (key_of witness) i) (distinct : EachStandsOnce more) where
   many : length keys ≡ length witnesses
   many = ap length before.are ∙ length-map witnesses key_of
 
@@ -151,7 +151,7 @@ module _ (keys more : List (List ℕ)) (witnesses : List Witness) (witness : Wit
       of.which
 
 -- witnesses whose keys are different are different
-pub apart_by_keys : (keys : List (List ℕ)) (witnesses : List Witness) → AreKeys keys witnesses → AreDifferent witnesses
+pub apart_by_keys : (keys : List (List ℕ)) (witnesses : List Witness) → AreKeys keys witnesses → EachStandsOnce witnesses
 apart_by_keys keys witnesses by k m x a b = by.distinct k m (key_of x) (there k a) (there m b)
   where
     there : (n : ℕ) → slice_get witnesses n ≡ Some x → slice_get keys n ≡ Some (key_of x)

@@ -28,7 +28,7 @@ use Rattle.staat_model.specs.Sets.{Has}
 use Rattle.staat_model.proofs.ArcOrder.{less_by_a, less_by_i, less_by_b, less_by_j}
 use Rattle.staat_model.proofs.PieceFacets.{meets_by_facets_lemma}
 use Rattle.staat_model.proofs.SomePlanes.{part_there}
-use Rattle.staat_certify.specs.Walls.{AreWallsBefore, IsAway, IsBefore, IsBelowOr}
+use Rattle.staat_certify.specs.Walls.{AreWallsBefore, IsAway, IsArcBefore, IsBelowOr}
 
 -- ---- the first facet that d does not lead ahead of
 
@@ -81,13 +81,13 @@ wall_away parts arc p q d n p_is q_is least = record {
 
 -- ---- the arcs before one
 
-before_less : (x arc : Arc) → IsBefore arc.a arc.i arc.b arc.j x → arc_cmp x arc ≡ Less
+before_less : (x arc : Arc) → IsArcBefore arc.a arc.i arc.b arc.j x → arc_cmp x arc ≡ Less
 before_less x arc (inl lt) = less_by_a x arc lt
 before_less x arc (inr (e, inl lt)) = less_by_i x arc e lt
 before_less x arc (inr (e, inr (f, inl lt))) = less_by_b x arc e f lt
 before_less x arc (inr (e, inr (f, inr (g, lt)))) = less_by_j x arc e f g lt
 
-before_or : (x arc : Arc) → IsBefore arc.a arc.i arc.b (arc.j + 1) x → IsBefore arc.a arc.i arc.b arc.j x ⊎ (x ≡ arc)
+before_or : (x arc : Arc) → IsArcBefore arc.a arc.i arc.b (arc.j + 1) x → IsArcBefore arc.a arc.i arc.b arc.j x ⊎ (x ≡ arc)
 before_or x arc (inl lt) = inl (inl lt)
 before_or x arc (inr (e, inl lt)) = inl (inr (e, inl lt))
 before_or x arc (inr (e, inr (f, inl lt))) = inl (inr (e, inr (f, inl lt)))
@@ -157,11 +157,11 @@ module _ (parts : List Part) (s r : PartSet) (d : V3) where
       })
     where
       After : Arc → Type 0
-      After x = IsAcross parts s r x × IsBefore arc.a arc.i arc.b (arc.j + 1) x
+      After x = IsAcross parts s r x × IsArcBefore arc.a arc.i arc.b (arc.j + 1) x
 
   -- the same arcs come before another
-  walls_as : (a i b j a' i' b' j' : ℕ) (seps : List Sep) → AreWallsBefore parts s r d a i b j seps → ((x : Arc) → IsAcross parts s r x → IsBefore a i b j x → IsBefore a' i' b' j' x)
-      → ((x : Arc) → IsAcross parts s r x → IsBefore a' i' b' j' x → IsBefore a i b j x) → AreWallsBefore parts s r d a' i' b' j' seps
+  walls_as : (a i b j a' i' b' j' : ℕ) (seps : List Sep) → AreWallsBefore parts s r d a i b j seps → ((x : Arc) → IsAcross parts s r x → IsArcBefore a i b j x → IsArcBefore a' i' b' j' x)
+      → ((x : Arc) → IsAcross parts s r x → IsArcBefore a' i' b' j' x → IsArcBefore a i b j x) → AreWallsBefore parts s r d a' i' b' j' seps
   walls_as a i b j a' i' b' j' seps walls to from = let lists = walls.arcs in record {
     arcs = record { ascending = lists.ascending; each = λ x c. let p = lists.each x c in (p.0, to x p.0 p.1); all = λ x p. lists.all x (p.0, from x p.0 p.1) };
     least = walls.least;

@@ -28,8 +28,8 @@ pub record IsSizedDirection (d : V3) : Type 0 where
   pub some : d ≢ origin
 
 -- nothing stands at two places
-abbrev pub AreDifferent : {X : Type 0} → List X → Type 0
-AreDifferent {X} xs = (k m : ℕ) (x : X) → slice_get xs k ≡ Some x → slice_get xs m ≡ Some x → k ≡ m
+abbrev pub EachStandsOnce : {X : Type 0} → List X → Type 0
+EachStandsOnce {X} xs = (k m : ℕ) (x : X) → slice_get xs k ≡ Some x → slice_get xs m ≡ Some x → k ≡ m
 
 -- each line names the witness of its direction, and the witnesses are numbered by first use
 pub record AreListed (parts : List Part) (w : PartSet) (witnesses : List Witness) (dirs : List Dir) : Type 0 where
@@ -40,7 +40,7 @@ pub record AreListed (parts : List Part) (w : PartSet) (witnesses : List Witness
 -- what a certificate says of w, with such lines for these directions, and different witnesses
 abbrev pub IsWitnessListing : List Part → PartSet → List V3 → Body → Type 0
 IsWitnessListing parts w ds (body.Plan nodes) = ⊥
-IsWitnessListing parts w ds (body.Stuck v witnesses dirs) = (v ≡ w) × AreDifferent witnesses
+IsWitnessListing parts w ds (body.Stuck v witnesses dirs) = (v ≡ w) × EachStandsOnce witnesses
     × AreListed parts w witnesses dirs × (map (λ dir. dir.d) dirs ≡ ds)
 
 -- x stands at its number in the new list, which is the old one or has it at the end
@@ -51,7 +51,7 @@ pub record IsNumberOf {X : Type 0} (old new : List X) (x : X) (i : ℕ) : Type 0
 -- these are the keys of the witnesses, and they are different
 pub record AreKeys (keys : List (List ℕ)) (witnesses : List Witness) : Type 0 where
   pub are : keys ≡ map key_of witnesses
-  pub distinct : AreDifferent keys
+  pub distinct : EachStandsOnce keys
 
 -- the number, where there is one, at which a witness that was found stands among those that are listed, which have all
 -- been found

@@ -15,7 +15,7 @@ ghost use Rattle.std.specs.Prelude.{
   slice_get,
 };
 ghost use Rattle.staat_model.specs.declared.certificate.Witness.{Witness as WitnessValue};
-ghost use Rattle.staat_certify.specs.WitnessListings.{AreDifferent, AreKeys, AreListed, AreNames};
+ghost use Rattle.staat_certify.specs.WitnessListings.{EachStandsOnce, AreKeys, AreListed, AreNames};
 ghost use Rattle.staat_certify.specs.WitnessListings.{IsWitnessListing, IsNumberOf};
 ghost use Rattle.staat_certify.specs.WitnessListings.{key_of, key_numbers};
 ghost use Rattle.staat_certify.specs.Visits.{IsNamed, visited_directions};
@@ -146,7 +146,7 @@ pub fn listing_of(
     table: &PlaneTable,
     found: &Found,
 ) -> Result<Body, OutOfMemory>
-    requires apart { AreDifferent found.now.witnesses.items }
+    requires apart { EachStandsOnce found.now.witnesses.items }
     requires named { All (IsNamed sound.now table.now.of found.now.witnesses.items) found.now.visited.items }
     requires few { length found.now.visited.items < LIST_LIMIT }
     ensures { IfOk result (IsWitnessListing sound.now table.now.of (visited_directions found.now.visited.items)) }

@@ -25,7 +25,7 @@ ghost use Rattle.staat_model.specs.Plans.{IsStuck};
 ghost use Rattle.staat_pairs.specs.Tables.{WasMadeFrom};
 ghost use Rattle.staat_ring.specs.Belonging.{BelongTo};
 ghost use Rattle.staat_ring.specs.WholeCircles.{AreSignsAt, HaveSameFull, IsWholeCircle, vertex_at};
-ghost use Rattle.staat_certify.specs.WitnessListings.{AreDifferent, AreKeys};
+ghost use Rattle.staat_certify.specs.WitnessListings.{EachStandsOnce, AreKeys};
 ghost use Rattle.staat_certify.specs.Visits.{AreStillVisited, AreVisitedBelow, HasFound, IsNamed, IsNumberHere};
 ghost use Rattle.staat_certify.specs.Visits.{IsSurvey};
 ghost use Rattle.staat_certify.specs.Witnesses.{AreTreesAlong, StandsAmong};
@@ -298,7 +298,7 @@ pub fn visit_all(
 ) -> Result<Found, OutOfMemory>
     requires made { WasMadeFrom sound.now table.now }
     requires stuck { IsStuck sound.now table.now.of }
-    ensures apart { IfOk result (λ found. AreDifferent found.witnesses.items) }
+    ensures apart { IfOk result (λ found. EachStandsOnce found.witnesses.items) }
     ensures named { IfOk result (λ found. All (IsNamed sound.now table.now.of found.witnesses.items)
         found.visited.items) }
     ensures directions { IfOk result (λ found. Lists vector_cmp (IsDirection version table.now.planes)

@@ -5,13 +5,13 @@ use Rattle.std.proofs.lemmas.Int.{ints, to_z-of_z}
 use Rattle.std.proofs.lemmas.List.{at_drop_all, at_drop_more}
 use Rattle.staat_model.specs.declared.set.PartSet.{PartSet}
 use Rattle.staat_model.specs.Sets.{single}
-use Rattle.staat_cert.specs.LineReading.{part_from, set_from}
+use Rattle.staat_cert.specs.LineReading.{member_from, set_from}
 use Rattle.staat_cert.proofs.LineShapes.{Reads}
 use Rattle.staat_cert.proofs.line.set_of.Goals as goal
 
 -- what one number more makes of the set
 read_on : (zs : List ℤ) (i least : ℕ) (w : PartSet) (d : ℤ) (o : Option ℕ) (whole : Option PartSet) → i < length zs
-    → o ≡ part_from least (get_or zs i d) → set_from least w (drop i zs) ≡ whole
+    → o ≡ member_from least (get_or zs i d) → set_from least w (drop i zs) ≡ whole
     → option_and_then (λ p. set_from (p + 1) (set.union w (single p)) (drop (i + 1) zs)) o ≡ whole
 read_on zs i least w d o whole lt is so_far =
     ap (option_and_then (λ p. set_from (p + 1) (set.union w (single p)) (drop (i + 1) zs))) is

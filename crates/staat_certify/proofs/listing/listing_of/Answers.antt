@@ -8,7 +8,7 @@ use Rattle.staat_vec.proofs.Options.{from_some}
 use Rattle.staat_model.specs.declared.certificate.Witness.{Witness}
 use Rattle.staat_model.proofs.Places.{place_within}
 use Rattle.staat_certify.specs.Visits.{IsNamed, visited_directions}
-use Rattle.staat_certify.specs.WitnessListings.{AreDifferent, AreListed, AreNames}
+use Rattle.staat_certify.specs.WitnessListings.{EachStandsOnce, AreListed, AreNames}
 use Rattle.staat_certify.proofs.ListedLemmas.{few_lines, lines_more, no_lines}
 use Rattle.staat_certify.proofs.listing.listing_of.Goals as goal
 
@@ -60,7 +60,7 @@ loop-visit-preserved c =
     }
 
 -- what is listed was found at different places
-names_apart : (found listed : List Witness) (names : List (Option ℕ)) → AreDifferent found → AreNames found listed names → AreDifferent listed
+names_apart : (found listed : List Witness) (names : List (Option ℕ)) → EachStandsOnce found → AreNames found listed names → EachStandsOnce listed
 names_apart found listed names apart are k m x a b =
     let (p, at_p) = are.all k (place_within listed k x a) in
     let (q, at_q) = are.all m (place_within listed m x b) in
@@ -73,9 +73,9 @@ pub returns : goal.returns
 returns c =
     let i = c.loop-visit.invariant in
     let end = subst (λ (vs : List Visit). c.loop-visit.visit-index < length vs → ⊥) c.deref-visit-items.ensures.value (λ lt. omega (arith, lt, c.loop-visit-test.false)) in
-    let apart = subst AreDifferent (sym c.as_slice-witnesses.ensures.value) c.requires.apart in (
+    let apart = subst EachStandsOnce (sym c.as_slice-witnesses.ensures.value) c.requires.apart in (
       c.set.ensures.is,
-      subst AreDifferent (sym c.from_vec.ensures) (names_apart c.as_slice-witnesses.result.now c.loop-visit.listing.witnesses.items c.loop-visit.listing.names.items apart i.names),
+      subst EachStandsOnce (sym c.from_vec.ensures) (names_apart c.as_slice-witnesses.result.now c.loop-visit.listing.witnesses.items c.loop-visit.listing.names.items apart i.names),
       subst (λ ws. AreListed c.args.sound.now c.args.table.now.of ws c.from_vec-2.result) (sym c.from_vec.ensures) (subst (AreListed c.args.sound.now c.args.table.now.of c.loop-visit.listing.witnesses.items) (sym c.from_vec-2.ensures) i.lines.listed),
       ap (map (λ dir. dir.d)) c.from_vec-2.ensures ∙ i.lines.lines ∙ ap visited_directions (take_all c.loop-visit.visit-index c.args.found.now.visited.items (omega (arith, end))),
     )
