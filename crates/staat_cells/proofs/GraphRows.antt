@@ -21,7 +21,8 @@ use Rattle.staat_cells.specs.declared.joined_batches.JoinedTest.{JoinedTest}
 use Rattle.staat_cells.specs.Batches.{HasLeft, IsJoinedArc, IsLeft, IsLeftByAll, joined_outside}
 use Rattle.staat_cells.specs.CellGraphs.{HasArcsOf, IsAheadBy, IsArcAt, IsCellGraph}
 use Rattle.staat_cells.proofs.FacetPlanes.{ahead_by_signs}
-use Rattle.staat_cells.proofs.Growing.{grown_first, grown_none, grown_take}
+use Rattle.staat_planes.proofs.Gaining.{adds_nothing}
+use Rattle.staat_cells.proofs.Growing.{grown_first, grown_take}
 
 -- ---- the arcs of a batch
 
@@ -35,7 +36,7 @@ pub record AddsLeft (outside : ℕ) (arcs : List ArcCones) (old new : List ℕ) 
   pub has : (a b : ℕ) → HasArc new a b ↔ (HasArc old a b ⊎ Any (IsArcLeft outside a b) arcs)
 
 pub none_left : (outside : ℕ) (rows : List ℕ) → AddsLeft outside [] rows rows
-none_left outside rows = record { long = λ e. e; has = λ a b. grown_none (λ p. let lt = p.2 in omega (arith, lt)) }
+none_left outside rows = record { long = λ e. e; has = λ a b. adds_nothing (λ p. let lt = p.2 in omega (arith, lt)) }
 
 one_left : (outside word : ℕ) (x : ArcCones) (rows : List ℕ) → x.a < length rows
     → ((q : ℕ) → (bit_at word q ≡ 1) ↔ ((bit_at (slice_index rows x.a) q ≡ 1) ⊎ ((q ≡ x.b)

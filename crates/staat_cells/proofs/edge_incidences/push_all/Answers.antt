@@ -3,12 +3,13 @@ use Rattle.std.proofs.lemmas.List.Elements.{Contains-get_or}
 use Rattle.staat_vec.specs.Vectors.{origin}
 use Rattle.staat_cells.specs.ZeroSigns.{zero_places}
 use Rattle.staat_cells.specs.Stages.{GrewByAll, IsBesideIncidence}
-use Rattle.staat_cells.proofs.Growing.{grown_more, grown_none, grown_same, none_below}
+use Rattle.staat_planes.proofs.Gaining.{adds_nothing}
+use Rattle.staat_cells.proofs.Growing.{grown_more, grown_same, none_below}
 use Rattle.staat_cells.proofs.ZeroPlanes.{IsPassed, all_passed}
 use Rattle.staat_cells.proofs.edge_incidences.push_all.Goals as goal
 
 pub loop-i-init : goal.loop-i-init
-loop-i-init c = λ x. grown_none (none_below (IsPassed c.args.planes.now c.args.point.now.d c.args.m c.args.base.of c.args.zeros.now c.args.back x))
+loop-i-init c = λ x. adds_nothing (none_below (IsPassed c.args.planes.now c.args.point.now.d c.args.m c.args.base.of c.args.zeros.now c.args.back x))
 
 pub push_at-requires-clause-listed : goal.push_at-requires-clause-listed
 push_at-requires-clause-listed c = Contains-get_or c.args.zeros.now c.place_from.result 0 c.place_from.ensures.small

@@ -3,7 +3,8 @@ use Rattle.staat_cells.specs.declared.half_spaces.HalfSpace.{HalfSpace}
 use Rattle.staat_cells.specs.CellGraphs.{AddsCones}
 use Rattle.staat_cells.specs.HalfSpaces.{AreInside}
 use Rattle.staat_cells.proofs.Cones.{from_last}
-use Rattle.staat_cells.proofs.Growing.{Below, grown_first, grown_more, grown_none, grown_same, none_below}
+use Rattle.staat_planes.proofs.Gaining.{adds_nothing}
+use Rattle.staat_cells.proofs.Growing.{Below, grown_first, grown_more, grown_same, none_below}
 use Rattle.staat_cells.proofs.half_spaces.wide_cones.Goals as goal
 use Rattle.staat_vec.proofs.ListLaws.{any_default}
 
@@ -12,7 +13,7 @@ loop-k-init c =
     let cones = c.args.cones.now in
     subst (λ (l : List (List HalfSpace)). AddsCones (λ signs. Below (λ j. AreInside signs (get_or cones (length cones - 1 - j) [])) 0) [] l)
     (sym c.new-wide.ensures.items)
-    (λ signs. grown_none (none_below (λ j. AreInside signs (get_or cones (length cones - 1 - j) []))))
+    (λ signs. adds_nothing (none_below (λ j. AreInside signs (get_or cones (length cones - 1 - j) []))))
 
 pub loop-k-preserved : goal.loop-k-preserved
 loop-k-preserved c =

@@ -2,12 +2,13 @@ use Rattle.std.proofs.Common.{List, arith, subst}
 use Rattle.std.proofs.lemmas.List.{take_all}
 use Rattle.staat_cells.specs.declared.half_spaces.HalfSpace.{HalfSpace}
 use Rattle.staat_cells.specs.CellGraphs.{AddsCone, AddsConesOf, IsArcInside}
-use Rattle.staat_cells.proofs.Growing.{grown_none, grown_take}
+use Rattle.staat_planes.proofs.Gaining.{adds_nothing}
+use Rattle.staat_cells.proofs.Growing.{grown_take}
 use Rattle.staat_cells.proofs.part_arcs.add_cones.Goals as goal
 
 pub loop-k-init : goal.loop-k-init
 loop-k-init c = record {
-  arcs = λ signs x y. grown_none (λ none. let lt = none.2 in omega (arith, lt));
+  arcs = λ signs x y. adds_nothing (λ none. let lt = none.2 in omega (arith, lt));
   batches = c.requires.batches;
 }
 

@@ -3,12 +3,13 @@ use Rattle.staat_pairs.specs.Tables.{IsTableArc, facets_of}
 use Rattle.staat_pairs.specs.Searches.{arc_of}
 use Rattle.staat_cells.specs.HalfSpaces.{AreAhead}
 use Rattle.staat_cells.specs.CellGraphs.{IsPairAhead}
-use Rattle.staat_cells.proofs.Growing.{grown_more, grown_none, grown_same, none_below}
+use Rattle.staat_planes.proofs.Gaining.{adds_nothing}
+use Rattle.staat_cells.proofs.Growing.{grown_more, grown_same, none_below}
 use Rattle.staat_cells.proofs.PartArcs.{pieces_are}
 use Rattle.staat_cells.proofs.part_arcs.push_piece.Goals as goal
 
 pub loop-j-init : goal.loop-j-init
-loop-j-init c = λ signs. grown_none (none_below (λ j. IsPairAhead c.args.table.now c.args.a c.args.i c.args.b j signs))
+loop-j-init c = λ signs. adds_nothing (none_below (λ j. IsPairAhead c.args.table.now c.args.a c.args.i c.args.b j signs))
 
 pub loop-j-preserved : goal.loop-j-preserved
 loop-j-preserved c =

@@ -1,4 +1,4 @@
-use Rattle.std.proofs.Common.{◌∙◌, ◌≡◌, arith, length, subst, sym}
+use Rattle.std.proofs.Common.{◌∙◌, ap, ◌≡◌, arith, length, subst, sym}
 use Rattle.std.proofs.lemmas.Option.{same_Some, slice_get_within}
 use Rattle.staat_vec.specs.declared.vector.V3.{V3}
 use Rattle.staat_vec.specs.Vectors.{dot, sign}
@@ -19,7 +19,7 @@ loop-k-preserved c =
       end = c.loop-k.invariant.end;
       made = subst (BelongTo t) (sym c.set.ensures.signs) (belong_same t c.loop-k.signs (with_plane_sign k g c.loop-k.signs) (signed_same k g c.loop-k.signs) c.loop-k.invariant.made);
       done = more_done t.planes (all t.planes) c.args.d c.loop-k.signs c.set.new.self k g (omega (arith, c.loop-k-test.true, c.loop-k.invariant.end, c.loop-k.invariant.made.states))
-          (λ n at. subst (λ (m : V3). g ≡ sign (dot m c.args.d)) (same_Some c.plane.result n (sym c.plane.ensures.is ∙ at)) c.sign.ensures) c.set.ensures.signs c.loop-k.invariant.done;
+          (λ n at. subst (λ (m : V3). g ≡ sign (dot m c.args.d)) (same_Some c.plane.result n (sym c.plane.ensures.is ∙ at)) (c.sign.ensures ∙ ap (λ v. sign (dot c.plane.result v)) c.of-course.ensures)) c.set.ensures.signs c.loop-k.invariant.done;
     }
 
 pub returns-clause-signs : goal.returns-clause-signs

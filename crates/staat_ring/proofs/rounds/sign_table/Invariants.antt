@@ -8,5 +8,5 @@ abbrev pub invariant-loop-k : goal.invariant-loop-k
 invariant-loop-k l = record {
   end : l.k-end ≡ length l.table.planes;
   made : BelongTo l.table l.signs;
-  done : Done l.table.planes (all l.table.planes) l.d l.signs l.k;
+  done : Done l.table.planes (all l.table.planes) l.fn.d l.signs l.k;
 }
