@@ -11,9 +11,10 @@ use Rattle.staat_cells.specs.declared.batches.Batch.{Batch}
 use Rattle.staat_cells.specs.declared.half_spaces.HalfSpace.{HalfSpace}
 use Rattle.staat_cells.specs.HalfSpaces.{AreInside}
 use Rattle.staat_cells.specs.Batches.{AddsToBatch, AreInsideCone, HasCone, HasConeAmong, HasParts, IsBatch, IsBatchArc, IsLeftByAll, outside_by}
-use Rattle.staat_cells.specs.CellGraphs.{AddsCone, HasConeRoom, IsListedArc}
+use Rattle.staat_cells.specs.CellGraphs.{AddsCone, HasConeRoom}
 use Rattle.staat_cells.proofs.ConeTests.{AddsHalfSpaces}
-use Rattle.staat_cells.proofs.Elements.{any_pushed, any_set}
+use Rattle.staat_cells.proofs.Elements.{any_pushed, any_set, turned}
+use Rattle.staat_cells.proofs.Growing.{grown_first, grown_same}
 use Rattle.staat_vec.proofs.ListLaws.{push_cases, push_front, push_end}
 
 -- the arcs have grown by the cone j of the parts a and b
@@ -150,11 +151,9 @@ batch_empty batches grown none cones tests arcs is rules =
       some = omega (arith, long);
       room = λ d. subst (λ (b : Batch). length b.cones.items < 128) (sym (get_or_push batches none d
           (length (batches ++ none ∷ []) - 1) (omega (arith, long)))) (omega (arith, ap length cones));
-      arcs = λ signs x y. (
-        λ h. ⊎_elim {C = IsListedArc batches signs x y} (λ o. o) (λ p. absurd (no_batch_arcs none arcs signs x y p))
-            ((any_pushed (λ b. IsBatchArc b signs x y) batches (batches ++ none ∷ []) none refl).0 h),
-        λ o. (any_pushed (λ b. IsBatchArc b signs x y) batches (batches ++ none ∷ []) none refl).1 (inl o),
-      );
+      arcs = λ signs x y. grown_first
+          (turned (any_pushed (λ b. IsBatchArc b signs x y) batches (batches ++ none ∷ []) none refl))
+          (no_batch_arcs none arcs signs x y);
       batches = All-push IsBatch batches none rules (record {
         few = omega (arith, ap length cones);
         tests = λ signs j. (
@@ -173,11 +172,6 @@ batch_empty batches grown none cones tests arcs is rules =
 pub batch_room : (old mid new : List Batch) (cone : List HalfSpace) (a b : ℕ) → HasConeRoom old mid
     → AddsCone cone a b mid new → AddsCone cone a b old new
 batch_room old mid new cone a b room adds = record {
-  arcs = λ signs x y. (
-    λ h. ⊎_elim {C = IsListedArc old signs x y ⊎ ((x ≡ a) × (y ≡ b) × AreInside signs cone)}
-        (λ o. inl ((room.arcs signs x y).0 o)) (λ q. inr q) ((adds.arcs signs x y).0 h),
-    ⊎_elim {C = IsListedArc new signs x y} (λ o. (adds.arcs signs x y).1 (inl ((room.arcs signs x y).1 o)))
-        (λ q. (adds.arcs signs x y).1 (inr q)),
-  );
+  arcs = λ signs x y. turned (grown_same (turned (adds.arcs signs x y)) (room.arcs signs x y));
   batches = adds.batches;
 }

@@ -1,11 +1,15 @@
 -- The lower cells on the border of a cell, where there are two.
-use Rattle.std.proofs.Common.{◌≡◌, ◌≢◌, ⊎_elim, ℕ, sym, ap, subst, ◌∙◌, List}
+use Rattle.std.proofs.Common.{◌≡◌, ◌≢◌, ◌⊎◌, inl, inr, ⊎_elim, ℕ, refl, sym, ap, subst, ◌∙◌, List}
+use Rattle.std.specs.declared.cmp.Ordering.TheVariants.{Less}
 use Rattle.staat_vec.specs.declared.vector.V3.{V3}
 use Rattle.staat_vec.specs.declared.vector.Sign.{Sign}
 use Rattle.staat_model.specs.declared.tree.Kind.{Kind}
-use Rattle.staat_model.specs.Cells.{kind_of, CellEntry, IsBorder, IsCell, AreCellsOf}
+use Rattle.staat_vec.specs.Vectors.{plus}
+use Rattle.staat_model.specs.Cells.{kind_of, signs_cmp, CellEntry, IsBorder, IsBorderEdge, IsCell, IsEdgeSum}
+use Rattle.staat_model.specs.Cells.{IsOpenSum, AreCellsOf}
 use Rattle.staat_cells.specs.Stages.{cell_at, IsUnder}
 use Rattle.staat_cells.proofs.Listed.{place_of, StandsAt}
+use Rattle.staat_cells.proofs.SignOrder.{not_below_itself, signs_total}
 use Rattle.staat_vec.proofs.Naturals.{same_or}
 
 -- e is a cell of the lower kind on the border of s
@@ -48,3 +52,32 @@ module _ (planes : List V3) (low kind : Kind) (lower : List CellEntry) (are : Ar
         λ f. t.different (sym at_i.is ∙ ap (λ m. (cell_at lower m).signs) (e ∙ sym f) ∙ at_j.is),
       ))
       (λ n. (i, border_under s t.e i u.cell u.by_count t.e_is.border at_i, n)) (same_or i k)
+
+-- what is before or behind the first two edges on the border of an open cell is known: their sum represents it
+pub open_sum : (planes : List V3) (s e f : List Sign) (u v : V3) → IsBorderEdge planes s e → IsBorderEdge planes s f
+    → IsEdgeSum planes e u → IsEdgeSum planes f v → signs_cmp e f ≡ Less
+    → ((y : List Sign) → IsBorderEdge planes s y → (y ≡ e) ⊎ ((y ≡ f) ⊎ (signs_cmp f y ≡ Less)))
+    → IsOpenSum planes s (plus u v)
+open_sum planes s e f u v e_in f_in u_is v_is less all = record {
+  e = e;
+  f = f;
+  u = u;
+  v = v;
+  first = record {
+    has = e_in;
+    least = λ y b. elim (all y b) [
+      | inl same ↦ inl same
+      | inr later ↦ inr (elim later [
+        | inl same ↦ ap (signs_cmp e) same ∙ less
+        | inr more ↦ signs_total.trans e f y less more
+      ])
+    ];
+  };
+  second = record {
+    has = (f_in, λ same. not_below_itself e (ap (signs_cmp e) (sym same) ∙ less));
+    least = λ y h. elim (all y h.0) [ inl same ↦ absurd (h.1 same) | inr later ↦ later ];
+  };
+  u_is = u_is;
+  v_is = v_is;
+  is = refl;
+}

@@ -1,11 +1,12 @@
 -- Words of which each bit tells of a cone.
-use Rattle.std.proofs.Common.{◌≡◌, ◌≢◌, ◌⊎◌, ◌↔◌, inl, inr, ⊎_elim, ℕ, zero, suc, ◌+◌, ◌*◌, ◌/◌, ◌%◌, ◌^◌, ◌<◌}
-use Rattle.std.proofs.Common.{◌≤◌, min, refl, sym, ap, subst, ◌∙◌, arith, List, [], ◌∷◌, ◌++◌, length, get_or, take}
-use Rattle.std.specs.Prelude.{bit_and, bit_or, bit_xor, slice_index, slice_set}
-use Rattle.std.specs.Int.{bit_at, w128}
+use Rattle.std.proofs.Common.{◌≡◌, ◌≢◌, ◌⊎◌, ◌↔◌, inl, inr, ⊎_elim, ℕ, ◌+◌, ◌-◌, ◌*◌, ◌%◌, ◌^◌, ◌<◌, ◌≤◌, min, sym, ap}
+use Rattle.std.proofs.Common.{subst, ◌∙◌, arith, List, [], ◌∷◌, ◌++◌, length, get_or, take}
+use Rattle.std.specs.Prelude.{bit_and, bit_or, slice_index, slice_set}
+use Rattle.std.specs.Int.{bit_at, bit_not, trailing_zeros, w128}
 use Rattle.std.proofs.lemmas.List.{take_all}
-use Rattle.std.proofs.lemmas.Nat.Bits.{bit_at-lt, bit_at-suc, bit_at_lowest, bit_at-zero, bit_at_and}
-use Rattle.std.proofs.lemmas.Nat.Bits.{bit_at_set_other, bit_at_set_same, bit_at_xor}
+use Rattle.std.proofs.lemmas.Nat.{and_le_l}
+use Rattle.std.proofs.lemmas.Nat.Bits.{bit_at-lt, bit_at-trailing_zeros, bit_at-zero, bit_at_above, bit_at_and, bit_at_not}
+use Rattle.std.proofs.lemmas.Nat.Bits.{bit_at_set_other, bit_at_set_same}
 use Rattle.staat_vec.specs.declared.vector.Sign.{Sign}
 use Rattle.staat_vec.specs.declared.vector.Sign.TheVariants.{Neg, Zero, Pos}
 use Rattle.staat_model.specs.Cells.{sign_place}
@@ -14,7 +15,7 @@ use Rattle.staat_cells.specs.declared.half_spaces.HalfSpace.{HalfSpace}
 use Rattle.staat_cells.specs.HalfSpaces.{AreInside, IsInHalfSpace, sign_at}
 use Rattle.staat_cells.specs.Batches.{IsLeft, IsLeftByAll, outside_at, outside_by}
 use Rattle.staat_cells.proofs.Elements.{all_more, all_pushed, all_set}
-use Rattle.staat_vec.proofs.Naturals.{zero_not_one, same_or}
+use Rattle.staat_vec.proofs.Naturals.{lt_or_le, zero_not_one, same_or}
 
 -- ---- a bit more
 
@@ -125,53 +126,30 @@ all_half_spaces cone i j old new le h = subst (λ l. AddsHalfSpaces (λ signs. A
 
 -- ---- what is in one word and not in another
 
-some_bit : (k n : ℕ) → n ≤ k → n ≢ 0 → (j : ℕ) × (bit_at n j ≡ 1)
-some_bit zero n le ne = absurd (ne (omega (arith, le)))
-some_bit (suc k) n le ne = ⊎_elim {C = (j : ℕ) × (bit_at n j ≡ 1)}
-    (λ odd. (0, bit_at_lowest n ∙ odd))
-    (λ even. let h = some_bit k (n / 2) (half n k le) (λ z. ne (whole n z even)) in
-    (suc h.0, bit_at-suc n h.0 ∙ h.1))
-    (parity n)
+pub without_some : (x y : ℕ) → x < 2 ^ 128 → y < 2 ^ 128
+    → (bit_and x (bit_not w128 y) ≢ 0) ↔ ((j : ℕ) × (bit_at x j ≡ 1) × (bit_at y j ≡ 0))
+without_some x y x_fits y_fits = (from, to)
   where
-    parity : (n : ℕ) → (n % 2 ≡ 1) ⊎ (n % 2 ≡ 0)
-    parity n = grind arith
+    left : ℕ
+    left = bit_and x (bit_not w128 y)
 
-    half : (n k : ℕ) → n ≤ suc k → n / 2 ≤ k
-    half n k le = omega (arith, le)
+    bit : (j : ℕ) → j < 128 → bit_at left j ≡ min (bit_at x j) (1 - bit_at y j)
+    bit j lt = bit_at_and x (bit_not w128 y) j ∙ ap (min (bit_at x j)) (bit_at_not w128 y j y_fits lt)
 
-    whole : (n : ℕ) → n / 2 ≡ 0 → n % 2 ≡ 0 → n ≡ 0
-    whole n z even = omega (arith, z, even)
+    from : left ≢ 0 → (j : ℕ) × (bit_at x j ≡ 1) × (bit_at y j ≡ 0)
+    from some =
+        let j = trailing_zeros w128 left in
+        let fits : left < 2 ^ 128 = (let le = and_le_l x (bit_not w128 y) in omega (arith, le, x_fits)) in
+        let lowest = bit_at-trailing_zeros w128 left (omega (arith, some)) fits in
+        let e : min (bit_at x j) (1 - bit_at y j) ≡ 1 = sym (bit j lowest.0) ∙ lowest.1 in
+        (j, omega (arith, e, bit_at-lt x j), omega (arith, e))
 
-pub without_some : (x y : ℕ)
-    → (bit_xor (bit_and x y) x ≢ 0) ↔ ((j : ℕ) × (bit_at x j ≡ 1) × (bit_at y j ≡ 0))
-without_some x y = (from, to)
-  where
-    bit : (j : ℕ) → bit_at (bit_xor (bit_and x y) x) j ≡ (min (bit_at x j) (bit_at y j) + bit_at x j) % 2
-    bit j = bit_at_xor (bit_and x y) x j ∙ ap (λ n. (n + bit_at x j) % 2) (bit_at_and x y j)
-
-    in_first : (m n : ℕ) → m < 2 → n < 2 → (min m n + m) % 2 ≡ 1 → m ≡ 1
-    in_first zero n lt small e = let z : min 0 n ≡ 0 = omega arith in absurd (omega (arith, e, z))
-    in_first (suc zero) n lt small e = refl
-    in_first (suc (suc m)) n lt small e = absurd (omega (arith, lt))
-
-    not_second : (m n : ℕ) → m < 2 → n < 2 → (min m n + m) % 2 ≡ 1 → n ≡ 0
-    not_second m zero lt small e = refl
-    not_second zero (suc n) lt small e = let z : min 0 (suc n) ≡ 0 = omega arith in absurd (omega (arith, e, z))
-    not_second (suc zero) (suc zero) lt small e = absurd (omega (arith, e))
-    not_second (suc (suc m)) (suc n) lt small e = absurd (omega (arith, lt))
-    not_second (suc zero) (suc (suc n)) lt small e = absurd (omega (arith, small))
-
-    from : bit_xor (bit_and x y) x ≢ 0 → (j : ℕ) × (bit_at x j ≡ 1) × (bit_at y j ≡ 0)
-    from ne = let (j, one) = some_bit (bit_xor (bit_and x y) x) (bit_xor (bit_and x y) x) (omega arith) ne in
-        let e = sym (bit j) ∙ one in (
-          j,
-          in_first (bit_at x j) (bit_at y j) (bit_at-lt x j) (bit_at-lt y j) e,
-          not_second (bit_at x j) (bit_at y j) (bit_at-lt x j) (bit_at-lt y j) e,
-        )
-
-    out : (m n : ℕ) → m ≡ 1 → n ≡ 0 → (min m n + m) % 2 ≡ 1
-    out m n e f = omega (arith, e, f)
-
-    to : ((j : ℕ) × (bit_at x j ≡ 1) × (bit_at y j ≡ 0)) → bit_xor (bit_and x y) x ≢ 0
-    to (j, one, none) z = zero_not_one (bit_at (bit_xor (bit_and x y) x) j)
-        (ap (λ n. bit_at n j) z ∙ bit_at-zero j) (bit j ∙ out (bit_at x j) (bit_at y j) one none)
+    to : ((j : ℕ) × (bit_at x j ≡ 1) × (bit_at y j ≡ 0)) → left ≢ 0
+    to (j, one, none) z = zero_not_one (bit_at left j) (ap (λ n. bit_at n j) z ∙ bit_at-zero j)
+        (bit j within ∙ omega (arith, one, none))
+      where
+        within : j < 128
+        within = elim (lt_or_le j 128) [
+          | inl lt ↦ lt
+          | inr le ↦ absurd (zero_not_one (bit_at x j) (bit_at_above x 128 j x_fits le) one)
+        ]

@@ -67,7 +67,7 @@ some_positive : (a : ℤ) → pos 0 <ℤ a → a ≢ pos 0
 some_positive a h e = omega (arith, ints)
 
 -- two planes through v, and a third one that is not: on the plane c only planes parallel to it hold v and the crossing with m
-off_crossing : (g c m v : V3) → dot g v ≡ pos 0 → dot c v ≡ pos 0 → dot m v ≢ pos 0 → cross g c ≢ origin → dot g (cross c m) ≢ pos 0
+pub off_crossing : (g c m v : V3) → dot g v ≡ pos 0 → dot c v ≡ pos 0 → dot m v ≢ pos 0 → cross g c ≢ origin → dot g (cross c m) ≢ pos 0
 off_crossing g c m v on_g on_c off some e =
     let p = cross g c in
     let both : dot p p *ℤ dot m v ≡ dot v p *ℤ dot m p = sym (dot_scale (dot p p) m v) ∙ ap (dot m) (along v g c on_g on_c) ∙ dot_scale (dot v p) m p in

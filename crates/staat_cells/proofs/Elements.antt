@@ -1,28 +1,26 @@
 -- Lists of which all members, or some, have a property, as a member is added or changed.
-use Rattle.std.proofs.Common.{
-  ◌≡◌,
-  ◌⊎◌,
-  ◌↔◌,
-  inl,
-  inr,
-  ⊎_elim,
-  ℕ,
-  zero,
-  suc,
-  ◌+◌,
-  ◌<◌,
-  refl,
-  sym,
-  ap,
-  subst,
-  arith,
-}
+use Rattle.std.proofs.Common.{◌≡◌, ◌⊎◌, ◌↔◌, inl, inr, ⊎_elim, ℕ, zero, suc, ◌+◌, ◌<◌, refl, sym, ap, subst, arith}
 use Rattle.std.proofs.Common.{◌∙◌, List, [], ◌∷◌, ◌++◌, length, get_or, take, All, Any}
-use Rattle.std.specs.Prelude.{slice_set}
+use Rattle.std.specs.Prelude.{Some, slice_set}
 use Rattle.std.proofs.lemmas.List.{take_more}
 use Rattle.std.proofs.lemmas.List.Elements.{All-cons, All-head, All-pop, All-push, All-tail}
 use Rattle.std.proofs.lemmas.List.Elements.{Contains-append_left, Contains-push, Contains-push_cases}
-use Rattle.std.specs.Prelude.{Some}
+
+pub turned : {N O P : Type 0} → N ↔ (O ⊎ P) → N ↔ (P ⊎ O)
+turned n = (λ h. elim (n.0 h) [ inl o ↦ inr o | inr p ↦ inl p ], λ h. n.1 (elim h [ inl p ↦ inr p | inr o ↦ inl o ]))
+
+-- where P gives way to R, which also holds where Q does, beside O
+beside_more : {M N O P Q R : Type 0} → M ↔ (O ⊎ P) → N ↔ (O ⊎ R) → R ↔ (P ⊎ Q) → N ↔ (M ⊎ Q)
+beside_more m n r = (
+  λ h. elim (n.0 h) [
+    | inl o ↦ inl (m.1 (inl o))
+    | inr s ↦ elim (r.0 s) [ inl p ↦ inl (m.1 (inr p)) | inr q ↦ inr q ]
+  ],
+  λ h. n.1 (elim h [
+    | inl g ↦ elim (m.0 g) [ inl o ↦ inl o | inr p ↦ inr (r.1 (inl p)) ]
+    | inr q ↦ inr (r.1 (inr q))
+  ]),
+)
 
 module _ {X : Type 0} (P : X → Type 0) where
   pub any_pushed : (xs new : List X) (x : X) → new ≡ xs ++ x ∷ [] → Any P new ↔ (Any P xs ⊎ P x)
@@ -81,25 +79,6 @@ module _ {X : Type 0} (P : X → Type 0) where
   pub any_set : (xs : List X) (k : ℕ) (d y : X) (Q : Type 0) → k < length xs → P y ↔ (P (get_or xs k d) ⊎ Q)
       → Any P (slice_set xs k y) ↔ (Any P xs ⊎ Q)
   any_set [] k d y Q lt own = absurd (omega (arith, lt))
-  any_set (x ∷ xs) zero d y Q lt own = (
-    λ h. ⊎_elim {C = Any P (x ∷ xs) ⊎ Q} (λ o. inl ((any_first x xs).1 (inl o)))
-        (λ p. ⊎_elim {C = Any P (x ∷ xs) ⊎ Q} (λ o. inl ((any_first x xs).1 (inr o))) (λ q. inr q) (own.0 p))
-        ((any_first y xs).0 h),
-    ⊎_elim {C = Any P (y ∷ xs)}
-        (λ o. ⊎_elim {C = Any P (y ∷ xs)} (λ r. (any_first y xs).1 (inl r))
-        (λ p. (any_first y xs).1 (inr (own.1 (inl p)))) ((any_first x xs).0 o))
-        (λ q. (any_first y xs).1 (inr (own.1 (inr q)))),
-  )
-  any_set (x ∷ xs) (suc k) d y Q lt own =
-      let rest = any_set xs k d y Q (omega (arith, lt)) own in (
-        λ h. ⊎_elim {C = Any P (x ∷ xs) ⊎ Q}
-            (λ o. ⊎_elim {C = Any P (x ∷ xs)
-            ⊎ Q} (λ r. inl ((any_first x xs).1 (inl r))) (λ q. inr q) (rest.0 o))
-            (λ p. inl ((any_first x xs).1 (inr p)))
-            ((any_first x (slice_set xs k y)).0 h),
-        ⊎_elim {C = Any P (x ∷ slice_set xs k y)}
-            (λ o. ⊎_elim {C = Any P (x ∷ slice_set xs k y)}
-            (λ r. (any_first x (slice_set xs k y)).1 (inl (rest.1 (inl r))))
-            (λ p. (any_first x (slice_set xs k y)).1 (inr p)) ((any_first x xs).0 o))
-            (λ q. (any_first x (slice_set xs k y)).1 (inl (rest.1 (inr q)))),
-      )
+  any_set (x ∷ xs) zero d y Q lt own = beside_more (any_first x xs) (any_first y xs) own
+  any_set (x ∷ xs) (suc k) d y Q lt own = beside_more (turned (any_first x xs)) (turned (any_first x (slice_set xs k y)))
+      (any_set xs k d y Q (omega (arith, lt)) own)

@@ -1,18 +1,15 @@
 -- Packed signs in which each zero gives way to one sign.
-use Rattle.std.proofs.Common.{◌≡◌, ℕ, zero, suc, ◌+◌, ◌-◌, ◌*◌, ◌/◌, ◌%◌, ◌^◌, ◌<◌}
-use Rattle.std.proofs.Common.{◌≤◌, refl, sym, ap, ◌∙◌, arith}
-use Rattle.std.proofs.Common.{List, [], ◌∷◌, length, take, drop}
+use Rattle.std.proofs.Common.{◌≡◌, ℕ, zero, suc, ◌+◌, ◌-◌, ◌*◌, ◌/◌, ◌%◌, ◌^◌, ◌<◌, ◌≤◌, refl, sym, ap, subst, ◌∙◌}
+use Rattle.std.proofs.Common.{arith, List, [], ◌∷◌, length, take, drop}
 use Rattle.std.specs.Prelude.{bit_and}
-use Rattle.std.proofs.Math.Nat.{pow-le-pow_right}
 use Rattle.std.proofs.lemmas.List.{drop-map, length-map, take-map}
 use Rattle.std.proofs.lemmas.Nat.{and_mod, and_shr}
 use Rattle.staat_vec.specs.declared.vector.Sign.{Sign}
 use Rattle.staat_vec.specs.declared.vector.Sign.TheVariants.{Neg, Zero, Pos}
 use Rattle.staat_model.specs.Cells.{sign_place}
 use Rattle.staat_cells.specs.Beside.{filled, then_sign}
-use Rattle.staat_cells.specs.ZeroSigns.{IsSignWord}
 use Rattle.staat_cells.specs.Packing.{packed, packed_after}
-use Rattle.staat_cells.proofs.ZeroSignLemmas.{below}
+use Rattle.staat_cells.proofs.ZeroSignLemmas.{packed_fits, wrapped_difference, wrapped_sum}
 use Rattle.staat_cells.proofs.Words.{length_taken}
 
 -- ---- the zeros as digits
@@ -116,36 +113,25 @@ zeros_are s le =
     ∙ and_ones 0 (64 - length s) s
 
 pub word_neg : (s : List Sign) (word : ℕ) → packed s ≡ word → length s ≤ 64
-    → word - bit_and word ALL ≡ packed (filled Neg s)
+    → (word + (2 ^ 128 - bit_and word ALL)) % 2 ^ 128 ≡ packed (filled Neg s)
 word_neg s word e le =
     let z = ap (λ n. bit_and n ALL) (sym e) ∙ zeros_are s le in
     let h = filled_down 0 0 s in
-    omega (arith, z, h, e)
+    wrapped_difference word (bit_and word ALL) (packed (filled Neg s)) (omega (arith, z, h, e))
+    (subst (λ n. n < 2 ^ 128) e (packed_fits s le))
 
 pub word_zero : (s : List Sign) (word : ℕ) → packed s ≡ word → word ≡ packed (filled Zero s)
 word_zero s word e = sym e ∙ ap packed (sym (filled_same s))
 
 pub word_pos : (s : List Sign) (word : ℕ) → packed s ≡ word → length s ≤ 64
-    → word + bit_and word ALL ≡ packed (filled Pos s)
+    → (word + bit_and word ALL) % 2 ^ 128 ≡ packed (filled Pos s)
 word_pos s word e le =
     let z = ap (λ n. bit_and n ALL) (sym e) ∙ zeros_are s le in
     let h = filled_up 0 0 s in
-    omega (arith, z, h, e)
-
-pub word_fits : (word : ℕ) → IsSignWord word → word + bit_and word ALL < 2 ^ 128
-word_fits word h =
-    let s = filled Pos h.signs in
-    let e = word_pos h.signs word h.is h.few in
-    let b = below 0 s in
-    let l : length s ≤ 64 = (let m = length-map h.signs (λ x. then_sign x Pos) in let f = h.few in
-    omega (arith, m, f)) in
-    let power : 4 ^ length s ≤ 4 ^ 64 = pow-le-pow_right {n = 4} (omega arith) {i = length s} {j = 64} l in
-    omega (arith, e, b, power)
+    wrapped_sum word (bit_and word ALL) (packed (filled Pos s)) (omega (arith, z, h, e))
+    (packed_fits (filled Pos s) (omega (arith, length-map s (λ x. then_sign x Pos), le)))
 
 -- ---- four words
-
-pub word_of : (word : ℕ) (s : List Sign) → word ≡ packed (take 64 s) → IsSignWord word
-word_of word s e = record { signs = take 64 s; is = sym e; few = length_taken s }
 
 -- the word of the filled signs from n on, where the new word is the filled one
 pub filled_word_at : (n : ℕ) (t : Sign) (s : List Sign) (word new : ℕ) → word ≡ packed (take 64 (drop n s))

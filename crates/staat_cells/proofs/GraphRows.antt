@@ -22,7 +22,7 @@ use Rattle.staat_cells.specs.Batches.{HasLeft, IsJoinedArc, IsLeft, IsLeftByAll,
 use Rattle.staat_cells.specs.CellGraphs.{HasArcsOf, IsAheadBy, IsArcAt, IsCellGraph}
 use Rattle.staat_cells.proofs.FacetPlanes.{ahead_by_signs}
 use Rattle.staat_planes.proofs.Gaining.{adds_nothing}
-use Rattle.staat_cells.proofs.Growing.{grown_first, grown_take}
+use Rattle.staat_cells.proofs.Growing.{grown_first, grown_same, grown_take}
 
 -- ---- the arcs of a batch
 
@@ -72,11 +72,8 @@ pub batch_arcs : (batch : JoinedBatch) (signs : List Sign) (outside k : ℕ) (ar
     → ((j : ℕ) → IsLeft outside j ↔ IsLeftByAll (joined_outside signs) tests j)
     → AddsLeft outside (take k arcs) old new
     → (a b : ℕ) → HasArc new a b ↔ (HasArc old a b ⊎ IsJoinedArc batch signs a b)
-batch_arcs batch signs outside k arcs tests old new arcs_are tests_are le ruled all a b = (
-  λ h. ⊎_elim {C = HasArc old a b ⊎ IsJoinedArc batch signs a b} (λ o. inl o) (λ p. inr (from (whole.0 p)))
-      ((all.has a b).0 h),
-  ⊎_elim {C = HasArc new a b} (λ o. (all.has a b).1 (inl o)) (λ p. (all.has a b).1 (inr (whole.1 (to p)))),
-)
+batch_arcs batch signs outside k arcs tests old new arcs_are tests_are le ruled all a b =
+    grown_same (all.has a b) (λ p. from (whole.0 p), λ p. whole.1 (to p))
   where
     Left : List ArcCones → Type 0
     Left l = Any (IsArcLeft outside a b) l

@@ -25,7 +25,7 @@ use Rattle.staat_cells.proofs.SignOrder.{not_below_itself, signs_exact, signs_to
 use Rattle.staat_cells.proofs.Words.{incidence_order}
 use Rattle.staat_vec.proofs.Naturals.{lt_suc_cases, trichotomy, lt_one_more_cases}
 use Rattle.staat_vec.proofs.Comparisons.{less_number}
-use Rattle.staat_vec.proofs.Truth.{from_not_false, not_true_clash}
+use Rattle.staat_vec.proofs.Truth.{and_split, from_not_false, not_true_clash}
 use Rattle.staat_vec.proofs.ListLaws.{append_nothing, any_default}
 
 pub cell_length : (planes : List V3) (s : List Sign) → IsCell planes s → length s ≡ length planes
@@ -35,10 +35,6 @@ words_themselves : (s : List Sign) (j k : ℕ) → same_words (incidence_of s j)
 words_themselves s j k =
     let x = incidence_of s j in
     λ i. eq-eqb x.a x.a refl i && (eq-eqb x.b x.b refl i && (eq-eqb x.c x.c refl i && eq-eqb x.d x.d refl i))
-
-and_true : (a b : Bool) → a && b ≡ true → (a ≡ true) × (b ≡ true)
-and_true true b e = (refl, e)
-and_true false b e = cc
 
 -- one cell more, and one incidence more with its signs
 more_signs : (cells : List CellEntry) (c : CellEntry) (incidences : List Incidence) (x : Incidence)
@@ -141,9 +137,9 @@ module _ (planes : List V3) (kind : Kind) (lower : List CellEntry) (incidences :
   goes_on m s t a b e =
       let x = get_or incidences m no_incidence in
       let y = get_or incidences (suc m) no_incidence in
-      let (ea, r1) = and_true (nat_eq x.a y.a) _ (from_not_false (same_words x y) e) in
-      let (eb, r2) = and_true (nat_eq x.b y.b) _ r1 in
-      let (ec, ed) = and_true (nat_eq x.c y.c) _ r2 in
+      let (ea, r1) = and_split (nat_eq x.a y.a) _ (from_not_false (same_words x y) e) in
+      let (eb, r2) = and_split (nat_eq x.b y.b) _ r1 in
+      let (ec, ed) = and_split (nat_eq x.c y.c) _ r2 in
       let u = a.under in
       let v = b.under in
       same_signs s t 0 0 u.cell v.cell

@@ -1,10 +1,10 @@
 -- Tests of a batch that are joined by threes.
 use Rattle.std.proofs.Common.{All}
-use Rattle.std.proofs.Common.{◌≡◌, ◌↔◌, ⊎_elim, ℕ, ◌+◌, ◌*◌, ◌/◌, ◌%◌, ◌<◌, ◌≤◌, max, sym, ap, subst, ◌∙◌, arith, below_more}
+use Rattle.std.proofs.Common.{◌≡◌, ◌↔◌, ⊎_elim, ℕ, ◌+◌, ◌*◌, ◌/◌, ◌%◌, ◌<◌, ◌≤◌, max, sym, ap, subst, ◌∙◌, arith}
 use Rattle.std.proofs.Common.{List, ◌∷◌, [], ◌++◌, length, get_or, take}
-use Rattle.std.specs.Prelude.{bit_or, slice_index, slice_set}
+use Rattle.std.specs.Prelude.{bit_or, slice_index}
 use Rattle.std.specs.Int.{bit_at}
-use Rattle.std.proofs.lemmas.List.{get_or_default, get_or-set_other, get_or-set_same, get_or_past, take_all}
+use Rattle.std.proofs.lemmas.List.{get_or_default, get_or_past, take_all}
 use Rattle.std.proofs.lemmas.Nat.Bits.{bit_at-zero, bit_at_or}
 use Rattle.staat_vec.specs.declared.vector.Sign.{Sign}
 use Rattle.staat_vec.specs.declared.vector.Sign.TheVariants.{Neg, Zero, Pos}
@@ -19,25 +19,13 @@ use Rattle.staat_cells.specs.CellGraphs.{HasArcsOf, IsArcAt, IsListedArc, ListsA
 use Rattle.staat_cells.specs.Batches.{HasCone, HasPlanesUpTo, IsBatchArc, IsJoinedArc}
 use Rattle.staat_cells.specs.Batches.{IsLeft, IsLeftByAll, joined_outside, no_test, outside_by, outside_together, place_of_three}
 use Rattle.staat_cells.proofs.Elements.{all_more, all_pushed}
+use Rattle.staat_cells.proofs.Words.{place_small}
 use Rattle.staat_vec.proofs.Naturals.{lt_or_le}
 
 -- ---- three tests
 
--- a list of which one place more is as wanted
-pub set_more : (words : List ℕ) (i v : ℕ) (f : ℕ → ℕ) → i < length words → v ≡ f i
-    → ((k : ℕ) → k < i → slice_index words k ≡ f k)
-    → (k : ℕ) → k < i + 1 → slice_index (slice_set words i v) k ≡ f k
-set_more words i v f lt e before =
-    below_more _ _ (λ k l. get_or-set_other words i k v 0 (λ same. omega (arith, same, l)) ∙ before k l)
-    (get_or-set_same words i v 0 lt ∙ e)
-
-small_place : (s : Sign) → sign_place s < 3
-small_place Neg = omega arith
-small_place Zero = omega arith
-small_place Pos = omega arith
-
 -- the three digits of a place
-place_digits : (a b c : ℕ) → a < 3 → b < 3 → c < 3 → let i = 9 * a + 3 * b + c in
+place_digits : (a b c : ℕ) → a ≤ 2 → b ≤ 2 → c ≤ 2 → let i = 9 * a + 3 * b + c in
     (i < 27) × (i / 9 ≡ a) × (i / 3 % 3 ≡ b) × (i % 3 ≡ c)
 place_digits a b c la lb lc = (omega arith, omega arith, omega arith, omega arith)
 
@@ -51,7 +39,7 @@ pub words_are : (x y z : PlaneTest) (words : List ℕ)
     → (s t u : Sign) → slice_index words (place_of_three s t u) ≡ outside_together x y z s t u
 words_are x y z words are s t u =
     let (lt, first, second, third) = place_digits (sign_place s) (sign_place t) (sign_place u)
-    (small_place s) (small_place t) (small_place u) in
+    (place_small s) (place_small t) (place_small u) in
     are (place_of_three s t u) lt ∙ (λ i.
     bit_or (bit_or (slice_index x.outside (first i)) (slice_index y.outside (second i))) (slice_index z.outside (third i)))
 

@@ -18,16 +18,12 @@ use Rattle.staat_cells.specs.Packing.{incidence_cmp, incidence_of}
 use Rattle.staat_cells.specs.Skeletons.{IsSkeleton}
 use Rattle.staat_cells.specs.Stages.{cell_at, point_entry, HaveSigns, IsFilledIncidence, IsOwnIncidence, IsIncidence}
 use Rattle.staat_model.proofs.Members.{All-from_members}
-use Rattle.staat_cells.proofs.EdgeCells.{edges_made_up}
-use Rattle.staat_cells.proofs.Grouping.{begun_signs, composed_are_cells, pairs}
+use Rattle.staat_cells.proofs.Grouping.{AreMadeUp, begun_signs, composed_are_cells, pairs}
 use Rattle.staat_cells.proofs.Numbered.{listed_was}
 use Rattle.staat_cells.proofs.OpenCells.{opens_made_up}
 use Rattle.staat_cells.proofs.PointCells.{points_are}
 use Rattle.staat_cells.proofs.TableRules.{holds_axes, planes_apart}
-use Rattle.staat_cells.proofs.WholeLists.{edges_small, equal_lengths, open_incidences_are}
-
-counted : (kind : Kind) (cells : List Cell) (incidences : List Incidence) → HavePairs incidences (length (map entry_of cells)) → HavePairs incidences (length cells)
-counted kind cells incidences have = subst (HavePairs incidences) (length-map cells entry_of) have
+use Rattle.staat_cells.proofs.WholeLists.{edges_small, equal_lengths, lists_as, open_incidences_are}
 
 module _ (planes : List V3) (are : AreTablePlanes planes) (few : length planes ≤ 256) where
   -- ---- points
@@ -64,57 +60,41 @@ module _ (planes : List V3) (are : AreTablePlanes planes) (few : length planes �
             ap (λ l. cell_at l k) made ∙ get_or-map cell incidences k no_incidence no_cell below in
             o.is ∙ ap (λ (c : CellEntry). incidence_of c.signs x.of) (sym at)
 
-  -- ---- edges
+  -- ---- edges and open cells
 
-  module _ (points : List Cell) (points_are : AreCellsOf planes Point (map entry_of points)) (incidences : List Incidence)
-      (edge_lists : Lists incidence_cmp (IsIncidence planes Edge (map entry_of points)) incidences) where
-    pub edge_pairs : HavePairs incidences (length points)
-    edge_pairs = counted Edge points incidences (pairs planes Edge (map entry_of points) incidences few edge_lists (edges_made_up planes are (map entry_of points) points_are))
+  module _ (kind : Kind) (lower : List Cell) (incidences : List Incidence)
+      (made_up : AreMadeUp planes kind (map entry_of lower))
+      (lists : Lists incidence_cmp (IsIncidence planes kind (map entry_of lower)) incidences) where
+    pub lower_pairs : HavePairs incidences (length lower)
+    lower_pairs = subst (HavePairs incidences) (length-map lower entry_of)
+        (pairs planes kind (map entry_of lower) incidences few lists made_up)
 
-    pub edges_listed : (cells : List Cell) → map entry_of cells ≡ composed_up_to Edge (map entry_of points) incidences (length incidences) → AreCellsOf planes Edge (map entry_of cells)
-    edges_listed cells made =
-        subst (AreCellsOf planes Edge) (sym made)
-        (composed_are_cells planes Edge (map entry_of points) incidences few edge_lists
-        (edges_made_up planes are (map entry_of points) points_are))
+    module _ (cells : List Cell)
+        (made : map entry_of cells ≡ composed_up_to kind (map entry_of lower) incidences (length incidences)) where
+      pub kind_listed : AreCellsOf planes kind (map entry_of cells)
+      kind_listed = subst (AreCellsOf planes kind) (sym made)
+          (composed_are_cells planes kind (map entry_of lower) incidences few lists made_up)
 
-    pub edge_signs : (cells : List Cell) (own : List Incidence)
-        → map entry_of cells ≡ composed_up_to Edge (map entry_of points) incidences (length incidences)
-        → own ≡ begun_up_to incidences (length incidences) → HaveSigns (map entry_of cells) own
-    edge_signs cells own made is =
-        subst (HaveSigns (map entry_of cells)) (sym is) (subst (λ l. HaveSigns l (begun_up_to incidences (length incidences))) (sym made)
-        (begun_signs planes Edge (map entry_of points) incidences few edge_lists
-        (edges_made_up planes are (map entry_of points) points_are)))
-
-  -- ---- open cells
-
-  module _ (edges : List Cell) (edges_are : AreCellsOf planes Edge (map entry_of edges)) (incidences : List Incidence)
-      (lists : Lists incidence_cmp (IsFilledIncidence (map entry_of edges)) incidences) where
-    open_lists : Lists incidence_cmp (IsIncidence planes Open (map entry_of edges)) incidences
-    open_lists = record {
-      ascending = lists.ascending;
-      each = λ x c. (open_incidences_are planes are (map entry_of edges) edges_are x).0 (lists.each x c);
-      all = λ x s. lists.all x ((open_incidences_are planes are (map entry_of edges) edges_are x).1 s);
-    }
-
-    pub open_pairs : HavePairs incidences (length edges)
-    open_pairs = counted Open edges incidences (pairs planes Open (map entry_of edges) incidences few open_lists
-        (opens_made_up planes are (map entry_of edges) edges_are))
-
-    pub opens_listed : AreCellsOf planes Open (composed_up_to Open (map entry_of edges) incidences (length incidences))
-    opens_listed =
-        composed_are_cells planes Open (map entry_of edges) incidences few open_lists
-        (opens_made_up planes are (map entry_of edges) edges_are)
+      pub kind_signs : HaveSigns (map entry_of cells) (begun_up_to incidences (length incidences))
+      kind_signs = subst (λ l. HaveSigns l (begun_up_to incidences (length incidences))) (sym made)
+          (begun_signs planes kind (map entry_of lower) incidences few lists made_up)
 
   pub skeleton_is : (s : Skeleton) → AreCellsOf planes Point (map entry_of s.points.items)
       → AreCellsOf planes Edge (map entry_of s.edges.items)
       → Lists incidence_cmp (IsFilledIncidence (map entry_of s.edges.items)) s.incidences.items → IsSkeleton planes s
-  skeleton_is s points edges lists = record {
-    has = record {
-      pairs = open_pairs s.edges.items edges s.incidences.items lists;
-      size = edges_small planes are s.edges.items edges;
-      signs = equal_lengths planes are Edge s.edges.items edges;
-    };
-    points = points;
-    edges = edges;
-    opens = opens_listed s.edges.items edges s.incidences.items lists;
-  }
+  skeleton_is s points edges filled =
+      let lower = map entry_of s.edges.items in
+      let incidences = s.incidences.items in
+      let made_up = opens_made_up planes are lower edges in
+      let lists = lists_as (IsFilledIncidence lower) (IsIncidence planes Open lower) incidences
+      (open_incidences_are planes are lower edges) filled in
+      record {
+        has = record {
+          pairs = lower_pairs Open s.edges.items incidences made_up lists;
+          size = edges_small planes are s.edges.items edges;
+          signs = equal_lengths planes are Edge s.edges.items edges;
+        };
+        points = points;
+        edges = edges;
+        opens = composed_are_cells planes Open lower incidences few lists made_up;
+      }

@@ -6,7 +6,7 @@ use Rattle.std.proofs.Common.{◌∷◌, length}
 use Rattle.std.proofs.Common.{map, Contains}
 use Rattle.std.specs.Prelude.{Some, slice_get}
 use Rattle.std.specs.Ordering.{nat_cmp, ordering_then}
-use Rattle.std.specs.declared.cmp.Ordering.TheVariants.{Equal, Less}
+use Rattle.std.specs.declared.cmp.Ordering.TheVariants.{Less}
 use Rattle.std.proofs.lemmas.Int.{ints}
 use Rattle.std.proofs.lemmas.List.Elements.{All-cons, All-contains, All-head, All-tail}
 use Rattle.std.proofs.lemmas.Map.Views.{All-after_first}
@@ -17,7 +17,7 @@ use Rattle.staat_vec.specs.declared.vector.Sign.TheVariants.{Neg, Zero, Pos}
 use Rattle.staat_vec.specs.Lists.{Lists}
 use Rattle.staat_vec.specs.Primitives.{or_next}
 use Rattle.staat_vec.specs.Vectors.{cross, dot, origin, plus, sign, vector}
-use Rattle.staat_vec.proofs.Unique.{Contains-cases, Contains-nothing}
+use Rattle.staat_vec.proofs.Unique.{Contains-cases, Contains-nothing, from_place}
 use Rattle.staat_vec.proofs.VecRing.{cross_self}
 use Rattle.staat_model.specs.declared.tree.Kind.TheVariants.{Open}
 use Rattle.staat_model.specs.Cells.{AreCellsOf, CellEntry, IsBorder, IsBorderEdge, IsCell, IsEntry, IsOpenSum, kind_of}
@@ -25,19 +25,21 @@ use Rattle.staat_model.specs.Cells.{sign_place, signs_cmp}
 use Rattle.staat_model.specs.Cells.{signs_of}
 use Rattle.staat_model.proofs.CellLemmas.{edge_zeros, two_edges_lemma, zeros}
 use Rattle.staat_model.proofs.EndLemmas.{on_one}
+use Rattle.staat_model.proofs.Places.{place_within}
 use Rattle.staat_pairs.specs.Tables.{AreTablePlanes, IsPlaneNormal}
 use Rattle.staat_cells.specs.declared.first_cell.LowEdge.{LowEdge}
 use Rattle.staat_cells.specs.FirstCell.{HasNoLowEdge, IsLastLowEdge, IsLowEdge, IsLowOn, all_negative}
 use Rattle.staat_cells.specs.FirstCell.{first_entry}
 use Rattle.staat_cells.proofs.Beside.{border_at, border_from, from_planes}
-use Rattle.staat_cells.proofs.LowEdges.{low_kind}
-use Rattle.staat_cells.proofs.SignOrder.{not_below_itself, then_less}
+use Rattle.staat_cells.proofs.Borders.{open_sum}
+use Rattle.staat_cells.proofs.LowEdges.{low_kind, same_or_apart}
+use Rattle.staat_cells.proofs.SignOrder.{then_less}
 use Rattle.staat_cells.proofs.TableRules.{holds_axes, planes_apart}
 use Rattle.staat_cells.proofs.Zeros.{none_zero, open_kind}
 use Rattle.staat_vec.proofs.Naturals.{trichotomy}
+use Rattle.staat_vec.proofs.Comparisons.{nat_cmp-same}
 use Rattle.staat_vec.proofs.Options.{some_injective}
 use Rattle.staat_vec.proofs.Signs.{negative_sign, sign_negative, zero_sign}
-use Rattle.staat_vec.proofs.Integers.{zero_not_negative}
 
 -- ---- a direction on the negative side of all planes
 
@@ -58,19 +60,6 @@ far_some e = let wrong : negsuc 0 ≡ pos 0 = ap (λ (v : V3). v.z) e in cc
 
 -- ---- signs at a place
 
-listed : (planes : List V3) (k : ℕ) (g : V3) → slice_get planes k ≡ Some g → Contains planes g
-    × (k < length planes)
-listed [] k g e = cc
-listed (n ∷ planes) zero g e = ((zero, omega arith, some_injective n g e), omega arith)
-listed (n ∷ planes) (suc k) g e =
-    let ((i, lt, at), below) = listed planes k g e in
-    ((suc i, omega arith, at), omega arith)
-
-same_place : (s : Sign) → nat_cmp (sign_place s) (sign_place s) ≡ Equal
-same_place Neg = refl
-same_place Zero = refl
-same_place Pos = refl
-
 less_from : (f g : V3 → Sign) (gs : List V3) (k : ℕ) (h : V3) → slice_get gs k ≡ Some h → f h ≡ Neg
     → g h ≡ Zero
     → ((i : ℕ) (m : V3) → i < k → slice_get gs i ≡ Some m → f m ≡ g m)
@@ -83,7 +72,7 @@ less_from f g (n ∷ gs) zero h at low flat before =
 less_from f g (n ∷ gs) (suc k) h at low flat before =
     (λ i. ordering_then (nat_cmp (sign_place (before 0 n (omega arith) refl i)) (sign_place (g n)))
     (signs_cmp (map f gs) (map g gs)))
-    ∙ ap (λ t. ordering_then t (signs_cmp (map f gs) (map g gs))) (same_place (g n))
+    ∙ ap (λ t. ordering_then t (signs_cmp (map f gs) (map g gs))) (nat_cmp-same (sign_place (g n)))
     ∙ less_from f g gs k h at low flat (λ i m lt e. before (suc i) m (omega arith) e)
 
 module _ (planes : List V3) (are : AreTablePlanes planes) where
@@ -113,25 +102,25 @@ module _ (planes : List V3) (are : AreTablePlanes planes) where
   neg_off g d m low m_in other = ⊎_elim {C = sign (dot m d) ≡ Neg} (λ same. absurd (other same))
       (λ under. negative_sign (dot m d) under) (low.below m m_in)
 
-  same_signs : (g d x : V3) → IsLowOn planes g d → IsLowOn planes g x → signs_of planes x ≡ signs_of planes d
-  same_signs g d x low other = from_planes (λ n. sign (dot n x)) (λ n. sign (dot n d)) planes
-      (λ m m_in. ⊎_elim {C = sign (dot m x) ≡ sign (dot m d)}
-      (λ same. ap (λ z. sign (dot z x)) same ∙ zero_on g x other ∙ sym (zero_on g d low)
-      ∙ ap (λ z. sign (dot z d)) (sym same))
-      (λ under. ⊎_elim {C = sign (dot m x) ≡ sign (dot m d)}
-      (λ same. absurd (zero_not_negative (dot m d) (ap (λ z. dot z d) same ∙ low.on) under))
-      (λ also. negative_sign (dot m x) also ∙ sym (negative_sign (dot m d) under)) (other.below m m_in))
-      (low.below m m_in))
+  same_signs : (g d x : V3) → Contains planes g → IsLowOn planes g d → IsLowOn planes g x
+      → signs_of planes x ≡ signs_of planes d
+  same_signs g d x g_in low other = from_planes (λ n. sign (dot n x)) (λ n. sign (dot n d)) planes
+      (λ m m_in. elim (same_or_apart planes m g are m_in g_in) [
+        | inl same ↦ (λ i. sign (dot (same i) x)) ∙ zero_on g x other ∙ sym (zero_on g d low)
+            ∙ (λ i. sign (dot (sym same i) d))
+        | inr apart ↦ let off : m ≢ g = λ e. apart (ap (λ z. cross z g) e ∙ cross_self g) in
+            neg_off g x m other m_in off ∙ sym (neg_off g d m low m_in off)
+      ])
 
   earlier : (j k : ℕ) (g h d x : V3) → slice_get planes j ≡ Some g → slice_get planes k ≡ Some h
       → IsLowOn planes g d → IsLowOn planes h x → k < j
       → signs_cmp (signs_of planes d) (signs_of planes x) ≡ Less
   earlier j k g h d x at is low other lt = less_from (λ n. sign (dot n d)) (λ n. sign (dot n x)) planes k h is
-      (neg_off g d h low (listed planes k h is).0 (different k j h g is at (λ e. omega (arith, lt, e))))
+      (neg_off g d h low (from_place planes k h is) (different k j h g is at (λ e. omega (arith, lt, e))))
       (zero_on h x other)
-      (λ i m before m_at. neg_off g d m low (listed planes i m m_at).0
+      (λ i m before m_at. neg_off g d m low (from_place planes i m m_at)
       (different i j m g m_at at (λ e. omega (arith, lt, before, e)))
-      ∙ sym (neg_off h x m other (listed planes i m m_at).0
+      ∙ sym (neg_off h x m other (from_place planes i m m_at)
       (different i k m h m_at is (λ e. omega (arith, before, e)))))
 
   -- ---- the edges on the border of the cell
@@ -171,7 +160,7 @@ module _ (planes : List V3) (are : AreTablePlanes planes) where
       → IsBorderEdge planes (all_negative planes) (signs_of planes d)
   at_edge k g d at edge = record {
     cell = record { d = d; nonzero = edge.some; is = refl };
-    edge = low_kind planes are g d (listed planes k g at).0 edge.low;
+    edge = low_kind planes are g d (from_place planes k g at) edge.low;
     border = border_from (λ n. sign (dot n d)) (λ n. Neg) planes (λ m m_in. side d g m edge.low m_in);
   }
     where
@@ -199,7 +188,7 @@ module _ (planes : List V3) (are : AreTablePlanes planes) where
       )
       by (inr (inl same)) =
           let here : at.g ≡ last.g = some_injective at.g last.g (sym at.at ∙ ap (slice_get planes) same ∙ last.at) in
-          inl (sym at.is ∙ same_signs last.g e.d at.d edge.low (subst (λ z. IsLowOn planes z at.d) here at.low))
+          inl (sym at.is ∙ same_signs last.g e.d at.d (from_place planes e.place last.g last.at) edge.low (subst (λ z. IsLowOn planes z at.d) here at.low))
       by (inr (inr more)) = absurd (last.later k at.g more within at.at at.d at.low)
 
   -- an edge on the border is the last one, or on an earlier plane
@@ -207,14 +196,14 @@ module _ (planes : List V3) (are : AreTablePlanes planes) where
       → (k : ℕ) × IsEdgeAt s k
       × ((s ≡ signs_of planes e.d) ⊎ ((k < e.place) × (signs_cmp (signs_of planes e.d) s ≡ Less)))
   seen e last s b =
-      let (k, at) = edge_at s b in (k, at, at_or_before e (length planes) k s last at (listed planes k at.g at.at).1)
+      let (k, at) = edge_at s b in (k, at, at_or_before e (length planes) k s last at (place_within planes k at.g at.at))
 
   pub some_first : HasNoLowEdge planes (length planes) → ⊥
   some_first none =
       let two = two_edges_lemma planes (all_negative planes) (holds_axes planes are) (planes_apart planes are)
       negative_cell negative_kind in
       let (k, at) = edge_at two.e two.e_is in
-      none k at.g (listed planes k at.g at.at).1 at.at at.d at.low
+      none k at.g (place_within planes k at.g at.at) at.at at.d at.low
 
   pub some_second : (e : LowEdge) → IsLastLowEdge planes (length planes) e → HasNoLowEdge planes e.place → ⊥
   some_second e last none =
@@ -234,7 +223,17 @@ module _ (planes : List V3) (are : AreTablePlanes planes) where
     kind_is = refl;
     by_count = negative_kind;
     cell = negative_cell;
-    representative = sum;
+    representative = subst (IsOpenSum planes (all_negative planes)) (sym is)
+        (open_sum planes (all_negative planes) (signs_of planes e.d) (signs_of planes f.d) e.d f.d
+        (at_edge e.place e_is.g e.d e_is.at e_edge) (at_edge f.place f_is.g f.d f_is.at f_edge) e_edge.sum f_edge.sum
+        (earlier e.place f.place e_is.g f_is.g e.d f.d e_is.at f_is.at e_edge.low f_edge.low f_is.before)
+        (λ y b. let (k, at, found) = seen e e_is y b in elim found [
+          | inl same ↦ inl same
+          | inr before ↦ inr (elim (at_or_before f e.place k y f_is at before.0) [
+            | inl same ↦ inl same
+            | inr later ↦ inr later.1
+          ])
+        ]));
   }
     where
       e_edge : IsLowEdge planes e_is.g e.d
@@ -242,47 +241,6 @@ module _ (planes : List V3) (are : AreTablePlanes planes) where
 
       f_edge : IsLowEdge planes f_is.g f.d
       f_edge = f_is.edge
-
-      e_border : IsBorderEdge planes (all_negative planes) (signs_of planes e.d)
-      e_border = at_edge e.place e_is.g e.d e_is.at e_edge
-
-      f_border : IsBorderEdge planes (all_negative planes) (signs_of planes f.d)
-      f_border = at_edge f.place f_is.g f.d f_is.at f_edge
-
-      apart : signs_of planes f.d ≢ signs_of planes e.d
-      apart same = not_below_itself (signs_of planes e.d) (ap (signs_cmp (signs_of planes e.d)) (sym same) ∙ less)
-        where
-          less : signs_cmp (signs_of planes e.d) (signs_of planes f.d) ≡ Less
-          less = earlier e.place f.place e_is.g f_is.g e.d f.d e_is.at f_is.at e_edge.low f_edge.low f_is.before
-
-      first : (y : List Sign) → IsBorderEdge planes (all_negative planes) y
-          → (y ≡ signs_of planes e.d) ⊎ (signs_cmp (signs_of planes e.d) y ≡ Less)
-      first y b =
-          let (k, at, found) = seen e e_is y b in
-          ⊎_elim {C = (y ≡ signs_of planes e.d) ⊎ (signs_cmp (signs_of planes e.d) y ≡ Less)} (λ same. inl same)
-          (λ (lt, less). inr less) found
-
-      second : (y : List Sign) → IsBorderEdge planes (all_negative planes) y × (y ≢ signs_of planes e.d)
-          → (y ≡ signs_of planes f.d) ⊎ (signs_cmp (signs_of planes f.d) y ≡ Less)
-      second y (b, other) =
-          let (k, at, found) = seen e e_is y b in
-          ⊎_elim {C = (y ≡ signs_of planes f.d) ⊎ (signs_cmp (signs_of planes f.d) y ≡ Less)}
-          (λ same. absurd (other same))
-          (λ (lt, less). ⊎_elim {C = (y ≡ signs_of planes f.d) ⊎ (signs_cmp (signs_of planes f.d) y ≡ Less)}
-          (λ same. inl same) (λ (under, also). inr also) (at_or_before f e.place k y f_is at lt)) found
-
-      sum : IsOpenSum planes (all_negative planes) d
-      sum = record {
-        e = signs_of planes e.d;
-        f = signs_of planes f.d;
-        u = e.d;
-        v = f.d;
-        first = record { has = e_border; least = first };
-        second = record { has = (f_border, apart); least = second };
-        u_is = e_edge.sum;
-        v_is = f_edge.sum;
-        is = is;
-      }
 
 -- ---- the cell stands first in the list of open cells
 

@@ -28,7 +28,6 @@ pub mod Zeros
 pub mod Beside
 pub mod Elements
 pub mod Growing
-pub mod SignLists
 pub mod Cones
 pub mod ConeTests
 pub mod BatchCones

@@ -1,5 +1,5 @@
 -- Each open cell is composed from the first two edges on its border.
-use Rattle.std.proofs.Common.{◌≡◌, ◌≢◌, ◌⊎◌, inl, inr, ℕ, ◌<◌, refl, sym, ap, subst, ◌∙◌, arith, List, Contains}
+use Rattle.std.proofs.Common.{◌≡◌, ◌≢◌, ◌⊎◌, inl, inr, ℕ, ◌<◌, refl, sym, ap, subst, ◌∙◌, List, Contains}
 use Rattle.std.specs.declared.cmp.Ordering.TheVariants.{Less}
 use Rattle.staat_vec.specs.declared.vector.V3.{V3}
 use Rattle.staat_vec.specs.declared.vector.Sign.{Sign}
@@ -13,7 +13,7 @@ use Rattle.staat_model.proofs.PlaneLemmas.{NoneParallel}
 use Rattle.staat_pairs.specs.Tables.{AreTablePlanes}
 use Rattle.staat_cells.specs.Compositions.{composed, composed_cell}
 use Rattle.staat_cells.specs.Stages.{cell_at, IsUnder}
-use Rattle.staat_cells.proofs.Borders.{HasTwo, IsOnBorder, border_under, some_under, two_under}
+use Rattle.staat_cells.proofs.Borders.{HasTwo, IsOnBorder, border_under, open_sum, some_under, two_under}
 use Rattle.staat_cells.proofs.Grouping.{AreMadeUp}
 use Rattle.staat_cells.proofs.TableRules.{holds_axes, planes_apart, planes_some}
 use Rattle.staat_cells.proofs.Listed.{entry_at, composed_signs, not_same, place_of, rising, StandsAt}
@@ -60,17 +60,9 @@ module _ (planes : List V3) (rules : AreTablePlanes planes) (edges : List CellEn
       let on_f : signs_of planes v ≡ f = edge_sum_in planes f axes apart some ek.cell ek.by_count v ek.representative in
       let on : signs_of planes (plus u v) ≡ s = edges_add_up_lemma planes s e f u v ej.by_count ek.by_count uj.border uk.border (not_same planes Edge edges are j k lt uk.listed) on_e on_f in
       let signs : composed e f ≡ s = (λ i. composed (sym on_e i) (sym on_f i)) ∙ composed_signs planes u v s on (subst (λ t. IsBorder t s) (sym on_e) uj.border) (subst (λ t. IsBorder t s) (sym on_f) uk.border) in
-      let sum : IsOpenSum planes s (plus u v) = record {
-        e = e;
-        f = f;
-        u = u;
-        v = v;
-        first = record { has = be; least = first };
-        second = record { has = (bf, λ p. not_same planes Edge edges are j k lt uk.listed (sym p)); least = λ y h. second y h.0 h.1 };
-        u_is = ej.representative;
-        v_is = ek.representative;
-        is = refl;
-      } in (
+      let sum = open_sum planes s e f u v be bf ej.representative ek.representative
+      (rising planes Edge edges are j k lt uk.listed)
+      (λ y b. let (m, at, under) = at_border s y uj.cell uj.by_count b in placed y m at (least m under)) in (
         record {
           kind_is = refl;
           by_count = ap kind_of signs ∙ uj.by_count;
@@ -80,21 +72,12 @@ module _ (planes : List V3) (rules : AreTablePlanes planes) (edges : List CellEn
         signs,
       )
     where
-      first : (y : List Sign) → IsBorderEdge planes s y → (y ≡ (cell_at edges j).signs) ⊎ (signs_cmp (cell_at edges j).signs y ≡ Less)
-      first y b = let (m, at, under) = at_border s y uj.cell uj.by_count b in go m at (least m under)
-        where
-          go : (m : ℕ) → StandsAt planes Edge edges are y m → (m ≡ j) ⊎ ((m ≡ k) ⊎ (k < m)) → (y ≡ (cell_at edges j).signs) ⊎ (signs_cmp (cell_at edges j).signs y ≡ Less)
-          go m at (inl p) = inl (sym at.is ∙ ap (λ n. (cell_at edges n).signs) p)
-          go m at (inr (inl p)) = inr (ap (signs_cmp (cell_at edges j).signs) (sym at.is) ∙ rising planes Edge edges are j m (omega arith) at.lt)
-          go m at (inr (inr g)) = inr (ap (signs_cmp (cell_at edges j).signs) (sym at.is) ∙ rising planes Edge edges are j m (omega arith) at.lt)
-
-      second : (y : List Sign) → IsBorderEdge planes s y → y ≢ (cell_at edges j).signs → (y ≡ (cell_at edges k).signs) ⊎ (signs_cmp (cell_at edges k).signs y ≡ Less)
-      second y b other = let (m, at, under) = at_border s y uj.cell uj.by_count b in go m at (least m under)
-        where
-          go : (m : ℕ) → StandsAt planes Edge edges are y m → (m ≡ j) ⊎ ((m ≡ k) ⊎ (k < m)) → (y ≡ (cell_at edges k).signs) ⊎ (signs_cmp (cell_at edges k).signs y ≡ Less)
-          go m at (inl p) = absurd (other (sym at.is ∙ ap (λ n. (cell_at edges n).signs) p))
-          go m at (inr (inl p)) = inl (sym at.is ∙ ap (λ n. (cell_at edges n).signs) p)
-          go m at (inr (inr g)) = inr (ap (signs_cmp (cell_at edges k).signs) (sym at.is) ∙ rising planes Edge edges are k m g at.lt)
+      placed : (y : List Sign) (m : ℕ) → StandsAt planes Edge edges are y m → (m ≡ j) ⊎ ((m ≡ k) ⊎ (k < m))
+          → (y ≡ (cell_at edges j).signs) ⊎ ((y ≡ (cell_at edges k).signs) ⊎ (signs_cmp (cell_at edges k).signs y ≡ Less))
+      placed y m at (inl p) = inl (sym at.is ∙ ap (λ n. (cell_at edges n).signs) p)
+      placed y m at (inr (inl p)) = inr (inl (sym at.is ∙ ap (λ n. (cell_at edges n).signs) p))
+      placed y m at (inr (inr g)) =
+          inr (inr (ap (signs_cmp (cell_at edges k).signs) (sym at.is) ∙ rising planes Edge edges are k m g at.lt))
 
   pub opens_made_up : AreMadeUp planes Open edges
   opens_made_up = record {

@@ -5,11 +5,10 @@ use Rattle.std.proofs.lemmas.List.{get_or-map, get_or-take, length-take-le, map-
 use Rattle.staat_vec.specs.declared.vector.V3.{V3}
 use Rattle.staat_vec.specs.Vectors.{dot, negative, origin, sign}
 use Rattle.staat_vec.proofs.VecRing.{dot_negative}
-use Rattle.staat_model.specs.declared.tree.Kind.TheVariants.{Point}
 use Rattle.staat_model.specs.Cells.{CellEntry, signs_of}
 use Rattle.staat_cells.specs.declared.cell.Cell.{Cell}
 use Rattle.staat_cells.specs.Compositions.{entry_of, no_cell}
-use Rattle.staat_cells.specs.Stages.{flipped, opposite_entry, point_entry}
+use Rattle.staat_cells.specs.Stages.{flipped, point_entry}
 
 sign_flipped : (a : ℤ) → sign (neg_ℤ a) ≡ flipped (sign a)
 sign_flipped (pos zero) = refl
@@ -38,12 +37,10 @@ point_at planes vertices cells k m point le long lt are is =
 
 pub opposite_is : (planes vertices : List V3) (cells : List Cell) (k m : ℕ) (point : Cell) (u v : V3) → k ≤ length vertices
     → length cells ≡ k → m < k → ArePointsAt planes vertices k cells → point ≡ get_or cells m point
-    → u ≡ negative (get_or vertices m origin) → u ≡ v → opposite_entry (entry_of point) v ≡ point_entry planes v
+    → u ≡ negative (get_or vertices m origin) → u ≡ v → map flipped point.signs ≡ signs_of planes v
 opposite_is planes vertices cells k m point u v le long lt are is u_is same =
-    let at = point_at planes vertices cells k m point le long lt are is in
-    let signs : map flipped point.signs ≡ signs_of planes v = ap (λ (e : CellEntry). map flipped e.signs) at
-    ∙ sym (signs_flipped planes (get_or vertices m origin)) ∙ ap (signs_of planes) (sym u_is ∙ same) in
-    λ i. record { kind = Point; d = v; signs = signs i }
+    ap (λ (e : CellEntry). map flipped e.signs) (point_at planes vertices cells k m point le long lt are is)
+    ∙ sym (signs_flipped planes (get_or vertices m origin)) ∙ ap (signs_of planes) (sym u_is ∙ same)
 
 pub points_more : (planes vertices : List V3) (k : ℕ) (old new : List Cell) (cell : Cell) → k < length vertices
     → ArePointsAt planes vertices k old → entry_of cell ≡ point_entry planes (get_or vertices k origin)

@@ -1,14 +1,12 @@
 -- Steps of the loops that list parts with the cones of their pieces.
-use Rattle.std.proofs.Common.{◌↔◌, ℕ, ◌+◌, ◌≤◌}
-use Rattle.std.proofs.Common.{refl, sym, subst, arith}
-use Rattle.std.proofs.Common.{List, [], All, Any}
+use Rattle.std.proofs.Common.{◌≡◌, ◌↔◌, ℕ, ◌+◌, ◌*◌, ◌/◌, ◌%◌, ◌≤◌, sym, subst, arith, List, [], All, Any}
 use Rattle.staat_vec.specs.declared.vector.Sign.{Sign}
 use Rattle.staat_pairs.specs.Tables.{IsTable, Table, pieces_of}
 use Rattle.staat_cells.specs.declared.batches.Batch.{Batch}
 use Rattle.staat_cells.specs.declared.half_spaces.HalfSpace.{HalfSpace}
 use Rattle.staat_cells.specs.Batches.{IsBatch}
 use Rattle.staat_cells.specs.CellGraphs.{AddsArcs, AddsConesOf, ArePartsAhead, ListsArcsOf}
-use Rattle.staat_cells.specs.CellGraphs.{IsAheadBy, IsArcInside, IsFromPart, IsPairAhead, IsPieceAhead}
+use Rattle.staat_cells.specs.CellGraphs.{IsAheadBy, IsArcInside, IsPairAhead, IsPairArc, IsPieceAhead}
 use Rattle.staat_cells.specs.HalfSpaces.{AreInside}
 use Rattle.staat_planes.proofs.Gaining.{adds_nothing}
 use Rattle.staat_cells.proofs.Growing.{Below, grown_first, grown_more, grown_same, none_below}
@@ -47,25 +45,28 @@ below_more F k old mid new p q = record {
   batches = q.batches;
 }
 
-pub from_listed : (t : Table) (a k : ℕ) (old new : List Batch) → IsTable t → 32 ≤ k
-    → AddsArcs (BelowParts (ArePartsAhead t a) k) old new
-    → AddsArcs (IsFromPart t a) old new
-from_listed t a k old new is le p = record {
-  arcs = λ signs x y. grown_same (p.arcs signs x y) (
-    λ (b, lt, (e, f, h)). (e, subst (IsAheadBy t signs a) (sym f) h),
-    λ (e, h). (y, (let lt = is.small y h.across.b_in in omega (arith, lt, le)), (e, refl, h)),
-  );
-  batches = p.batches;
-}
-
-pub all_listed : (t : Table) (k : ℕ) (new : List Batch) → IsTable t → 32 ≤ k
-    → AddsArcs (BelowParts (IsFromPart t) k) [] new → ListsArcsOf t new
-all_listed t k new is le p signs a b = grown_first
-    (grown_same (p.arcs signs a b) (
-      λ (x, lt, (e, h)). subst (λ y. IsAheadBy t signs y b) (sym e) h,
-      λ h. (a, (let lt = is.small a h.across.a_in in omega (arith, lt, le)), (refl, h)),
-    ))
+pub all_listed : (t : Table) (k : ℕ) (new : List Batch) → IsTable t → 1024 ≤ k
+    → AddsArcs (BelowParts (IsPairArc t) k) [] new → ListsArcsOf t new
+all_listed t k new is le p signs a b = grown_first (grown_same (p.arcs signs a b) (from, to))
     (λ none. let lt = none.2 in omega (arith, lt))
+  where
+    from : BelowParts (IsPairArc t) k signs a b → IsAheadBy t signs a b
+    from (n, lt, (e, f, h)) = subst (λ x. IsAheadBy t signs x b) (sym e) (subst (IsAheadBy t signs (n / 32)) (sym f) h)
+
+    to : IsAheadBy t signs a b → BelowParts (IsPairArc t) k signs a b
+    to h =
+        let a_is = is.small a h.across.a_in in
+        let b_is = is.small b h.across.b_in in
+        let e : a ≡ (32 * a + b) / 32 = omega (arith, b_is) in
+        let f : b ≡ (32 * a + b) % 32 = omega (arith, b_is) in (
+          32 * a + b,
+          omega (arith, a_is, b_is, le),
+          (
+            e,
+            f,
+            subst (λ x. IsAheadBy t signs x ((32 * a + b) % 32)) e (subst (IsAheadBy t signs a) f h),
+          ),
+        )
 
 -- ---- cones of two parts
 

@@ -26,7 +26,7 @@ use Rattle.staat_cells.specs.Stages.{IsIncidence, IsOwnIncidence, cell_at, point
 use Rattle.staat_cells.proofs.EdgeCells.{edges_made_up, point_in}
 use Rattle.staat_cells.proofs.Grouping.{composed_are_cells}
 use Rattle.staat_cells.proofs.IncidenceOrder.{incidence_exact, incidence_total}
-use Rattle.staat_cells.proofs.Numbered.{edge_numbered, filled_numbered, own_numbered}
+use Rattle.staat_cells.proofs.Numbered.{IsFilledAt, edges_all, filled_all, own_all}
 use Rattle.staat_cells.proofs.OpenCells.{opens_made_up}
 use Rattle.staat_cells.proofs.PointCells.{points_are}
 use Rattle.staat_vec.proofs.Integers.{zero_or}
@@ -71,8 +71,7 @@ module _ (planes : List V3) (are : AreTablePlanes planes) (few : length planes �
   corners = listing_sorted vector_cmp vector_total vector_exact (listing_members (vertices planes))
 
   own_listing : (cells : List CellEntry) → Listing (IsOwnIncidence cells)
-  own_listing cells = listing_as (λ x (k, lt, e). ((own_numbered cells k lt x).0 e).1)
-      (λ x o. (x.of, o.listed, (own_numbered cells x.of o.listed x).1 (refl, o)))
+  own_listing cells = listing_as (λ x. (own_all cells (length cells) refl x).0) (λ x. (own_all cells (length cells) refl x).1)
       (listing_image (λ k. incidence_of (cell_at cells k).signs k) (listing_below (length cells)))
 
   some_points : (cells : List CellEntry) × AreCellsOf planes Point cells
@@ -121,9 +120,8 @@ module _ (planes : List V3) (are : AreTablePlanes planes) (few : length planes �
 
     edge_listing : Listing (IsIncidence planes Edge points)
     edge_listing = listing_as
-        (λ x (k, lt, (lt', e)). ((edge_numbered points k lt planes (cell_at points k).d (signs_at k lt) x).0 e).1)
-        (λ x s. let lt = s.under.listed in
-        (x.of, lt, (lt, (edge_numbered points x.of lt planes (cell_at points x.of).d (signs_at x.of lt) x).1 (refl, s))))
+        (λ x (k, lt, h). (edges_all points (length points) refl x planes signs_at).0 (k, lt, h.1))
+        (λ x s. let (k, lt, e) = (edges_all points (length points) refl x planes signs_at).1 s in (k, lt, (lt, e)))
         (listing_over (λ k x. (k < length points) × IsEdgeIncidence planes (cell_at points k).d k x)
         (listing_below (length points)) at_place)
 
@@ -139,10 +137,8 @@ module _ (planes : List V3) (are : AreTablePlanes planes) (few : length planes �
 
   module _ (edges : List CellEntry) (edges_of : AreCellsOf planes Edge edges) where
     filled_listing : Listing (IsFilledIncidence edges)
-    filled_listing = listing_as (λ x (k, lt, h). ((filled_numbered edges k lt x).0 h).1)
-        (λ x f. (x.of, f.listed, (filled_numbered edges x.of f.listed x).1 (refl, f)))
-        (listing_over (λ k x. (x ≡ incidence_of (filled Neg (cell_at edges k).signs) k)
-        ⊎ (x ≡ incidence_of (filled Pos (cell_at edges k).signs) k)) (listing_below (length edges))
+    filled_listing = listing_as (λ x. (filled_all edges (length edges) refl x).0) (λ x. (filled_all edges (length edges) refl x).1)
+        (listing_over (λ k x. IsFilledAt edges x k) (listing_below (length edges))
         (λ k. listing_pair (incidence_of (filled Neg (cell_at edges k).signs) k) (incidence_of (filled Pos (cell_at edges k).signs) k)))
 
     some_opens : (cells : List CellEntry) × AreCellsOf planes Open cells

@@ -26,7 +26,7 @@ use Rattle.staat_cells.proofs.Growing.{grown_same}
 use Rattle.staat_cells.proofs.VertexSigns.{vertex_crossed}
 use Rattle.staat_model.proofs.ListedVertices.{vertex_some}
 
-axis_in : (planes : List V3) (g : V3) → AreTablePlanes planes → Contains axes g → Contains planes g
+pub axis_in : (planes : List V3) (g : V3) → AreTablePlanes planes → Contains axes g → Contains planes g
 axis_in planes g are c = subst (λ l. Contains l g) (sym are.is) (Contains-append_left axes are.others g c)
 
 pub holds_axes : (planes : List V3) → AreTablePlanes planes → HoldsAxes planes

@@ -1,7 +1,7 @@
 -- The lists of all cells: each representative lies in its cell, and each direction in one cell.
-use Rattle.std.proofs.Common.{◌≡◌, ◌≢◌, ◌⊎◌, ◌↔◌, inl, inr, ⊎_elim, ℕ, ◌<◌, ◌≤◌, refl, sym, ap, subst, ◌∙◌, arith, lit≤, List, ◌++◌, length, get_or, map, All, Contains}
+use Rattle.std.proofs.Common.{◌≡◌, ◌≢◌, ◌⊎◌, ◌↔◌, inl, inr, ⊎_elim, ℕ, ◌<◌, refl, sym, ap, subst, ◌∙◌, arith, lit≤, List, ◌++◌, length, get_or, map, All, Contains}
 use Rattle.std.proofs.lemmas.List.{get_or-map, length-map}
-use Rattle.std.proofs.lemmas.List.Elements.{All-append}
+use Rattle.std.proofs.lemmas.List.Elements.{All-append, All-weaker}
 use Rattle.staat_vec.specs.declared.vector.V3.{V3}
 use Rattle.staat_vec.specs.declared.vector.Sign.{Sign}
 use Rattle.staat_vec.specs.declared.vector.Sign.TheVariants.{Neg, Zero, Pos}
@@ -24,7 +24,7 @@ use Rattle.staat_cells.specs.declared.incidence.Incidence.{Incidence}
 use Rattle.staat_cells.specs.Compositions.{entry_of, no_cell, HaveEqualLengths}
 use Rattle.staat_cells.specs.Packing.{incidence_cmp, incidence_of}
 use Rattle.staat_cells.specs.Beside.{filled}
-use Rattle.staat_cells.specs.Stages.{cell_at, IsFilledIncidence, IsIncidence, IsVertexPoint}
+use Rattle.staat_cells.specs.Stages.{cell_at, IsFilledIncidence, IsIncidence}
 use Rattle.staat_cells.proofs.Grouping.{cell_length}
 use Rattle.staat_cells.proofs.Listed.{entry_at}
 use Rattle.staat_cells.proofs.OpenIncidences.{filled_open, open_filled}
@@ -34,8 +34,9 @@ use Rattle.staat_cells.proofs.TableRules.{holds_axes, planes_apart, planes_some,
 pub of_cells : (P : CellEntry → Type 0) (cells : List Cell) → All P (map entry_of cells) → All (λ c. P (entry_of c)) cells
 of_cells P cells all k d lt = subst P (get_or-map entry_of cells k d no_cell lt) (all k no_cell (let e = length-map cells entry_of in omega (arith, e)))
 
-pub lists_same : (P : Incidence → Type 0) (found incidences : List Incidence) → ((x : Incidence) → Contains found x ↔ P x) → Lists incidence_cmp (Contains found) incidences → Lists incidence_cmp P incidences
-lists_same P found incidences same lists = record { ascending = lists.ascending; each = λ x c. (same x).0 (lists.each x c); all = λ x p. lists.all x ((same x).1 p) }
+pub lists_as : (P Q : Incidence → Type 0) (incidences : List Incidence) → ((x : Incidence) → P x ↔ Q x)
+    → Lists incidence_cmp P incidences → Lists incidence_cmp Q incidences
+lists_as P Q incidences same lists = record { ascending = lists.ascending; each = λ x c. (same x).0 (lists.each x c); all = λ x p. lists.all x ((same x).1 p) }
 
 module _ (planes : List V3) (are : AreTablePlanes planes) where
   axes : HoldsAxes planes
@@ -71,13 +72,22 @@ module _ (planes : List V3) (are : AreTablePlanes planes) where
           (edge_on sum.e sum.u e_is.cell e_is.edge sum.u_is)
           (edge_on sum.f sum.v f_is.cell f_is.edge sum.v_is)
 
+  -- what holds of the entries of each kind holds of all cells
+  of_kinds : (P : CellEntry → Type 0) → ((kind : Kind) (c : CellEntry) → IsEntry planes kind c → P c)
+      → (cells : List CellEntry) → AreCells planes cells → All P cells
+  of_kinds P each cells all =
+      let points = all.points_are in
+      let edges = all.edges_are in
+      let opens = all.opens_are in
+      subst (All P) (sym all.is) (All-append P (all.points ++ all.edges) all.opens
+      (All-append P all.points all.edges (one Point all.points points.each) (one Edge all.edges edges.each))
+      (one Open all.opens opens.each))
+    where
+      one : (kind : Kind) (xs : List CellEntry) → All (IsEntry planes kind) xs → All P xs
+      one kind = All-weaker (IsEntry planes kind) P (each kind)
+
   pub representatives : (cells : List CellEntry) → AreCells planes cells → All (λ c. signs_of planes c.d ≡ c.signs) cells
-  representatives cells all =
-      let p = all.points_are in
-      let e = all.edges_are in
-      let o = all.opens_are in
-      let P : CellEntry → Type 0 = λ c. signs_of planes c.d ≡ c.signs in
-      subst (All P) (sym all.is) (All-append P (all.points ++ all.edges) all.opens (All-append P all.points all.edges (λ k d l. representative_in Point (get_or all.points k d) (p.each k d l)) (λ k d l. representative_in Edge (get_or all.edges k d) (e.each k d l))) (λ k d l. representative_in Open (get_or all.opens k d) (o.each k d l)))
+  representatives = of_kinds (λ c. signs_of planes c.d ≡ c.signs) representative_in
 
   -- ---- points, edges and their sizes
 
@@ -85,21 +95,14 @@ module _ (planes : List V3) (are : AreTablePlanes planes) where
   entry_in kind cells listed k d lt =
       subst (IsEntry planes kind) (get_or-map entry_of cells k d no_cell lt) (listed.each k no_cell (let e = length-map cells entry_of in omega (arith, e)))
 
-  pub vertex_points : (cells : List Cell) → AreCellsOf planes Point (map entry_of cells) → All (IsVertexPoint planes) cells
-  vertex_points cells points k d lt =
-      let c = get_or cells k d in
-      let e = entry_in Point cells points k d lt in
-      let f = IsFirst-in (λ v. signs_of planes v ≡ c.signs) (vertices planes) c.d e.representative in
-      record { vertex = f.0; signs = sym f.1 }
-
   pub equal_lengths : (kind : Kind) (cells : List Cell) → AreCellsOf planes kind (map entry_of cells) → HaveEqualLengths cells
   equal_lengths kind cells listed = (length planes, λ k d lt. let c = get_or cells k d in let e = entry_in kind cells listed k d lt in cell_length planes c.signs e.cell)
 
-  pub few_signs : (kind : Kind) (cells : List Cell) → AreCellsOf planes kind (map entry_of cells) → length planes ≤ 256 → All (λ c. length c.signs ≤ 256) cells
-  few_signs kind cells listed few k d lt = let c = get_or cells k d in let e = entry_in kind cells listed k d lt in let l = cell_length planes c.signs e.cell in omega (arith, l, few)
-
   pub points_small : (cells : List Cell) → AreCellsOf planes Point (map entry_of cells) → All (λ c. IsWithin EDGE c.d) cells
-  points_small cells points k d lt = let c = get_or cells k d in let p = vertex_points cells points k d lt in IsWithin-wider VERTEX EDGE c.d (lit≤ tt) (small c.d p.vertex)
+  points_small cells points k d lt =
+      let c = get_or cells k d in
+      let first = IsFirst-in (λ v. signs_of planes v ≡ c.signs) (vertices planes) c.d (entry_in Point cells points k d lt).representative in
+      IsWithin-wider VERTEX EDGE c.d (lit≤ tt) (small c.d first.0)
 
   edge_small : (s : List Sign) (d : V3) → IsEdgeSum planes s d → IsWithin EDGE d
   edge_small s d sum =
@@ -120,12 +123,7 @@ module _ (planes : List V3) (are : AreTablePlanes planes) where
       go sum = subst (IsWithin DIRECTION) (sym sum.is) (IsWithin-plus EDGE EDGE sum.u sum.v (edge_small sum.e sum.u sum.u_is) (edge_small sum.f sum.v sum.v_is))
 
   pub cells_small : (cells : List CellEntry) → AreCells planes cells → All (λ c. IsWithin DIRECTION c.d) cells
-  cells_small cells all =
-      let p = all.points_are in
-      let e = all.edges_are in
-      let o = all.opens_are in
-      let P : CellEntry → Type 0 = λ c. IsWithin DIRECTION c.d in
-      subst (All P) (sym all.is) (All-append P (all.points ++ all.edges) all.opens (All-append P all.points all.edges (λ k d l. cell_small Point (get_or all.points k d) (p.each k d l)) (λ k d l. cell_small Edge (get_or all.edges k d) (e.each k d l))) (λ k d l. cell_small Open (get_or all.opens k d) (o.each k d l)))
+  cells_small = of_kinds (λ c. IsWithin DIRECTION c.d) cell_small
 
   -- ---- the incidences of edges
 

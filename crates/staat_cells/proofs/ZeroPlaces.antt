@@ -10,7 +10,7 @@ use Rattle.staat_vec.specs.declared.vector.Sign.{Sign}
 use Rattle.staat_vec.specs.declared.vector.Sign.TheVariants.{Neg, Pos, Zero}
 use Rattle.staat_model.specs.Cells.{is_zero, signs_of}
 use Rattle.staat_cells.specs.declared.incidence.Incidence.{Incidence}
-use Rattle.staat_cells.specs.ZeroSigns.{HasIncidenceZeroAt, IsZeroAt, zero_places}
+use Rattle.staat_cells.specs.ZeroSigns.{IsZeroAt, zero_places}
 use Rattle.staat_cells.specs.Compositions.{composed}
 use Rattle.staat_cells.specs.Packing.{incidence_of}
 use Rattle.staat_vec.proofs.ListLaws.{append_nothing}
@@ -151,9 +151,6 @@ module _ (planes : List V3) (s : List Sign) (w : V3) (long : length s ≡ length
 
     zero_at : IsZeroAt before.signs (get_or zeros i 0)
     zero_at = subst (IsZeroAt before.signs) (sym there) next.zero_at
-
-    pub zero_there : HasIncidenceZeroAt x (length s) (get_or zeros i 0)
-    zero_there = record { signs = before.signs; is = own; long = before.long; zero_at = zero_at }
 
     pub zero_changed : (new : Incidence) (v : Sign) (e : V3) → v ≡ sign (dot (get_or planes (get_or zeros i 0) e) w)
         → ((l : List Sign) → x ≡ incidence_of l x.of → length l ≡ length s → IsZeroAt l (get_or zeros i 0)

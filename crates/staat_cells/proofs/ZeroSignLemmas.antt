@@ -1,5 +1,5 @@
 -- Packed signs in which a zero gives way to another sign.
-use Rattle.std.proofs.Common.{◌≡◌, ℕ, zero, suc, ◌+◌, ◌-◌, ◌*◌, ◌^◌, ◌%◌, ◌<◌, ◌≤◌, ◌⊎◌, inl, inr, refl, sym, ap, ◌∙◌, arith, List, [], ◌∷◌, length, get_or, take, drop, min}
+use Rattle.std.proofs.Common.{◌≡◌, ℕ, zero, suc, ◌+◌, ◌-◌, ◌*◌, ◌^◌, ◌%◌, ◌<◌, ◌≤◌, ◌⊎◌, inl, inr, refl, sym, ap, subst, ◌∙◌, arith, List, [], ◌∷◌, length, get_or, take, drop, min}
 use Rattle.std.specs.Prelude.{slice_set}
 use Rattle.std.proofs.Math.Nat.{mul_assoc, mul_comm, mul-le-mul_right, pow-suc, pow-le-pow_right}
 use Rattle.std.proofs.Math.Seq.{take-set-lt}
@@ -8,7 +8,7 @@ use Rattle.std.proofs.lemmas.Nat.{one_shl}
 use Rattle.staat_vec.specs.declared.vector.Sign.{Sign}
 use Rattle.staat_vec.specs.declared.vector.Sign.TheVariants.{Neg, Pos}
 use Rattle.staat_model.specs.Cells.{sign_place}
-use Rattle.staat_cells.specs.ZeroSigns.{HasZeroAt, IsZeroAt}
+use Rattle.staat_cells.specs.ZeroSigns.{IsZeroAt}
 use Rattle.staat_cells.specs.Packing.{packed, packed_after}
 use Rattle.staat_cells.proofs.Words.{place_small}
 
@@ -71,31 +71,30 @@ packed_down a (x ∷ s) (suc k) lt z =
 
 -- ---- one word
 
-module _ (word count k : ℕ) (lt : k < count) (le : count ≤ 64) where
-  pub word_up : (s : List Sign) → packed s ≡ word → length s ≡ count → IsZeroAt s k → word + 4 ^ (count - 1 - k) ≡ packed (slice_set s k Pos)
-  word_up s e l z = (λ i. sym e i + 4 ^ (sym l i - 1 - k)) ∙ sym (packed_up 0 s k (omega (arith, l, lt)) z)
+pub packed_fits : (s : List Sign) → length s ≤ 64 → packed s < 2 ^ 128
+packed_fits s le =
+    let b = below 0 s in
+    let power : 4 ^ length s ≤ 4 ^ 64 = pow-le-pow_right {n = 4} (omega arith) {i = length s} {j = 64} le in
+    omega (arith, b, power)
 
-  pub word_down : (s : List Sign) → packed s ≡ word → length s ≡ count → IsZeroAt s k → word - 4 ^ (count - 1 - k) ≡ packed (slice_set s k Neg)
-  word_down s e l z =
-      let h : packed (slice_set s k Neg) + 4 ^ (count - 1 - k) ≡ word = ap (λ n. packed (slice_set s k Neg) + 4 ^ (n - 1 - k)) (sym l) ∙ packed_down 0 s k (omega (arith, l, lt)) z ∙ e in
-      omega (arith, h)
+-- sums and differences that fit in a word
+pub wrapped_sum : (x y sum : ℕ) → x + y ≡ sum → sum < 2 ^ 128 → (x + y) % 2 ^ 128 ≡ sum
+wrapped_sum x y sum e fits = omega arith
 
-  pub down_fits : HasZeroAt word count k → 4 ^ (count - 1 - k) ≤ word
-  down_fits h =
-      let s = h.signs in
-      let l = h.long in
-      let e : packed (slice_set s k Neg) + 4 ^ (count - 1 - k) ≡ word = ap (λ n. packed (slice_set s k Neg) + 4 ^ (n - 1 - k)) (sym l) ∙ packed_down 0 s k (omega (arith, l, lt)) h.zero_at ∙ h.is in
-      omega (arith, e)
+pub wrapped_difference : (x y left : ℕ) → left + y ≡ x → x < 2 ^ 128 → (x + (2 ^ 128 - y)) % 2 ^ 128 ≡ left
+wrapped_difference x y left e fits = omega arith
 
-  pub up_fits : HasZeroAt word count k → word + 4 ^ (count - 1 - k) < 2 ^ 128
-  up_fits h =
-      let s = slice_set h.signs k Pos in
-      let e = word_up h.signs h.is h.long h.zero_at in
-      let b = below 0 s in
-      let l : length s ≡ count = length-set h.signs k Pos ∙ h.long in
-      let power : 4 ^ count ≤ 4 ^ 64 = pow-le-pow_right {n = 4} (omega arith) {i = count} {j = 64} le in
-      let c : 4 ^ length s ≡ 4 ^ count = ap (λ n. 4 ^ n) l in
-      omega (arith, e, b, power, c)
+module _ (word count k : ℕ) (lt : k < count) (le : count ≤ 64) (s : List Sign) (e : packed s ≡ word)
+    (l : length s ≡ count) (z : IsZeroAt s k) where
+  pub word_up : (word + 4 ^ (count - 1 - k)) % 2 ^ 128 ≡ packed (slice_set s k Pos)
+  word_up = wrapped_sum word (4 ^ (count - 1 - k)) (packed (slice_set s k Pos))
+      ((λ i. sym e i + 4 ^ (sym l i - 1 - k)) ∙ sym (packed_up 0 s k (omega (arith, l, lt)) z))
+      (packed_fits (slice_set s k Pos) (omega (arith, length-set s k Pos, l, le)))
+
+  pub word_down : (word + (2 ^ 128 - 4 ^ (count - 1 - k))) % 2 ^ 128 ≡ packed (slice_set s k Neg)
+  word_down = wrapped_difference word (4 ^ (count - 1 - k)) (packed (slice_set s k Neg))
+      (ap (λ n. packed (slice_set s k Neg) + 4 ^ (n - 1 - k)) (sym l) ∙ packed_down 0 s k (omega (arith, l, lt)) z ∙ e)
+      (subst (λ n. n < 2 ^ 128) e (packed_fits s (omega (arith, l, le))))
 
 -- ---- four words
 
@@ -108,9 +107,6 @@ module _ (n m rest left : ℕ) (s : List Sign) (count k : ℕ) (long : length s 
 
   word_at : IsZeroAt (take 64 (drop n s)) m
   word_at = get_or-take 64 (drop n s) m Pos lt ∙ get_or-drop n s m Pos ∙ ap (λ j. get_or s j Pos) at ∙ zero_at
-
-  pub word_zero : (word : ℕ) → word ≡ packed (take 64 (drop n s)) → HasZeroAt word left m
-  word_zero word e = record { signs = take 64 (drop n s); is = sym e; long = word_long; zero_at = word_at }
 
   pub word_given : (word new : ℕ) (t : Sign) → word ≡ packed (take 64 (drop n s))
       → ((l : List Sign) → packed l ≡ word → length l ≡ left → IsZeroAt l m → new ≡ packed (slice_set l m t))

@@ -1,5 +1,5 @@
 -- The blocking graph of a cell: its arcs at every direction with the signs of the cell.
-use Rattle.std.specs.Prelude.{◌≡◌, ◌↔◌, ◌⊎◌, ◌-◌, ◌<◌, ℕ}
+use Rattle.std.specs.Prelude.{◌≡◌, ◌↔◌, ◌⊎◌, ◌-◌, ◌/◌, ◌%◌, ◌<◌, ℕ}
 use Rattle.std.specs.Prelude.{List, All, Any, length, slice_index_or}
 use Rattle.staat_vec.specs.declared.vector.Sign.{Sign}
 use Rattle.staat_graph.specs.Graphs.{HasArc}
@@ -88,6 +88,6 @@ IsPieceAhead t a b i signs = IsAheadFromBy t signs a i b
 abbrev pub ArePartsAhead : Table → ℕ → ℕ → List Sign → ℕ → ℕ → Type 0
 ArePartsAhead t a b signs x y = (x ≡ a) × (y ≡ b) × IsAheadBy t signs a b
 
--- an arc from a
-abbrev pub IsFromPart : Table → ℕ → List Sign → ℕ → ℕ → Type 0
-IsFromPart t a signs x y = (x ≡ a) × IsAheadBy t signs a y
+-- the arc from the one to the other of the two parts that a number names
+abbrev pub IsPairArc : Table → ℕ → List Sign → ℕ → ℕ → Type 0
+IsPairArc t pair = ArePartsAhead t (pair / 32) (pair % 32)

@@ -33,6 +33,10 @@ pub record AreNotAbove (e : Ends) (m : V3) : Type 0 where
   pub first : dot m e.first ≤ℤ pos 0
   pub second : dot m e.second ≤ℤ pos 0
 
+-- the directions in which the plane g crosses a and b
+abbrev pub arc_ends : (g a b : V3) → Ends
+arc_ends g a b = record { first = cross g a; second = cross b g }
+
 -- On the plane g the ends of what is on the positive side of none of the planes that were passed: the directions in
 -- which g crosses a and b, each on the negative side of the other.
 pub record AreArcEnds (planes : List V3) (g : V3) (passed : List V3) (e : Ends) : Type 0 where
@@ -40,8 +44,7 @@ pub record AreArcEnds (planes : List V3) (g : V3) (passed : List V3) (e : Ends) 
   pub b : V3
   pub a_in : Contains planes a
   pub b_in : Contains planes b
-  pub first_is : e.first ≡ cross g a
-  pub second_is : e.second ≡ cross b g
+  pub is : e ≡ arc_ends g a b
   pub turn : dot b (cross g a) <ℤ pos 0
   pub first_size : IsWithin VERTEX e.first
   pub second_size : IsWithin VERTEX e.second

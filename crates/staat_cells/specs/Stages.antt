@@ -1,16 +1,15 @@
 -- The incidences of the cells of one kind with those of the next, on whose borders they are.
 use Rattle.std.specs.Prelude.{◌≡◌, ◌≢◌, ◌⊎◌, ◌↔◌, ℕ, ◌-◌, ◌<◌, pos, Bool}
 use Rattle.std.specs.Prelude.{if◌then◌else◌}
-use Rattle.std.specs.Prelude.{List, length, map, slice_index_or, Contains}
+use Rattle.std.specs.Prelude.{List, length, slice_index_or, Contains}
 use Rattle.staat_vec.specs.declared.vector.V3.{V3}
 use Rattle.staat_vec.specs.declared.vector.Sign.{Sign}
 use Rattle.staat_vec.specs.declared.vector.Sign.TheVariants.{Neg, Zero, Pos}
 use Rattle.staat_vec.specs.Vectors.{cross, dot, negative}
 use Rattle.staat_model.specs.declared.tree.Kind.{Kind}
 use Rattle.staat_model.specs.declared.tree.Kind.TheVariants.{Edge, Point}
-use Rattle.staat_model.specs.Planes.{axes, vertices}
+use Rattle.staat_model.specs.Planes.{axes}
 use Rattle.staat_model.specs.Cells.{kind_of, signs_of, CellEntry, IsBorder, IsCell}
-use Rattle.staat_cells.specs.declared.cell.Cell.{Cell}
 use Rattle.staat_cells.specs.declared.incidence.Incidence.{Incidence}
 use Rattle.staat_cells.specs.Compositions.{no_cell, no_incidence}
 use Rattle.staat_cells.specs.Packing.{incidence_of}
@@ -42,10 +41,6 @@ abbrev pub flipped : Sign → Sign
 flipped Neg = Pos
 flipped Zero = Zero
 flipped Pos = Neg
-
--- a point at v, which is opposite to the point p
-abbrev pub opposite_entry : CellEntry → V3 → CellEntry
-opposite_entry p v = record { kind = Point; d = v; signs = map flipped p.signs }
 
 -- the incidence of the cell at its own place, with its own signs
 pub record IsOwnIncidence (cells : List CellEntry) (x : Incidence) : Type 0 where
@@ -97,8 +92,3 @@ place_from count i back = if back then count - 1 - i else i
 -- the list has grown by what has P
 abbrev pub GrewByAll : (Incidence → Type 0) → List Incidence → List Incidence → Type 0
 GrewByAll P old new = (x : Incidence) → Contains new x ↔ (Contains old x ⊎ P x)
-
--- the point is at a vertex, with its signs
-pub record IsVertexPoint (planes : List V3) (p : Cell) : Type 0 where
-  pub vertex : Contains (vertices planes) p.d
-  pub signs : p.signs ≡ signs_of planes p.d

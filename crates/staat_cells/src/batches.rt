@@ -1,16 +1,5 @@
 // Batches of cones that are tested at once, a bit for each.
-ghost use Rattle.std.specs.Prelude.{
-  ◌≡◌,
-  ◌<◌,
-  ◌-◌,
-  ◌⊎◌,
-  ◌↔◌,
-  ℕ,
-  List,
-  All,
-  IsTrue,
-  OnOk,
-};
+ghost use Rattle.std.specs.Prelude.{◌≡◌, ◌<◌, ◌-◌, ◌⊎◌, ◌↔◌, ℕ, List, All, IsTrue, OnOk};
 ghost use Rattle.std.specs.Prelude.{length, Some, slice_get, slice_index_or};
 ghost use Rattle.std.specs.Int.{bit_at};
 ghost use Rattle.staat_vec.specs.declared.vector.Sign.{Sign as SignValue};

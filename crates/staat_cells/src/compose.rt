@@ -2,7 +2,7 @@
 ghost use Rattle.std.specs.Prelude.{◌≡◌, ◌<◌, All, IfOk, length, map};
 ghost use Rattle.staat_vec.specs.Vectors.{IsWithin};
 ghost use Rattle.staat_cells.specs.Compositions.{HaveEqualLengths, HavePairs, begins_cell, begun_up_to, composed};
-ghost use Rattle.staat_cells.specs.Compositions.{composed_cell, composed_up_to, entry_of, same_words};
+ghost use Rattle.staat_cells.specs.Compositions.{composed_up_to, entry_of, same_words};
 ghost use Rattle.staat_cells.specs.Skeletons.{IsFoundAt};
 ghost use Rattle.staat_cells.specs.Beside.{then_sign};
 
@@ -32,21 +32,6 @@ fn composed_signs(alloc: Global, first: &[Sign], second: &[Sign]) -> Result<Vec<
         signs[i] = then_sign(signs[i], second[i]);
     }
     Ok(signs)
-}
-
-// the cell between two cells on its border
-fn composed_cell(alloc: Global, kind: Kind, a: &Cell, b: &Cell) -> Result<Cell, OutOfMemory>
-    requires a_size { IsWithin EDGE a.now.d }
-    requires b_size { IsWithin EDGE b.now.d }
-    requires signs { length a.now.signs ≡ length b.now.signs }
-    ensures { IfOk result (λ cell. entry_of cell ≡ composed_cell kind (entry_of a.now) (entry_of b.now)) }
-{
-    let signs = composed_signs(alloc, a.signs.as_slice(), b.signs.as_slice())?;
-    Ok(Cell {
-        kind,
-        d: add(a.d, b.d),
-        signs: Signs::from_vec(signs),
-    })
 }
 
 // whether two incidences have the same signs
@@ -84,7 +69,12 @@ pub(crate) fn composed_at(
     }
     let first = &lower[incidences[i].of];
     let second = &lower[incidences[i + 1].of];
-    Ok(Some(composed_cell(alloc, kind, first, second)?))
+    let signs = composed_signs(alloc, first.signs.as_slice(), second.signs.as_slice())?;
+    Ok(Some(Cell {
+        kind,
+        d: add(first.d, second.d),
+        signs: Signs::from_vec(signs),
+    }))
 }
 
 /// The incidences at which the cells begin.

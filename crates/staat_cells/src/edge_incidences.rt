@@ -1,23 +1,23 @@
 // The incidences of vertices: the edges that end there.
-ghost use Rattle.std.specs.Prelude.{◌≡◌, ◌≢◌, ◌<◌, ◌≤◌, ◌↔◌, ◌++◌, [], ◌∷◌};
-ghost use Rattle.std.specs.Prelude.{All, Contains, IfOk, OnOk, length, map, slice_index_or};
+ghost use Rattle.std.specs.Prelude.{◌≡◌, ◌≢◌, ◌<◌, ◌≤◌, [], ◌∷◌};
+ghost use Rattle.std.specs.Prelude.{Contains, IfOk, OnOk, length, map, slice_index_or};
+ghost use Rattle.staat_vec.specs.Lists.{Lists};
 ghost use Rattle.staat_vec.specs.Vectors.{IsWithin, origin};
-ghost use Rattle.staat_model.specs.Cells.{signs_of};
+ghost use Rattle.staat_model.specs.Cells.{AreCellsOf, signs_of};
 ghost use Rattle.staat_model.specs.Planes.{vertices};
 ghost use Rattle.staat_pairs.specs.Tables.{AreTablePlanes};
-ghost use Rattle.staat_model.specs.declared.tree.Kind.TheVariants.{Edge};
-ghost use Rattle.staat_cells.specs.declared.incidence.Incidence.{Incidence as IncidenceValue};
+ghost use Rattle.staat_model.specs.declared.tree.Kind.TheVariants.{Edge, Point};
 ghost use Rattle.staat_cells.specs.ZeroSigns.{zero_places};
 ghost use Rattle.staat_cells.specs.Compositions.{entry_of};
-ghost use Rattle.staat_cells.specs.Packing.{incidence_of};
-ghost use Rattle.staat_cells.specs.Beside.{beside};
+ghost use Rattle.staat_cells.specs.Packing.{incidence_cmp, incidence_of};
 ghost use Rattle.staat_cells.specs.Stages.{GrewByAll, HaveSigns, IsAxisOff, IsBesideIncidence, IsEdgeIncidence};
-ghost use Rattle.staat_cells.specs.Stages.{IsIncidence, IsVertexPoint, place_from};
+ghost use Rattle.staat_cells.specs.Stages.{IsIncidence, place_from};
 
 use crate::cell::Cell;
 use crate::incidence::Incidence;
+use crate::order::in_order;
 use crate::zero_signs::{incidence_towards, zeros_of};
-use staat_vec::{DIRECTION, NORMAL, Normal, OutOfMemory, V3, cross_normal, neg};
+use staat_vec::{NORMAL, Normal, OutOfMemory, V3, cross_normal, neg};
 use std::alloc::Global;
 
 // an axis whose plane the vector does not lie on
@@ -33,27 +33,6 @@ fn axis_off(v: V3) -> V3
     } else {
         V3 { x: 0, y: 0, z: 1 }
     }
-}
-
-// adds the incidence of a vertex towards w
-fn push_towards(
-    planes: &[Normal],
-    point: &Cell,
-    zeros: &[usize],
-    base: Incidence,
-    w: V3,
-    incidences: &mut Vec<Incidence>,
-) -> Result<(), OutOfMemory>
-    requires few { length planes.now ≤ 256 }
-    requires signs { point.now.signs ≡ signs_of planes.now point.now.d }
-    requires zeros { zeros.now ≡ zero_places 0 point.now.signs }
-    requires base { base ≡ incidence_of point.now.signs base.of }
-    requires size { IsWithin DIRECTION w }
-    ensures { OnOk result (incidences.new.items
-        ≡ incidences.old.items ++ incidence_of (beside planes.now point.now.d w) base.of ∷ []) }
-{
-    incidences.push(incidence_towards(planes, point.signs.as_slice(), zeros, base, w))?;
-    Ok(())
 }
 
 // adds both incidences of a vertex on a plane at which it has a zero
@@ -75,9 +54,11 @@ fn push_at(
     ensures { OnOk result (GrewByAll (IsBesideIncidence (slice_index_or planes.now j origin ∷ []) planes.now
         point.now.d m base.of) incidences.old.items incidences.new.items) }
 {
+    let signs = point.signs.as_slice();
     let w = cross_normal(planes[j].vector(), m);
-    push_towards(planes, point, zeros, base, w, incidences)?;
-    push_towards(planes, point, zeros, base, neg(w), incidences)
+    incidences.push(incidence_towards(planes, signs, zeros, base, w))?;
+    incidences.push(incidence_towards(planes, signs, zeros, base, neg(w)))?;
+    Ok(())
 }
 
 // the place of the i-th of so many, counted from the end or from the beginning
@@ -139,7 +120,8 @@ fn push_edge_incidences(
     push_all(planes, point, &zeros, base, m, back, incidences)
 }
 
-/// The incidences of vertices towards the edges that end there, from those with the signs of the vertices.
+/// The incidences of vertices towards the edges that end there, in their order, from those with the signs of the
+/// vertices.
 pub(crate) fn edge_incidences(
     alloc: Global,
     planes: &[Normal],
@@ -148,15 +130,15 @@ pub(crate) fn edge_incidences(
 ) -> Result<Vec<Incidence>, OutOfMemory>
     requires planes { AreTablePlanes planes.now }
     requires few { length planes.now ≤ 256 }
-    requires points { All (IsVertexPoint planes.now) points.now }
+    requires points { AreCellsOf planes.now Point (map entry_of points.now) }
     requires own { HaveSigns (map entry_of points.now) own.now }
-    ensures { IfOk result (λ incidences. (x : IncidenceValue) → Contains incidences.items x
-        ↔ IsIncidence planes.now Edge (map entry_of points.now) x) }
+    ensures { IfOk result (λ found. Lists incidence_cmp (IsIncidence planes.now Edge (map entry_of points.now))
+        found.items) }
 {
     let mut incidences = Vec::with_capacity(alloc, points.len().saturating_mul(4))?;
     for k in 0..points.len() {
         let back = k >= points.len() / 2;
         push_edge_incidences(alloc, planes, &points[k], own[k], k, back, &mut incidences)?;
     }
-    Ok(incidences)
+    in_order(incidences)
 }

@@ -1,8 +1,8 @@
 // The first open cell of planes, made by itself: it is on the negative side of each plane.
-ghost use Rattle.std.specs.Prelude.{◌≡◌, ◌≢◌, ◌<◌, ◌≤◌, ◌++◌, [], ◌∷◌};
-ghost use Rattle.std.specs.Prelude.{Contains, List, MatchOption, length, pos, unsigned_abs};
+ghost use Rattle.std.specs.Prelude.{◌≤◌, ◌<ℤ◌, ◌++◌, [], ◌∷◌, Contains, List, MatchOption, length, pos};
 ghost use Rattle.staat_vec.specs.declared.vector.V3.{V3 as Vector};
-ghost use Rattle.staat_vec.specs.Vectors.{IsWithin, dot, cross, origin};
+ghost use Rattle.staat_vec.specs.Primitives.{IsCanon};
+ghost use Rattle.staat_vec.specs.Vectors.{IsWithin, dot, cross};
 ghost use Rattle.staat_model.specs.declared.tree.Kind.TheVariants.{Open};
 ghost use Rattle.staat_model.specs.Cells.{IsEntry};
 ghost use Rattle.staat_model.specs.Planes.{axes};
@@ -31,10 +31,8 @@ fn ends_between(g: V3, a: V3, b: V3) -> Ends
     requires g { IsWithin NORMAL g }
     requires a { IsWithin NORMAL a }
     requires b { IsWithin NORMAL b }
-    ensures first { result.first ≡ cross g a }
-    ensures second { result.second ≡ cross b g }
-    ensures first_size { IsWithin VERTEX result.first }
-    ensures second_size { IsWithin VERTEX result.second }
+    requires turn { dot b (cross g a) <ℤ pos 0 }
+    ensures { (planes : List Vector) → Contains planes a → Contains planes b → AreArcEnds planes g [] result }
 {
     Ends {
         first: cross_normal(g, a),
@@ -42,40 +40,22 @@ fn ends_between(g: V3, a: V3, b: V3) -> Ends
     }
 }
 
-// the ends on the plane g by the coordinate planes a and b, of which `turn` is on which side of b the first end lies
-fn ends_turned(g: V3, a: V3, b: V3, turn: i128) -> Ends
-    requires g { IsWithin NORMAL g }
-    requires a { IsWithin NORMAL a }
-    requires b { IsWithin NORMAL b }
-    requires a_in { Contains axes a }
-    requires b_in { Contains axes b }
-    requires turn { turn ≡ dot b (cross g a) }
-    requires small { unsigned_abs turn ≤ NORMAL }
-    requires some { turn ≢ pos 0 }
-    ensures { AreArcEnds axes g [] result }
-{
-    if turn < 0 {
-        ends_between(g, a, b)
-    } else {
-        ends_between(g, b, a)
-    }
-}
-
-// ends on the plane g by two coordinate planes
+// ends by two coordinate planes on the plane g, whose first component that is not zero is positive
 fn axis_ends(g: V3) -> Ends
     requires size { IsWithin NORMAL g }
-    requires some { g ≢ origin }
-    ensures { AreArcEnds axes g [] result }
+    requires canonical { IsCanon g }
+    ensures { (planes : List Vector) → ((m : Vector) → Contains axes m → Contains planes m)
+        → AreArcEnds planes g [] result }
 {
     let x = V3 { x: 1, y: 0, z: 0 };
     let y = V3 { x: 0, y: 1, z: 0 };
     let z = V3 { x: 0, y: 0, z: 1 };
-    if g.z != 0 {
-        ends_turned(g, x, y, g.z)
+    if g.x != 0 {
+        ends_between(g, z, y)
     } else if g.y != 0 {
-        ends_turned(g, z, x, g.y)
+        ends_between(g, x, z)
     } else {
-        ends_turned(g, y, z, g.x)
+        ends_between(g, y, x)
     }
 }
 

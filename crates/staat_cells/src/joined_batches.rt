@@ -214,7 +214,7 @@ fn with_arc(row: u32, b: u32) -> u32
 fn word_without(x: u128, y: u128) -> u128
     ensures { (result ≢ 0) ↔ ((j : ℕ) × (bit_at x j ≡ 1) × (bit_at y j ≡ 0)) }
 {
-    x & y ^ x
+    x & !y
 }
 
 // the row after two parts were looked at, where these cones are ruled out

@@ -10,12 +10,14 @@ ghost use Rattle.staat_cells.specs.CellGraphs.{IsAheadBy};
 use staat_limits::MOST_CELL_PLANES;
 
 /// Each direction other than zero, of any size, lies in exactly one of all cells of some planes.
+#[tactic(auto, using(crate::proofs::OneCell::one_cell))]
 pub fn one_cell()
     ensures { (planes : List Vector) (cells : List CellEntry) (d : Vector) → AreCells planes cells → d ≢ origin
         → HasOneCell planes cells d }
 {}
 
 /// The planes of a table, at most [`MOST_CELL_PLANES`] of them, have a list of all cells.
+#[tactic(auto, using(crate::proofs::SomeCells::some_cells))]
 pub fn some_cells()
     ensures { (planes : List Vector) → AreTablePlanes planes → length planes ≤ MOST_CELL_PLANES
         → (cells : List CellEntry) × AreCells planes cells }

@@ -12,7 +12,6 @@ mod half_spaces;
 mod incidence;
 mod joined_batches;
 pub mod laws;
-mod lower_cells;
 mod open_incidences;
 mod order;
 mod part_arcs;

@@ -1,24 +1,22 @@
 // The incidences of edges: the open cells on whose border they are.
-ghost use Rattle.std.specs.Prelude.{◌≡◌, ◌≤◌, ◌↔◌, ◌++◌, [], ◌∷◌};
-ghost use Rattle.std.specs.Prelude.{All, Contains, IfOk, List, OnOk, length, map};
+ghost use Rattle.std.specs.Prelude.{◌≡◌, ◌++◌, [], ◌∷◌, IfOk, List, OnOk, map};
 ghost use Rattle.staat_vec.specs.declared.vector.Sign.{Sign as SignValue};
 ghost use Rattle.staat_vec.specs.declared.vector.Sign.TheVariants.{Neg, Pos};
-ghost use Rattle.staat_cells.specs.declared.incidence.Incidence.{Incidence as IncidenceValue};
-ghost use Rattle.staat_cells.specs.ZeroSigns.{HasFewSigns};
+ghost use Rattle.staat_vec.specs.Lists.{Lists};
 ghost use Rattle.staat_cells.specs.Compositions.{entry_of};
-ghost use Rattle.staat_cells.specs.Packing.{incidence_of};
+ghost use Rattle.staat_cells.specs.Packing.{incidence_cmp, incidence_of};
 ghost use Rattle.staat_cells.specs.Beside.{filled};
 ghost use Rattle.staat_cells.specs.Stages.{HaveSigns, IsFilledIncidence};
 
 use crate::cell::Cell;
 use crate::incidence::Incidence;
+use crate::order::in_order;
 use crate::zero_signs::incidence_filled;
 use staat_vec::{OutOfMemory, Sign};
 
 // adds both incidences of the edge with the number k, from one with its signs
 fn push_both(own: Incidence, k: usize, incidences: &mut Vec<Incidence>) -> Result<(), OutOfMemory>
-    requires { HasFewSigns own }
-    ensures { OnOk result ((s : List SignValue) → own ≡ incidence_of s own.of → length s ≤ 256
+    ensures { OnOk result ((s : List SignValue) → own ≡ incidence_of s own.of
         → incidences.new.items ≡ (incidences.old.items ++ incidence_of (filled Neg s) k ∷ [])
         ++ incidence_of (filled Pos s) k ∷ []) }
 {
@@ -28,21 +26,19 @@ fn push_both(own: Incidence, k: usize, incidences: &mut Vec<Incidence>) -> Resul
     Ok(())
 }
 
-/// Both incidences of each edge, from those with the signs of the edges. They take the place of what was listed: there
-/// is room for them where the ends of the edges were.
+/// Both incidences of each edge, in their order, from those with the signs of the edges. They take the place of what was
+/// listed: there is room for them where the ends of the edges were.
 pub(crate) fn open_incidences(
     mut incidences: Vec<Incidence>,
     edges: &[Cell],
     own: &[Incidence],
 ) -> Result<Vec<Incidence>, OutOfMemory>
-    requires few { All (λ c. length c.signs ≤ 256) edges.now }
-    requires own { HaveSigns (map entry_of edges.now) own.now }
-    ensures { IfOk result (λ found. (x : IncidenceValue) → Contains found.items x
-        ↔ IsFilledIncidence (map entry_of edges.now) x) }
+    requires { HaveSigns (map entry_of edges.now) own.now }
+    ensures { IfOk result (λ found. Lists incidence_cmp (IsFilledIncidence (map entry_of edges.now)) found.items) }
 {
     incidences.clear();
     for k in 0..edges.len() {
         push_both(own[k], k, &mut incidences)?;
     }
-    Ok(incidences)
+    in_order(incidences)
 }

@@ -5,7 +5,7 @@ ghost use Rattle.staat_model.specs.Sets.{Has};
 ghost use Rattle.staat_pairs.specs.Tables.{IsTable, pieces_of};
 ghost use Rattle.staat_cells.specs.Batches.{IsBatch};
 ghost use Rattle.staat_cells.specs.CellGraphs.{AddsArcs, AddsCones, AddsConesOf, ArePartsAhead, ListsArcsOf};
-ghost use Rattle.staat_cells.specs.CellGraphs.{IsAheadBy, IsFromPart, IsPieceAhead};
+ghost use Rattle.staat_cells.specs.CellGraphs.{IsAheadBy, IsPieceAhead};
 ghost use Rattle.staat_cells.specs.HalfSpaces.{AreInside};
 
 use crate::batches::{Batch, add_cone};
@@ -124,26 +124,6 @@ fn push_parts(
     }
 }
 
-// adds the part a with each other part
-fn push_from(
-    alloc: Global,
-    table: &PlaneTable,
-    set: PartSet,
-    a: u32,
-    batches: &mut Vec<Batch>,
-) -> Result<(), OutOfMemory>
-    requires rules { IsTable table.now }
-    requires batches { All IsBatch batches.old.items }
-    requires set { set ≡ table.now.of }
-    requires a { a < MOST_PARTS }
-    ensures { OnOk result (AddsArcs (IsFromPart table.now a) batches.old.items batches.new.items) }
-{
-    for b in 0..MOST_PARTS {
-        push_parts(alloc, table, set, a, b, batches)?;
-    }
-    Ok(())
-}
-
 /// The cones of each ordered pair of different parts of the table's set, in batches.
 pub(crate) fn all_batches(alloc: Global, table: &PlaneTable) -> Result<Vec<Batch>, OutOfMemory>
     ensures arcs { IfOk result (λ batches. ListsArcsOf table.now batches.items) }
@@ -152,8 +132,10 @@ pub(crate) fn all_batches(alloc: Global, table: &PlaneTable) -> Result<Vec<Batch
 {
     let set = table.set();
     let mut batches = Vec::new(alloc);
-    for a in 0..MOST_PARTS {
-        push_from(alloc, table, set, a, &mut batches)?;
+    for pair in 0..MOST_PARTS * MOST_PARTS {
+        let a = pair / MOST_PARTS;
+        let b = pair % MOST_PARTS;
+        push_parts(alloc, table, set, a, b, &mut batches)?;
     }
     Ok(batches)
 }

@@ -7,8 +7,10 @@ ghost use Rattle.staat_cells.specs.Skeletons.{HasEdges, IsFoundAt, IsSkeleton};
 
 use crate::cell::Cell;
 use crate::compose::{begun, composed_at, composed_cells};
+use crate::edge_incidences::edge_incidences;
 use crate::incidence::Incidence;
-use crate::lower_cells::{incidences_of_edges, incidences_of_points, points_of};
+use crate::open_incidences::open_incidences;
+use crate::points::points_of;
 use staat_limits::MOST_CELL_PLANES;
 use staat_model::Kind;
 use staat_planes::PlaneTable;
@@ -32,10 +34,10 @@ impl Skeleton {
         ensures { IfOk result (IsSkeleton planes.now) }
     {
         let (points, own) = points_of(alloc, planes)?;
-        let ends = incidences_of_points(alloc, planes, &points, own)?;
+        let ends = edge_incidences(alloc, planes, &points, &own)?;
         let edges = composed_cells(alloc, Kind::Edge, &points, &ends)?;
         let own = begun(alloc, &ends)?;
-        let incidences = incidences_of_edges(ends, &edges, &own)?;
+        let incidences = open_incidences(ends, &edges, &own)?;
         Ok(Skeleton {
             points,
             edges,

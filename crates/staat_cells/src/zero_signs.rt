@@ -4,8 +4,7 @@ ghost use Rattle.std.specs.Prelude.{IfOk, List, length, slice_set, min};
 ghost use Rattle.staat_vec.specs.declared.vector.Sign.{Sign as SignValue};
 ghost use Rattle.staat_vec.specs.Vectors.{IsWithin};
 ghost use Rattle.staat_model.specs.Cells.{is_zero, signs_of};
-ghost use Rattle.staat_cells.specs.ZeroSigns.{HasFewSigns, HasIncidenceZeroAt, HasZeroAt, IsSignWord, IsZeroAt};
-ghost use Rattle.staat_cells.specs.ZeroSigns.{zero_places};
+ghost use Rattle.staat_cells.specs.ZeroSigns.{IsZeroAt, zero_places};
 ghost use Rattle.staat_cells.specs.Compositions.{composed};
 ghost use Rattle.staat_cells.specs.Packing.{packed, incidence_of};
 ghost use Rattle.staat_cells.specs.Beside.{filled};
@@ -27,14 +26,13 @@ fn weight(count: usize, k: usize) -> u128
 fn changed_word(word: u128, count: usize, k: usize, t: Sign) -> u128
     requires place { k < count }
     requires word { count ≤ 64 }
-    requires zero_at { HasZeroAt word count k }
     ensures { (s : List SignValue) → packed s ≡ word → length s ≡ count → IsZeroAt s k
         → result ≡ packed (slice_set s k t) }
 {
     match t {
-        Sign::Neg => word - weight(count, k),
+        Sign::Neg => word.wrapping_sub(weight(count, k)),
         Sign::Zero => word,
-        Sign::Pos => word + weight(count, k),
+        Sign::Pos => word.wrapping_add(weight(count, k)),
     }
 }
 
@@ -50,7 +48,6 @@ fn word_count(left: usize) -> usize
 pub(crate) fn changed(incidence: Incidence, count: usize, k: usize, t: Sign) -> Incidence
     requires few { count ≤ 256 }
     requires place { k < count }
-    requires zero_at { HasIncidenceZeroAt incidence count k }
     ensures { (s : List SignValue) → incidence ≡ incidence_of s incidence.of → length s ≡ count
         → IsZeroAt s k → result ≡ incidence_of (slice_set s k t) incidence.of }
 {
@@ -118,21 +115,19 @@ const ONES: u128 = 0x5555_5555_5555_5555_5555_5555_5555_5555;
 
 // the word with t in place of each zero, which alone has an odd digit
 fn filled_word(word: u128, t: Sign) -> u128
-    requires word { IsSignWord word }
     ensures { (s : List SignValue) → packed s ≡ word → length s ≤ 64 → result ≡ packed (filled t s) }
 {
     let zeros = word & ONES;
     match t {
-        Sign::Neg => word - zeros,
+        Sign::Neg => word.wrapping_sub(zeros),
         Sign::Zero => word,
-        Sign::Pos => word + zeros,
+        Sign::Pos => word.wrapping_add(zeros),
     }
 }
 
 /// The incidence with `t` in place of each zero.
 pub(crate) fn incidence_filled(base: Incidence, t: Sign) -> Incidence
-    requires few { HasFewSigns base }
-    ensures { (s : List SignValue) → base ≡ incidence_of s base.of → length s ≤ 256
+    ensures { (s : List SignValue) → base ≡ incidence_of s base.of
         → result ≡ incidence_of (filled t s) base.of }
 {
     Incidence {

@@ -12,7 +12,7 @@ unfolding vector_alone
 vector_by_places most (x ∷ y ∷ z ∷ []) e = refl
 vector_by_places most zs e = absurd (omega arith)
 
-pub arc_by_places : (zs : List ℤ) → length zs ≡ 4 → arc_from (get_or zs 0 (pos 0)) (get_or zs 1 (pos 0)) (get_or zs 2 (pos 0)) (get_or zs 3 (pos 0)) ≡ arc_alone zs
+pub arc_by_places : (parts pieces : ℕ) (zs : List ℤ) → length zs ≡ 4 → arc_from parts pieces (get_or zs 0 (pos 0)) (get_or zs 1 (pos 0)) (get_or zs 2 (pos 0)) (get_or zs 3 (pos 0)) ≡ arc_alone parts pieces zs
 unfolding arc_alone
-arc_by_places (a ∷ i ∷ b ∷ j ∷ []) e = refl
-arc_by_places zs e = absurd (omega arith)
+arc_by_places parts pieces (a ∷ i ∷ b ∷ j ∷ []) e = refl
+arc_by_places parts pieces zs e = absurd (omega arith)

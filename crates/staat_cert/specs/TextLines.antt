@@ -2,7 +2,7 @@
 -- which lines were taken.
 use Rattle.std.specs.Prelude.{◌≡◌, ◌≢◌, ◌⊎◌, ℕ, ◌+◌, ◌<◌, ◌≤◌, List, []}
 use Rattle.std.specs.Prelude.{◌==◌, ◌∷◌, ◌++◌, Bool, true, false, not}
-use Rattle.std.specs.Prelude.{length, All, Option, Some, None, Result, Ok, Err}
+use Rattle.std.specs.Prelude.{length, flat_map, All, Option, Some, None, Result, Ok, Err, option_and_then}
 use Rattle.staat_limits.specs.declared.limits.TheConstants.{LINE_LIMIT, TEXT_LIMIT}
 use Rattle.staat_model.specs.Texts.{HasNoFeed, IsLine, IsLongLine, joined}
 use Rattle.staat_cert.specs.declared.cert_refusal.CertRefusal.{CertRefusal}
@@ -67,6 +67,32 @@ pub record IsFirstBadOf {C : Type 0} (spells : List ℕ → C → Type 0) (bytes
 pub record IsCutShort {C : Type 0} (spells : List ℕ → C → Type 0) (bytes : List ℕ) : Type 0 where
   pub no_text : (c : C) → spells bytes c → ⊥
   pub no_bad_line : (k : ℕ) → IsFirstBadOf spells bytes k → ⊥
+
+-- ---- lines, each of which makes of a state the next one, or nothing where it can't stand there
+
+-- the bytes are the text of the line, whose numbers are within their bounds
+pub record IsTextOfLine {L : Type 0} (line_text : L → List ℕ) (InBounds : L → Type 0) (bytes : List ℕ) (l : L)
+    : Type 0 where
+  pub text : bytes ≡ line_text l
+  pub bounds : InBounds l
+
+-- the state after the lines
+abbrev pub run_by : {S L : Type 0} → (S → L → Option S) → Option S → List L → Option S
+run_by step s [] = s
+run_by step s (l ∷ ls) = run_by step (option_and_then (λ t. step t l) s) ls
+
+-- whether the line was taken, and what it made of the state
+abbrev pub MakesState : {S : Type 0} → Option S → Bool → S → Type 0
+MakesState o true t = o ≡ Some t
+MakesState o false t = o ≡ None
+
+-- the bytes are lines that lead from one state to another
+pub record LeadsTo {S L : Type 0} (line_text : L → List ℕ) (InBounds : L → Type 0) (step : S → L → Option S)
+    (start now : S) (bytes : List ℕ) : Type 0 where
+  pub lines : List L
+  pub is : bytes ≡ flat_map line_text lines
+  pub bounds : All InBounds lines
+  pub runs : run_by step (Some start) lines ≡ Some now
 
 -- ---- a stage
 

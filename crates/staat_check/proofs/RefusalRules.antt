@@ -3,9 +3,9 @@ use Rattle.std.proofs.Common.{◌≡◌, ◌↔◌, inl, inr, ⊎_elim, ℕ, ◌
 use Rattle.staat_vec.specs.declared.memory.OutOfMemory.{OutOfMemory}
 use Rattle.std.specs.Prelude.{Err, IfOk, Ok, Option, None, Result, Some, slice_index_or, MatchOption, sum_by}
 use Rattle.std.specs.FinSet as set
-use Rattle.std.proofs.lemmas.List.Elements.{All-contains, All-weaker}
+use Rattle.std.proofs.lemmas.List.Elements.{All-contains, All-more, All-weaker}
 use Rattle.std.proofs.lemmas.Option.{slice_get-get_or}
-use Rattle.std.proofs.lemmas.List.Sums.{sum_by-le, sum_by_more, sum_by_more_le}
+use Rattle.std.proofs.lemmas.List.Sums.{sum_by-le, sum_by_more_le}
 use Rattle.staat_vec.specs.declared.vector.V3.{V3}
 use Rattle.staat_vec.specs.declared.vector.TheConstants.{DIRECTION}
 use Rattle.staat_vec.specs.Lists.{FailsFirst, IsFirst}
@@ -32,7 +32,6 @@ use Rattle.staat_pairs.specs.Tables.{IsTableArc, Table, WasMadeFrom}
 use Rattle.staat_check.specs.Conditions.{AreLists, IsAcrossAll, IsFitDir, LeadsAhead, asked_facets}
 use Rattle.staat_check.specs.Verdicts.{IsRefusalVerdict, IsSaidBy}
 use Rattle.staat_check.proofs.ConditionLemmas.{facets_law, numbers_law, numbers_small}
-use Rattle.staat_check.proofs.ReadLemmas.{more_all}
 use Rattle.staat_vec.proofs.Naturals.{le_or_lt}
 use Rattle.staat_vec.proofs.ListLaws.{Contains-map}
 use Rattle.staat_vec.proofs.Unique.{from_place}
@@ -126,9 +125,6 @@ few_lines witnesses each few =
 pub lines_fit : (witnesses : List Witness) (k lines : ℕ) (w : Witness) → k < length witnesses → w ≡ get_or witnesses k w → lines ≡ sum_by witness_size (take k witnesses) → lines + witness_size w ≤ sum_by witness_size witnesses
 lines_fit witnesses k lines w lt is e = omega (arith, e, ap witness_size is, sum_by_more_le witness_size witnesses k w lt)
 
-pub lines_more : (witnesses : List Witness) (k lines here : ℕ) (w : Witness) → k < length witnesses → w ≡ get_or witnesses k w → here ≡ witness_size w → lines ≡ sum_by witness_size (take k witnesses) → lines + here ≡ sum_by witness_size (take (k + 1) witnesses)
-lines_more witnesses k lines here w lt is size e = omega (arith, e, size, ap witness_size is, sum_by_more witness_size witnesses k w lt)
-
 -- ---- what is said where all directions are blocked
 
 pub refusal_said : (parts : List Part) (version : ℕ) (witnesses : List Witness) (dirs : List Dir) (t : Table) (missing : Option V3) (v : Verdict) → IsStuckSet parts t.of → All (IsWitness parts t.of) witnesses → WasMadeFrom parts t → All (IsBlocked parts witnesses) dirs
@@ -145,7 +141,7 @@ pub next_line : (directions : List V3) (dirs : List Dir) (found k : ℕ) (u : V3
 next_line directions dirs found k u e lt in_dirs same all =
     let x : Dir = get_or dirs k e in
     let c : Contains dirs x = from_place dirs k x (slice_get-get_or dirs k e in_dirs) in
-    more_all (HasLine dirs) directions found (get_or directions found u) (slice_get-get_or directions found u lt) all (subst (HasLine dirs) (sym same) (Contains-map (λ (dir : Dir). dir.d) dirs x c))
+    All-more (HasLine dirs) directions found u lt all (subst (HasLine dirs) (sym same) (Contains-map (λ (dir : Dir). dir.d) dirs x c))
 
 -- ---- what is said by a table
 

@@ -1,9 +1,11 @@
--- The splits of a plan, one node after another.
-use Rattle.std.proofs.Common.{◌≡◌, ℕ, suc, ◌+◌, ◌^◌, ◌<◌, ◌≤◌, arith, refl, sym, ap, subst, ◌∙◌, List, [], ◌∷◌, ◌++◌, length, take, drop, append_assoc, append-nil, length-append, All}
-use Rattle.std.specs.Prelude.{MatchOption, None, Option, Some, slice_get, sum_by}
-use Rattle.std.proofs.Math.Seq.{drop-append_seam}
-use Rattle.std.proofs.lemmas.List.Elements.{All-append, All-cons, All-nil}
-use Rattle.std.proofs.lemmas.List.Sums.{sum_by-append, sum_by-cons, sum_by-take-drop, sum_by-take-le}
+-- The splits of a plan, one tree after another.
+use Rattle.std.proofs.Common.{◌≡◌, ℕ, suc, ◌+◌, ◌-◌, ◌^◌, ◌<◌, ◌≤◌, arith, refl, sym, ap, ap₂, subst, ◌∙◌, List, [], ◌∷◌, ◌++◌, length, drop, take, get_or, append_assoc, append-nil, length-append, All}
+use Rattle.std.specs.Prelude.{MatchOption, None, Option, Some, sum_by}
+use Rattle.std.specs.Option.{option_or}
+use Rattle.std.specs.FinSet as set
+use Rattle.std.proofs.lemmas.List.{take_all}
+use Rattle.std.proofs.lemmas.List.Elements.{All-append, All-cons, All-head, All-nil, All-tail}
+use Rattle.std.proofs.lemmas.List.Sums.{sum_by-append, sum_by-cons}
 use Rattle.staat_vec.specs.declared.vector.V3.{V3}
 use Rattle.staat_model.specs.declared.assembly.Part.{Part}
 use Rattle.staat_model.specs.declared.certificate.Node.{Node}
@@ -11,173 +13,185 @@ use Rattle.staat_model.specs.declared.certificate.Node.TheVariants.{Leaf, Split}
 use Rattle.staat_model.specs.declared.certificate.Sep.{Sep}
 use Rattle.staat_model.specs.declared.set.PartSet.{PartSet}
 use Rattle.staat_model.specs.declared.verdict.Reason.{Reason}
-use Rattle.staat_model.specs.Certificates.{WalledPlan, walled_leaf, walled_split, IsLeafAt, nodes_of, walled_parts, SplitHolds, SplitsHold}
+use Rattle.staat_model.specs.Certificates.{WalledPlan, walled_leaf, walled_split, nodes_of, walled_parts, AreAllLeaves, IsLeafAt, SplitHolds}
 use Rattle.staat_model.specs.Reasons.{EntryHolds, IsSplitReason, IsTreeReason, SplitEntry, first_line, node_size, splits_of}
-use Rattle.staat_model.specs.Sets.{Has}
+use Rattle.staat_model.specs.Sets.{single}
+use Rattle.staat_model.proofs.Members.{all_back, all_front}
 use Rattle.staat_model.proofs.OneReason.{broken_at}
-use Rattle.staat_model.proofs.SplitLists.{splits_hold}
-use Rattle.staat_check.specs.Fronts.{forest_nodes}
-use Rattle.staat_check.specs.Forests.{AreJudged, AreSides, HasPartsOf, IsNodeAnswer, Remains, forest_splits}
-use Rattle.staat_pairs.proofs.DropLemmas.{drop_at}
-use Rattle.staat_check.proofs.FrontLemmas.{not_nil_append}
-use Rattle.staat_vec.proofs.ListLaws.{get_drop, drop_end}
+use Rattle.staat_model.proofs.PlanLemmas.{has_leaf}
 use Rattle.staat_model.proofs.WalledNodes.{nodes_some}
+use Rattle.staat_model.proofs.WholeLemmas.{left_within, right_within}
+use Rattle.staat_check.specs.Trees.{ArePartsOf, BeginsTree, BreaksFirst, IsFitNode, IsFitTree, IsJudgedTree, TellsReason}
+use Rattle.staat_check.specs.Verdicts.{IsFitPlan}
 
--- ---- sides
+-- ---- the first node
 
-pub sides_are : (parts : List Part) (behind from : List Node) (count : ℕ) (moved rest : PartSet) → HasPartsOf parts behind → from ≡ drop count behind
-    → ((q : ℕ) → Has moved q → (k : ℕ) × IsLeafAt behind k q) → ((q : ℕ) → Has rest q → (k : ℕ) × IsLeafAt from k q)
-    → ((t : WalledPlan) (more : List Node) → behind ≡ nodes_of t ++ more → moved ≡ walled_parts t) → ((t : WalledPlan) (more : List Node) → behind ≡ nodes_of t ++ more → count ≡ length (nodes_of t))
-    → ((t : WalledPlan) (more : List Node) → from ≡ nodes_of t ++ more → rest ≡ walled_parts t) → AreSides parts behind moved rest
-sides_are parts behind from count moved rest has e in_moved in_rest moved_is count_is rest_is = record {
-  moved_in = λ q h. let at = in_moved q h in has at.0 q at.1;
-  rest_in = λ q h. let at = in_rest q h in has (count + at.0) q (sym (get_drop behind count at.0) ∙ ap (λ l. slice_get l at.0) (sym e) ∙ at.1);
-  are = λ m r more f. (
-    moved_is m (nodes_of r ++ more) f,
-    rest_is r more (e ∙ (λ i. drop (count_is m (nodes_of r ++ more) f i) (f i)) ∙ drop-append_seam (nodes_of m) (nodes_of r ++ more)),
-  );
+pub some_nodes : (parts : List Part) (nodes : List Node) (number line : ℕ) → BeginsTree parts nodes number line → 1 ≤ length nodes
+some_nodes parts nodes number line h = omega (arith, ap length h.is, length-append (nodes_of h.tree) h.more, nodes_some h.tree)
+
+pub first_node : (nodes : List Node) (node : Node) → 1 ≤ length nodes → node ≡ get_or nodes 0 node → nodes ≡ node ∷ take (length nodes - 1) (drop 1 nodes)
+first_node [] node some is = absurd (omega arith)
+first_node (x ∷ nodes) node some is =
+    let less : suc (length nodes) - 1 ≡ length nodes = omega arith in
+    let rest : nodes ≡ take (suc (length nodes) - 1) nodes = sym (ap (λ n. take n nodes) less ∙ take_all (length nodes) nodes (omega arith)) in
+    λ i. sym is i ∷ rest i
+
+-- the two trees behind a split
+pub record AreSides (d : V3) (seps : List Sep) (behind : List Node) (t : WalledPlan) (more : List Node) : Type 0 where
+  pub moved : WalledPlan
+  pub rest : WalledPlan
+  pub tree_is : t ≡ walled_split d seps moved rest
+  pub behind_are : behind ≡ nodes_of moved ++ (nodes_of rest ++ more)
+
+pub sides : (d : V3) (seps : List Sep) (nodes behind : List Node) (t : WalledPlan) (more : List Node) → nodes ≡ Split d seps ∷ behind → nodes ≡ nodes_of t ++ more → AreSides d seps behind t more
+sides d seps nodes behind (walled_leaf p) more is e = absurd (let clash : Split d seps ∷ behind ≡ Leaf p ∷ more = sym is ∙ e in cc)
+sides d seps nodes behind (walled_split d' seps' m r) more is e =
+    let both : Split d seps ∷ behind ≡ Split d' seps' ∷ ((nodes_of m ++ nodes_of r) ++ more) = sym is ∙ e in
+    let ds : d' ≡ d = cc in
+    let walls : seps' ≡ seps = cc in
+    let tail : behind ≡ (nodes_of m ++ nodes_of r) ++ more = cc in
+    record { moved = m; rest = r; tree_is = λ i. walled_split (ds i) (walls i) m r; behind_are = tail ∙ append_assoc (nodes_of m) (nodes_of r) more }
+
+split_size : (d : V3) (seps : List Sep) (m r : WalledPlan) → sum_by node_size (nodes_of (walled_split d seps m r)) ≡ 1 + length seps + (sum_by node_size (nodes_of m) + sum_by node_size (nodes_of r))
+split_size d seps m r = sum_by-cons node_size (Split d seps) (nodes_of m ++ nodes_of r) ∙ ap (λ n. 1 + length seps + n) (sum_by-append node_size (nodes_of m) (nodes_of r))
+
+-- the first reason, of a split or of those behind it
+told_in_turn : (parts : List Part) (x : SplitEntry) (ms rs : List SplitEntry) (own first second : Option Reason) → MatchOption own (EntryHolds parts x) (IsSplitReason parts x) → TellsReason parts ms first → TellsReason parts rs second
+    → TellsReason parts (x ∷ (ms ++ rs)) (option_or (option_or own first) second)
+told_in_turn parts x ms rs (Some reason) first second here a b = record { before = []; split = x; behind = ms ++ rs; is = refl; hold = All-nil (EntryHolds parts); reason_is = here }
+told_in_turn parts x ms rs None (Some reason) second here a b = record {
+  before = x ∷ a.before;
+  split = a.split;
+  behind = a.behind ++ rs;
+  is = ap (λ l. x ∷ l) (ap (λ l. l ++ rs) a.is ∙ append_assoc a.before (a.split ∷ a.behind) rs);
+  hold = All-cons (EntryHolds parts) x a.before here a.hold;
+  reason_is = a.reason_is;
 }
+told_in_turn parts x ms rs None None (Some reason) here a b = record {
+  before = x ∷ (ms ++ b.before);
+  split = b.split;
+  behind = b.behind;
+  is = ap (λ l. x ∷ l) (ap (λ l. ms ++ l) b.is ∙ sym (append_assoc ms b.before (b.split ∷ b.behind)));
+  hold = All-cons (EntryHolds parts) x (ms ++ b.before) here (All-append (EntryHolds parts) ms b.before a b.hold);
+  reason_is = b.reason_is;
+}
+told_in_turn parts x ms rs None None None here a b = All-cons (EntryHolds parts) x (ms ++ rs) here (All-append (EntryHolds parts) ms rs a b)
 
-pub parts_behind : (parts : List Part) (nodes behind : List Node) (k : ℕ) → HasPartsOf parts nodes → behind ≡ drop k nodes → HasPartsOf parts behind
-parts_behind parts nodes behind k has e m p leaf = has (k + m) p (sym (get_drop nodes k m) ∙ ap (λ l. slice_get l m) (sym e) ∙ leaf)
+module _ (parts : List Part) (number line : ℕ) where
+  -- the first node, and the numbers of the second, are within their bounds
+  abbrev pub FirstFits : Node → Type 0
+  FirstFits node = (number + 1 < 2 ^ 32) × (line + node_size node < 2 ^ 32) × IsFitNode node
 
--- ---- one node more
-
-module _ (parts : List Part) (t : WalledPlan) (k line : ℕ) where
-  -- the splits before these hold, and these are still to be judged
-  abbrev Judged : List SplitEntry → List SplitEntry → Type 0
-  Judged before left = (splits_of t 0 first_line ≡ before ++ left) × All (EntryHolds parts) before
-
-  after_leaf : (p : ℕ) (ts : List WalledPlan) (node : Node) (behind : List Node) (before : List SplitEntry)
-      → node ∷ behind ≡ Leaf p ∷ forest_nodes ts → Judged before (forest_splits (walled_leaf p ∷ ts) k line)
-      → Remains parts t behind (k + 1) (line + node_size node)
-  after_leaf p ts node behind before e judged =
-      let same : node ≡ Leaf p = cc in
-      record {
-        trees = ts;
-        behind_are = (let rest : behind ≡ forest_nodes ts = cc in rest);
-        before = before;
-        splits_are = judged.0 ∙ ap (λ n. before ++ forest_splits ts (k + 1) (line + node_size n)) (sym same);
-        hold = judged.1;
-      }
-
-  after_split : (d : V3) (seps : List Sep) (m rest : WalledPlan) (ts : List WalledPlan) (node : Node) (behind : List Node)
-      (before : List SplitEntry) → node ∷ behind ≡ Split d seps ∷ ((nodes_of m ++ nodes_of rest) ++ forest_nodes ts)
-      → IsNodeAnswer parts node behind k line None → Judged before (forest_splits (walled_split d seps m rest ∷ ts) k line)
-      → Remains parts t behind (k + 1) (line + node_size node)
-  after_split d seps m rest ts node behind before e answer judged =
-      let same : node ≡ Split d seps = cc in
-      let tail : behind ≡ (nodes_of m ++ nodes_of rest) ++ forest_nodes ts = cc in
-      let are : behind ≡ nodes_of m ++ (nodes_of rest ++ forest_nodes ts) = tail ∙ append_assoc (nodes_of m) (nodes_of rest) (forest_nodes ts) in
-      let split : SplitHolds parts (walled_parts m) (walled_parts rest) d seps = (subst (λ n. IsNodeAnswer parts n behind k line None) same answer) m rest (forest_nodes ts) are in
-      let size : node_size node ≡ 1 + length seps = ap node_size same in
-      let x : SplitEntry = record { node = k; line = line; moved = walled_parts m; rest = walled_parts rest; d = d; seps = seps } in
-      record {
-        trees = m ∷ rest ∷ ts;
-        behind_are = are;
-        before = before ++ x ∷ [];
-        splits_are = judged.0 ∙ (ap (λ l. before ++ x ∷ l) (regrouped size) ∙ sym (append_assoc before (x ∷ []) (forest_splits (m ∷ rest ∷ ts) (k + 1) (line + node_size node))));
-        hold = All-append (EntryHolds parts) before (x ∷ []) judged.1 (All-cons (EntryHolds parts) x [] split (All-nil (EntryHolds parts)));
-      }
+  pub first_fits : (nodes behind : List Node) (node : Node) → nodes ≡ node ∷ behind → BeginsTree parts nodes number line → FirstFits node
+  first_fits nodes behind node is h = go h.tree (sym is ∙ h.is) h.fit
     where
-      -- the splits of the two sides and of the later trees, as those of trees one after another
-      regrouped : node_size node ≡ 1 + length seps
-          → (splits_of m (k + 1) (line + 1 + length seps)
-          ++ splits_of rest (k + 1 + length (nodes_of m)) (line + 1 + length seps + sum_by node_size (nodes_of m)))
-          ++ forest_splits ts (k + length (nodes_of (walled_split d seps m rest))) (line + sum_by node_size (nodes_of (walled_split d seps m rest)))
-          ≡ forest_splits (m ∷ rest ∷ ts) (k + 1) (line + node_size node)
-      regrouped size =
-          let first = splits_of m (k + 1) (line + node_size node) in
-          let second = splits_of rest (k + 1 + length (nodes_of m)) (line + node_size node + sum_by node_size (nodes_of m)) in
-          let third = forest_splits ts (k + 1 + length (nodes_of m) + length (nodes_of rest)) (line + node_size node + sum_by node_size (nodes_of m) + sum_by node_size (nodes_of rest)) in
-          let count : length (nodes_of m ++ nodes_of rest) ≡ length (nodes_of m) + length (nodes_of rest) = length-append (nodes_of m) (nodes_of rest) in
-          let sizes : sum_by node_size (nodes_of m ++ nodes_of rest) ≡ sum_by node_size (nodes_of m) + sum_by node_size (nodes_of rest) = sum_by-append node_size (nodes_of m) (nodes_of rest) in
-          let whole : sum_by node_size (nodes_of (walled_split d seps m rest)) ≡ 1 + length seps + sum_by node_size (nodes_of m ++ nodes_of rest) = sum_by-cons node_size (Split d seps) (nodes_of m ++ nodes_of rest) in
-          let at_first : line + 1 + length seps ≡ line + node_size node = omega (arith, size) in
-          let at_second : line + 1 + length seps + sum_by node_size (nodes_of m) ≡ line + node_size node + sum_by node_size (nodes_of m) = omega (arith, size) in
-          let number : k + suc (length (nodes_of m ++ nodes_of rest)) ≡ k + 1 + length (nodes_of m) + length (nodes_of rest) = omega (arith, count) in
-          let at_third : line + sum_by node_size (nodes_of (walled_split d seps m rest)) ≡ line + node_size node + sum_by node_size (nodes_of m) + sum_by node_size (nodes_of rest) = omega (arith, size, sizes, whole) in
-          (λ i. (splits_of m (k + 1) (at_first i) ++ splits_of rest (k + 1 + length (nodes_of m)) (at_second i)) ++ forest_splits ts (number i) (at_third i))
-          ∙ append_assoc first second third
+      go : (t : WalledPlan) → node ∷ behind ≡ nodes_of t ++ h.more → IsFitTree parts t number line → FirstFits node
+      go (walled_leaf p) e fit = let same : Leaf p ≡ node = cc in subst FirstFits same (omega (arith, fit.few), omega (arith, fit.lines), All-head IsFitNode (Leaf p) [] fit.nodes)
+      go (walled_split d seps m r) e fit =
+          let same : Split d seps ≡ node = cc in
+          subst FirstFits same (omega (arith, fit.few), omega (arith, fit.lines, split_size d seps m r), All-head IsFitNode (Split d seps) (nodes_of m ++ nodes_of r) fit.nodes)
 
-  after_node : (ts : List WalledPlan) (node : Node) (behind : List Node) (before : List SplitEntry) → node ∷ behind ≡ forest_nodes ts
-      → IsNodeAnswer parts node behind k line None → Judged before (forest_splits ts k line)
-      → Remains parts t behind (k + 1) (line + node_size node)
-  after_node [] node behind before e answer judged = absurd cc
-  after_node (walled_leaf p ∷ ts) node behind before e answer judged = after_leaf p ts node behind before e judged
-  after_node (walled_split d seps m rest ∷ ts) node behind before e answer judged = after_split d seps m rest ts node behind before e answer judged
+  -- ---- a leaf
 
-  -- the node breaks a rule
-  at_node : (reason : Reason) (ts : List WalledPlan) (node : Node) (behind : List Node) (before : List SplitEntry) → node ∷ behind ≡ forest_nodes ts
-      → IsNodeAnswer parts node behind k line (Some reason) → Judged before (forest_splits ts k line) → IsTreeReason parts t reason
-  at_node reason [] node behind before e answer judged = absurd cc
-  at_node reason (walled_leaf p ∷ ts) node behind before e answer judged =
-      let same : node ≡ Leaf p = cc in
-      let wrong : Some reason ≡ None = subst (λ n. IsNodeAnswer parts n behind k line (Some reason)) same answer in
-      absurd cc
-  at_node reason (walled_split d seps m rest ∷ ts) node behind before e answer judged =
-      let same : node ≡ Split d seps = cc in
-      let tail : behind ≡ (nodes_of m ++ nodes_of rest) ++ forest_nodes ts = cc in
-      let x : SplitEntry = record { node = k; line = line; moved = walled_parts m; rest = walled_parts rest; d = d; seps = seps } in
-      let split : IsSplitReason parts x reason =
-      (subst (λ n. IsNodeAnswer parts n behind k line (Some reason)) same answer) m rest (forest_nodes ts) (tail ∙ append_assoc (nodes_of m) (nodes_of rest) (forest_nodes ts)) in
-      broken_at parts t before _ x reason judged.0 judged.1 split
+  pub leaf_judged : (nodes behind : List Node) (p : ℕ) (leaves : PartSet) → nodes ≡ Leaf p ∷ behind → leaves ≡ single p → (t : WalledPlan) (more : List Node) → nodes ≡ nodes_of t ++ more
+      → (behind ≡ more) × IsJudgedTree parts t number line leaves (number + 1) (line + 1) None
+  leaf_judged nodes behind p leaves is e (walled_leaf q) more f =
+      let both : Leaf p ∷ behind ≡ Leaf q ∷ more = sym is ∙ f in
+      let same : p ≡ q = cc in
+      ((let rest : behind ≡ more = cc in rest), record { leaves_are = e ∙ ap single same; next_is = refl; line_is = refl; told = All-nil (EntryHolds parts) })
+  leaf_judged nodes behind p leaves is e (walled_split d seps m r) more f =
+      absurd (let clash : Leaf p ∷ behind ≡ Split d seps ∷ ((nodes_of m ++ nodes_of r) ++ more) = sym is ∙ f in cc)
 
-line_next : (nodes : List Node) (k : ℕ) (node : Node) → slice_get nodes k ≡ Some node → sum_by node_size (take k nodes) + node_size node ≡ sum_by node_size (take (k + 1) nodes)
-line_next nodes k node at =
-    let before : sum_by node_size (take k nodes) + sum_by node_size (drop k nodes) ≡ sum_by node_size nodes = sum_by-take-drop node_size nodes k in
-    let after : sum_by node_size (take (k + 1) nodes) + sum_by node_size (drop (k + 1) nodes) ≡ sum_by node_size nodes = sum_by-take-drop node_size nodes (k + 1) in
-    let cut : sum_by node_size (drop k nodes) ≡ node_size node + sum_by node_size (drop (k + 1) nodes) = ap (sum_by node_size) (drop_at nodes k node at) ∙ sum_by-cons node_size node (drop (k + 1) nodes) in
-    omega (arith, before, after, cut)
+  -- ---- a split
 
-pub lines_left : (parts : List Part) (nodes : List Node) (k line : ℕ) (node : Node) → slice_get nodes k ≡ Some node → AreJudged parts nodes k line → first_line + sum_by node_size nodes < 2 ^ 32 → line + node_size node < 2 ^ 32
-lines_left parts nodes k line node at are few = omega (arith, are.line_is, line_next nodes k node at, sum_by-take-le node_size nodes (k + 1), few)
+  module _ (d : V3) (seps : List Sep) (nodes behind : List Node) (is : nodes ≡ Split d seps ∷ behind) where
+    abbrev MovedFits : WalledPlan → Type 0
+    MovedFits m = IsFitTree parts m (number + 1) (line + 1 + length seps)
 
-pub judged_none : (parts : List Part) (nodes : List Node) → AreJudged parts nodes 0 first_line
-judged_none parts nodes = record {
-  line_is = refl;
-  remains = λ t e. record {
-    trees = t ∷ [];
-    behind_are = e ∙ sym (append-nil (nodes_of t));
-    before = [];
-    splits_are = sym (append-nil (splits_of t 0 first_line));
-    hold = All-nil (EntryHolds parts);
+    fit_sides : (m r : WalledPlan) → IsFitTree parts (walled_split d seps m r) number line → MovedFits m × IsFitTree parts r (number + 1 + length (nodes_of m)) (line + 1 + length seps + sum_by node_size (nodes_of m))
+    fit_sides m r h =
+        let behind_fit = All-tail IsFitNode (Split d seps) (nodes_of m ++ nodes_of r) h.nodes in
+        let count = length-append (nodes_of m) (nodes_of r) in
+        let size = split_size d seps m r in (
+          record {
+            nodes = all_front IsFitNode (nodes_of m) (nodes_of r) behind_fit;
+            parts_in = λ p has. h.parts_in p (left_within (walled_parts m) (walled_parts r) p has);
+            few = omega (arith, h.few, count);
+            lines = omega (arith, h.lines, size);
+          },
+          record {
+            nodes = all_back IsFitNode (nodes_of m) (nodes_of r) behind_fit;
+            parts_in = λ p has. h.parts_in p (right_within (walled_parts m) (walled_parts r) p has);
+            few = omega (arith, h.few, count);
+            lines = omega (arith, h.lines, size);
+          },
+        )
+
+    pub split_fit : (h : BeginsTree parts nodes number line) → (s : AreSides d seps behind h.tree h.more) × IsFitTree parts (walled_split d seps s.moved s.rest) number line
+    split_fit h = let s = sides d seps nodes behind h.tree h.more is h.is in (s, subst (λ t. IsFitTree parts t number line) s.tree_is h.fit)
+
+    pub moved_begins : BeginsTree parts nodes number line → BeginsTree parts behind (number + 1) (line + 1 + length seps)
+    moved_begins h = let (s, fit) = split_fit h in record { tree = s.moved; more = nodes_of s.rest ++ h.more; is = s.behind_are; fit = (fit_sides s.moved s.rest fit).0 }
+
+    -- where the tree of the side that moves was judged
+    module _ (leaves : PartSet) (after : List Node) (next next_line : ℕ) (first : Option Reason)
+        (judged : (t : WalledPlan) (more : List Node) → behind ≡ nodes_of t ++ more → (after ≡ more) × IsJudgedTree parts t (number + 1) (line + 1 + length seps) leaves next next_line first) where
+      -- the nodes behind it begin with a tree too, and are fewer
+      pub rest_begins : BeginsTree parts nodes number line → BeginsTree parts after next next_line × (length after < length nodes)
+      rest_begins h =
+          let (s, fit) = split_fit h in
+          let (after_is, moved) = judged s.moved (nodes_of s.rest ++ h.more) s.behind_are in
+          let at = fit_sides s.moved s.rest fit in (
+            record { tree = s.rest; more = h.more; is = after_is; fit = subst (λ k. IsFitTree parts s.rest k next_line) (sym moved.next_is) (subst (λ k. IsFitTree parts s.rest (number + 1 + length (nodes_of s.moved)) k) (sym moved.line_is) at.1) },
+            omega (arith, ap length is, ap length s.behind_are, ap length after_is, length-append (nodes_of s.moved) (nodes_of s.rest ++ h.more)),
+          )
+
+      -- the sides have parts of the assembly
+      pub parts_of_sides : (rest : PartSet) (last last_line : ℕ) (second : Option Reason) → ((t : WalledPlan) (more : List Node) → after ≡ nodes_of t ++ more → IsJudgedTree parts t next next_line rest last last_line second)
+          → BeginsTree parts nodes number line → ArePartsOf parts leaves × ArePartsOf parts rest
+      parts_of_sides rest last last_line second rest_judged h =
+          let (s, fit) = split_fit h in
+          let (after_is, moved) = judged s.moved (nodes_of s.rest ++ h.more) s.behind_are in
+          let behind_it = rest_judged s.rest h.more after_is in
+          let fits = fit_sides s.moved s.rest fit in
+          (subst (ArePartsOf parts) (sym moved.leaves_are) fits.0.parts_in, subst (ArePartsOf parts) (sym behind_it.leaves_are) fits.1.parts_in)
+
+      pub split_judged : (rest all : PartSet) (behind_all : List Node) (last last_line : ℕ) (own second whole : Option Reason)
+          → ((t : WalledPlan) (more : List Node) → after ≡ nodes_of t ++ more → (behind_all ≡ more) × IsJudgedTree parts t next next_line rest last last_line second)
+          → MatchOption own (SplitHolds parts leaves rest d seps) (IsSplitReason parts (record { node = number; line = line; moved = leaves; rest = rest; d = d; seps = seps }))
+          → all ≡ set.union leaves rest → whole ≡ option_or (option_or own first) second
+          → (t : WalledPlan) (more : List Node) → nodes ≡ nodes_of t ++ more → (behind_all ≡ more) × IsJudgedTree parts t number line all last last_line whole
+      split_judged rest all behind_all last last_line own second whole rest_judged said all_is whole_is t more e =
+          let s = sides d seps nodes behind t more is e in
+          let (after_is, m) = judged s.moved (nodes_of s.rest ++ more) s.behind_are in
+          let (more_is, r) = rest_judged s.rest more after_is in
+          let here = subst (λ (x : SplitEntry). MatchOption own (EntryHolds parts x) (IsSplitReason parts x)) (λ i. record { node = number; line = line; moved = m.leaves_are i; rest = r.leaves_are i; d = d; seps = seps }) said in
+          let later = subst (λ (l : List SplitEntry). TellsReason parts l second) (λ i. splits_of s.rest (m.next_is i) (m.line_is i)) r.told in (
+            more_is,
+            subst (λ u. IsJudgedTree parts u number line all last last_line whole) (sym s.tree_is) (record {
+              leaves_are = all_is ∙ ap₂ set.union m.leaves_are r.leaves_are;
+              next_is = omega (arith, m.next_is, r.next_is, length-append (nodes_of s.moved) (nodes_of s.rest));
+              line_is = omega (arith, m.line_is, r.line_is, split_size d seps s.moved s.rest);
+              told = subst (TellsReason parts (splits_of (walled_split d seps s.moved s.rest) number line)) (sym whole_is) (told_in_turn parts
+                  (record { node = number; line = line; moved = walled_parts s.moved; rest = walled_parts s.rest; d = d; seps = seps }) (splits_of s.moved (number + 1) (line + 1 + length seps))
+                  (splits_of s.rest (number + 1 + length (nodes_of s.moved)) (line + 1 + length seps + sum_by node_size (nodes_of s.moved))) own first second here m.told later);
+            }),
+          )
+
+-- ---- a plan
+
+pub plan_begins : (parts : List Part) (nodes : List Node) → (fit : IsFitPlan nodes) → AreAllLeaves (length parts) nodes → BeginsTree parts nodes 0 first_line
+plan_begins parts nodes fit leaves = record {
+  tree = fit.tree;
+  more = [];
+  is = fit.is ∙ sym (append-nil (nodes_of fit.tree));
+  fit = record {
+    nodes = subst (All IsFitNode) fit.is fit.fit;
+    parts_in = λ p has. let (k, leaf) = has_leaf fit.tree p has in leaves.each k p (subst (λ l. IsLeafAt l k p) (sym fit.is) leaf);
+    few = omega (arith, fit.few, ap length fit.is);
+    lines = omega (arith, fit.lines, ap (sum_by node_size) fit.is);
   };
 }
 
-pub judged_next : (parts : List Part) (nodes behind : List Node) (k line next : ℕ) (node : Node) → slice_get nodes k ≡ Some node → behind ≡ drop (k + 1) nodes → next ≡ line + node_size node → AreJudged parts nodes k line → IsNodeAnswer parts node behind k line None → AreJudged parts nodes (k + 1) next
-judged_next parts nodes behind k line next node at e f are answer = record {
-  line_is = omega (arith, f, are.line_is, line_next nodes k node at);
-  remains = λ t g.
-      let r = are.remains t g in
-      subst (λ l. Remains parts t (drop (k + 1) nodes) (k + 1) l) (sym f)
-      (after_node parts t k line r.trees node (drop (k + 1) nodes) r.before (sym (drop_at nodes k node at) ∙ r.behind_are) (subst (λ l. IsNodeAnswer parts node l k line None) e answer) (r.splits_are, r.hold));
-}
-
-pub judged_found : (parts : List Part) (nodes behind : List Node) (k line : ℕ) (node : Node) (reason : Reason) → slice_get nodes k ≡ Some node → behind ≡ drop (k + 1) nodes → AreJudged parts nodes k line → IsNodeAnswer parts node behind k line (Some reason)
-    → (t : WalledPlan) → nodes ≡ nodes_of t → IsTreeReason parts t reason
-judged_found parts nodes behind k line node reason at e are answer t g =
-    let r = are.remains t g in
-    at_node parts t k line reason r.trees node (drop (k + 1) nodes) r.before (sym (drop_at nodes k node at) ∙ r.behind_are) (subst (λ l. IsNodeAnswer parts node l k line (Some reason)) e answer) (r.splits_are, r.hold)
-
-pub judged_all : (parts : List Part) (nodes : List Node) (k line : ℕ) → length nodes ≤ k → AreJudged parts nodes k line → (t : WalledPlan) → nodes ≡ nodes_of t → SplitsHold parts t
-judged_all parts nodes k line le are t e = let r = are.remains t e in
-    splits_hold parts t 0 first_line (go r.trees r.before (sym (drop_end nodes k le) ∙ r.behind_are) r.splits_are r.hold)
-  where
-    go : (ts : List WalledPlan) (before : List SplitEntry) → [] ≡ forest_nodes ts → splits_of t 0 first_line ≡ before ++ forest_splits ts k line
-        → All (EntryHolds parts) before → All (EntryHolds parts) (splits_of t 0 first_line)
-    go [] before f is hold = subst (All (EntryHolds parts)) (sym (is ∙ append-nil before)) hold
-    go (u ∷ ts) before f is hold = absurd (not_nil_append (nodes_of u) (forest_nodes ts) (nodes_some u) f)
-
--- ---- what is said of a split
-
-pub split_answer : (parts : List Part) (node : Node) (behind : List Node) (number line : ℕ) (d : V3) (seps given : List Sep) (moved rest : PartSet) (answer : Option Reason) → node ≡ Split d seps → given ≡ seps → AreSides parts behind moved rest
-    → MatchOption answer (SplitHolds parts moved rest d given) (IsSplitReason parts (record { node = number; line = line; moved = moved; rest = rest; d = d; seps = given })) → IsNodeAnswer parts node behind number line answer
-split_answer parts node behind number line d seps given moved rest answer is same sides said = subst (λ n. IsNodeAnswer parts n behind number line answer) (sym is) (λ m r more e.
-    let both = sides.are m r more e in
-    said_as (walled_parts m) (walled_parts r) both.0 both.1)
-  where
-    said_as : (s t : PartSet) → moved ≡ s → rest ≡ t → MatchOption answer (SplitHolds parts s t d seps) (IsSplitReason parts (record { node = number; line = line; moved = s; rest = t; d = d; seps = seps }))
-    said_as s t e f = subst (λ x. MatchOption answer (SplitHolds parts x t d seps) (IsSplitReason parts (record { node = number; line = line; moved = x; rest = t; d = d; seps = seps }))) e
-        (subst (λ x. MatchOption answer (SplitHolds parts moved x d seps) (IsSplitReason parts (record { node = number; line = line; moved = moved; rest = x; d = d; seps = seps }))) f
-        (subst (λ l. MatchOption answer (SplitHolds parts moved rest d l) (IsSplitReason parts (record { node = number; line = line; moved = moved; rest = rest; d = d; seps = l }))) same said))
+pub plan_told : (parts : List Part) (t : WalledPlan) (reason : Reason) → BreaksFirst parts (splits_of t 0 first_line) reason → IsTreeReason parts t reason
+plan_told parts t reason b = broken_at parts t b.before b.behind b.split reason b.is b.hold b.reason_is

@@ -9,7 +9,7 @@ ghost use Rattle.staat_model.specs.Lines.{IsArcInBounds};
 ghost use Rattle.staat_model.specs.Reasons.{IsSplitReason};
 ghost use Rattle.staat_model.specs.Sets.{Has};
 ghost use Rattle.staat_model.specs.Walls.{IsShown};
-ghost use Rattle.staat_check.specs.Forests.{AreFitSides, ArePartsOf, IsSepInBounds};
+ghost use Rattle.staat_check.specs.Trees.{AreFitSides, ArePartsOf, IsSepInBounds};
 ghost use Rattle.staat_check.specs.Searches.{TellsPlace};
 
 use staat_cone::separates;

@@ -4,7 +4,6 @@ use Rattle.std.proofs.Math.Seq.{take-suc}
 use Rattle.std.proofs.lemmas.List.{take_all}
 use Rattle.std.proofs.lemmas.List.Elements.{Contains-push, Contains-push_cases, Contains-append_left}
 use Rattle.staat_vec.specs.declared.vector.V3.{V3}
-use Rattle.staat_vec.proofs.Unique.{Contains-nothing}
 use Rattle.staat_cone.specs.Pairs.{Adds, FromSome}
 
 pub Adds-none : (P : V3 → Type 0) (xs : List V3) → ((x : V3) → P x → ⊥) → Adds P xs xs
@@ -23,9 +22,6 @@ Adds-then P Q R xs ys zs f g h a b = record {
   added = λ x r. ⊎_elim (λ p. b.kept x (a.added x p)) (λ q. b.added x q) (h x r);
   only = λ x c. ⊎_elim (λ d. ⊎_elim (λ e. inl e) (λ p. inr (f x p)) (a.only x d)) (λ q. inr (g x q)) (b.only x c);
 }
-
-pub Adds-start : (R : V3 → V3 → Type 0) (hs xs : List V3) → Adds (FromSome R (take 0 hs)) xs xs
-Adds-start R hs xs = Adds-none (FromSome R (take 0 hs)) xs (λ x (h, c, r). Contains-nothing h c)
 
 pub take_more : {X : Type 0} (hs : List X) (i : ℕ) (z : X) → i < length hs → take (i + 1) hs ≡ take i hs ++ get_or hs i z ∷ []
 take_more hs i z lt = grind (arith, take-suc)

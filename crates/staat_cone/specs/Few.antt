@@ -18,6 +18,10 @@ pub record IsDifferenceStep (p q : List V3) (v : V3) : Type 0 where
   pub difference : IsDifference p q v
   pub within : IsWithin DIFF v
 
+-- all differences are among the few
+abbrev pub HasDifferences : List V3 → List V3 → List V3 → Type 0
+HasDifferences p q few = (v : V3) → IsDifference p q v → Contains few v
+
 -- v is a difference that lies behind n
 pub record IsViolator (p q : List V3) (n v : V3) : Type 0 where
   pub step : IsDifferenceStep p q v

@@ -6,8 +6,7 @@ ghost use Rattle.staat_cone.specs.Pairs.{AddsEdges};
 ghost use Rattle.staat_cone.specs.Scans.{AreFurthest, IsApart, IsLeftmost};
 
 use crate::edges::add_edges;
-use crate::pairs::along;
-use crate::walls::is_wall;
+use crate::walls::{along, is_wall};
 use staat_vec::{DIFF, NORMAL, OutOfMemory, V3, cross_diff, neg};
 
 // whether x is not parallel to v

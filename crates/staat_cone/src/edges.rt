@@ -5,8 +5,7 @@ ghost use Rattle.staat_vec.specs.Primitives.{IsPrimitiveOf};
 ghost use Rattle.staat_model.specs.Cones.{IsAbove};
 ghost use Rattle.staat_cone.specs.Pairs.{Adds, AddsEdges, IsEdge};
 
-use crate::pairs::is_above;
-use crate::walls::is_wall;
+use crate::walls::{is_above, is_wall};
 use staat_vec::{DIFF, NORMAL, OutOfMemory, V3, cross_diff, neg, primitive};
 
 // adds f, if it has all the vectors on its positive side

@@ -6,22 +6,12 @@ ghost use Rattle.staat_model.specs.Facets.{IsFacet};
 ghost use Rattle.staat_model.specs.Meeting.{Overlap};
 ghost use Rattle.staat_model.specs.Pieces.{IsPiece};
 
-use crate::few::facets_by_few;
+use crate::few::{facets_by_all, facets_by_few};
 use crate::method::Method;
-use crate::pairs::facets_by_pairs;
-use crate::spread::differences;
 use crate::walls::points_of;
 use staat_model::Piece;
 use staat_vec::{NORMAL, OutOfMemory, V3};
 use std::alloc::Global;
-
-// the facets of the cone of all the differences
-fn facets_by_all(alloc: Global, p: &Piece, q: &Piece) -> Result<Vec<V3>, OutOfMemory>
-    ensures { IfOk result (λ list. Lists vector_cmp (IsFacet p.now q.now) list.items) }
-{
-    let vs = differences(alloc, p, q)?;
-    facets_by_pairs(alloc, vs.as_slice())
-}
 
 // both are pieces
 fn know(p: &Piece, q: &Piece)
@@ -39,7 +29,7 @@ fn find_facets(alloc: Global, method: Method, p: &Piece, q: &Piece) -> Result<Ve
     know(p, q);
     match facets_by_few(alloc, method, p, q)? {
         Some(list) => Ok(list),
-        None => facets_by_all(alloc, p, q),
+        None => facets_by_all(alloc, method, p, q),
     }
 }
 

@@ -9,7 +9,6 @@ mod facets;
 mod few;
 pub mod laws;
 mod method;
-mod pairs;
 mod plain;
 mod scan;
 mod search;

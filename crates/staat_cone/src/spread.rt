@@ -1,52 +1,12 @@
-// The differences of the points of two pieces.
-ghost use Rattle.std.specs.Prelude.{◌≡◌, ◌≢◌, ◌<◌, ◌≤◌, ◌↔◌, pos, length, List, All, Contains};
-ghost use Rattle.std.specs.Prelude.{OnOk, IfOk, IfSome};
-ghost use Rattle.staat_vec.specs.declared.vector.V3.{V3 as Vector};
-ghost use Rattle.staat_vec.specs.Vectors.{IsWithin, det, dot, minus};
-ghost use Rattle.staat_model.specs.Facets.{IsDifference};
-ghost use Rattle.staat_model.specs.Pieces.{IsPiece};
-ghost use Rattle.staat_cone.specs.Pairs.{Adds, FromSome};
+// Differences of the points of two pieces that span space.
+ghost use Rattle.std.specs.Prelude.{◌≢◌, ◌<◌, ◌≤◌, pos, length, All, IfSome};
+ghost use Rattle.staat_vec.specs.Vectors.{IsWithin, det, dot};
 ghost use Rattle.staat_cone.specs.Few.{IsDifferenceStep};
 
 use crate::behind::violator;
 use crate::walls::{is_wall, points_of};
 use staat_model::Piece;
-use staat_vec::{DIFF, NORMAL, OutOfMemory, POINT, V3, cross_diff, neg, sub};
-use std::alloc::Global;
-
-// adds what leads from the point a to each of the points
-fn add_from(a: V3, points: &[V3], out: &mut Vec<V3>) -> Result<(), OutOfMemory>
-    requires from { IsWithin POINT a }
-    requires to { All (IsWithin POINT) points.now }
-    ensures { OnOk result (Adds (FromSome (λ b v. v ≡ minus b a) points.now) out.old.items out.new.items) }
-{
-    for b in points {
-        out.push(sub(*b, a))?;
-    }
-    Ok(())
-}
-
-/// What leads from each of the points ps to each of the points qs.
-fn differences_between(alloc: Global, ps: &[V3], qs: &[V3]) -> Result<Vec<V3>, OutOfMemory>
-    requires from { All (IsWithin POINT) ps.now }
-    requires to { All (IsWithin POINT) qs.now }
-    ensures { IfOk result (λ vs. (v : Vector) → Contains vs.items v ↔ IsDifference ps.now qs.now v) }
-{
-    let mut list = Vec::new(alloc);
-    for a in ps {
-        add_from(*a, qs, &mut list)?;
-    }
-    Ok(list)
-}
-
-/// The differences of the points of q and those of p, in no order.
-pub fn differences(alloc: Global, p: &Piece, q: &Piece) -> Result<Vec<V3>, OutOfMemory>
-    ensures pieces { IsPiece p.now × IsPiece q.now }
-    ensures are { IfOk result (λ vs. (v : Vector) → Contains vs.items v ↔ IsDifference p.now q.now v) }
-    ensures within { IfOk result (λ vs. All (IsWithin DIFF) vs.items) }
-{
-    differences_between(alloc, points_of(p), points_of(q))
-}
+use staat_vec::{DIFF, NORMAL, POINT, V3, cross_diff, neg, sub};
 
 // a difference that lies farthest off the plane of n to one of the sides, if one lies off it
 fn off_plane(n: V3, p: &Piece, q: &Piece) -> Option<V3>

@@ -3,6 +3,7 @@ ghost use Rattle.std.specs.Prelude.{◌≡◌, ◌≢◌, ◌↔◌, ◌⊎◌, 
 ghost use Rattle.std.specs.Prelude.{pos, List, length, Contains, All, IsTrue, MatchBool};
 ghost use Rattle.staat_vec.specs.declared.vector.V3.{V3 as Vector};
 ghost use Rattle.staat_vec.specs.Vectors.{IsWithin, dot, origin};
+ghost use Rattle.staat_model.specs.Cones.{IsAbove};
 ghost use Rattle.staat_model.specs.Facets.{IsFacet};
 ghost use Rattle.staat_model.specs.Meeting.{Meets};
 ghost use Rattle.staat_model.specs.Pieces.{IsPiece};
@@ -10,13 +11,38 @@ ghost use Rattle.staat_model.specs.Walls.{IsBeyond};
 
 use crate::behind::violator;
 use staat_model::Piece;
-use staat_vec::{Course, DIRECTION, NORMAL, ORIGIN, POINT, V3, small_dot};
+use staat_vec::{Course, DIFF, DIRECTION, NORMAL, ORIGIN, POINT, V3, small_dot};
 
 /// Whether v is a wall's normal: any vector but zero.
 pub fn is_wall(v: V3) -> bool
     ensures { IsTrue result ↔ (v ≢ origin) }
 {
     v != ORIGIN
+}
+
+/// How far v lies along n.
+pub fn along(v: V3, n: V3) -> i64
+    requires vector { IsWithin DIFF v }
+    requires normal { IsWithin NORMAL n }
+    ensures { result ≡ dot v n }
+{
+    small_dot(n, v)
+}
+
+/// Whether each of the vectors lies on the positive side of n, or across n.
+///
+/// The search ends at the first that does not.
+pub fn is_above(n: V3, vs: &[V3]) -> bool
+    requires normal { IsWithin NORMAL n }
+    requires vectors { All (IsWithin DIFF) vs.now }
+    ensures { IsTrue result ↔ IsAbove n vs.now }
+{
+    for v in vs {
+        if along(*v, n) < 0 {
+            return false;
+        }
+    }
+    true
 }
 
 /// A point, and how far it lies along a normal.

@@ -1,7 +1,6 @@
 -- The splits of a plan, one side after the other.
 use Rattle.std.proofs.Common.{◌≡◌, ℕ, zero, suc, ◌+◌, ◌*◌, ◌<◌, ◌≤◌, List, [], ◌∷◌}
 use Rattle.std.proofs.Common.{map, length, get_or, All, refl, arith, inl, length-append}
-use Rattle.std.proofs.lemmas.List.{length-map}
 use Rattle.std.proofs.lemmas.List.Elements.{All-append, All-cons, All-contains, All-nil}
 use Rattle.staat_vec.specs.declared.vector.V3.{V3}
 use Rattle.staat_vec.specs.Vectors.{IsWithin}
@@ -22,8 +21,6 @@ pub refused_on : (P Q : ℕ → Type 0) (e : ExplodeRefusal) → ((k : ℕ) → 
     → IsRefused Q e
 refused_on P Q (TooFar k) f h = f k h
 refused_on P Q OutOfMemory f h = tt
-
--- ---- the first of two lists
 
 -- ---- one split
 
@@ -63,21 +60,12 @@ module _ (boxes : List Bounds) (node : ℕ) (d : V3) (moved rest : Plan) where
 
 -- ---- counts
 
-pub nodes_by_leaves : (boxes : List Bounds) (plan : Plan) → node_count plan + 1
-    ≡ 2 * length (shifted_of boxes plan)
-nodes_by_leaves boxes (leaf p) = refl
-nodes_by_leaves boxes (split d moved rest) =
-    let one = nodes_by_leaves boxes moved in
-    let two = nodes_by_leaves boxes rest in
-    let m = steps_apart boxes d (shifted_of boxes moved) (shifted_of boxes rest) in
-    omega (arith, length-append (map (moved_on m d) (shifted_of boxes moved)) (shifted_of boxes rest), length-map (shifted_of boxes moved) (moved_on m d))
-
-pub some_nodes : (plan : Plan) → 1 ≤ node_count plan
-some_nodes (leaf p) = omega arith
-some_nodes (split d moved rest) = omega arith
-
 pub some_placed : (boxes : List Bounds) (plan : Plan) → 1 ≤ length (shifted_of boxes plan)
-some_placed boxes plan = omega (arith, nodes_by_leaves boxes plan, some_nodes plan)
+some_placed boxes (leaf p) = omega arith
+some_placed boxes (split d moved rest) =
+    let m = steps_apart boxes d (shifted_of boxes moved) (shifted_of boxes rest) in
+    let both = length-append (map (moved_on m d) (shifted_of boxes moved)) (shifted_of boxes rest) in
+    omega (arith, some_placed boxes rest, both)
 
 -- ---- parts
 

@@ -5,7 +5,7 @@ use Rattle.std.proofs.Common.{map, length, get_or, take, ap, sym, refl, ◌∙�
 use Rattle.std.proofs.Common.{flat_map}
 use Rattle.std.specs.Int.{int_max, int_min}
 use Rattle.std.specs.List.{fold}
-use Rattle.std.specs.Prelude.{int_lt, All, slice_get, option_map, option_and_then, unwrap_or}
+use Rattle.std.specs.Prelude.{int_lt, unsigned_abs, All, slice_get, option_map, option_and_then, unwrap_or}
 use Rattle.std.proofs.lemmas.List.{take_more, take_all, map-append}
 use Rattle.std.proofs.lemmas.Option.{slice_get_within, get_or_from_slice_get}
 use Rattle.staat_model.proofs.Places.{some_at}
@@ -15,45 +15,66 @@ use Rattle.std.specs.Int.{w128}
 use Rattle.std.proofs.lemmas.Int.{to_z-of_z, clamps, ints}
 use Rattle.std.proofs.lemmas.Grind.{flat_map-append}
 use Rattle.std.proofs.lemmas.List.Folds.{fold-map}
-use Rattle.std.proofs.lemmas.List.Sums.{fold-append}
+use Rattle.std.proofs.lemmas.List.Sums.{fold_more, fold-append}
 use Rattle.staat_vec.specs.declared.vector.V3.{V3}
 use Rattle.staat_vec.specs.declared.vector.TheConstants.{POINT}
 use Rattle.staat_vec.specs.Vectors.{vector, IsWithin}
+use Rattle.staat_vec.proofs.Bounds.{reads}
+use Rattle.staat_explode.specs.declared.grow.TheConstants.{FARTHEST}
 use Rattle.staat_explode.specs.Sizes.{AreBounds}
 use Rattle.std.proofs.lemmas.List.Elements.{All-head, All-tail}
 use Rattle.staat_explode.specs.declared.axis.Axis.{Axis}
 use Rattle.staat_explode.specs.declared.axis.Axis.TheVariants.{X, Y, Z}
 use Rattle.staat_explode.specs.declared.boxes.Bounds.{Bounds}
+use Rattle.staat_explode.specs.declared.boxes.End.{End}
+use Rattle.staat_explode.specs.declared.boxes.End.TheVariants.{High, Low}
 use Rattle.staat_explode.specs.declared.shifted.Shifted.{Shifted}
-use Rattle.staat_explode.specs.Boxes.{around, box_of, component, covering, pieces_of_part, points_at, points_of}
-use Rattle.staat_explode.specs.Shifts.{high_along, highest, low_along, lowest}
+use Rattle.staat_explode.specs.Boxes.{around, box_of, component, covering, further, pieces_of_part, points_at}
+use Rattle.staat_explode.specs.Boxes.{points_of}
+use Rattle.staat_explode.specs.Shifts.{end_along, extreme}
 use Rattle.staat_model.proofs.PartCounts.{pieces_count}
 
 same_either : {A : Type 0} (b : Bool) (x : A) → cond b x x ≡ x
 same_either true x = refl
 same_either false x = refl
 
-abbrev pub lower : List Bounds → Axis → ℤ → Shifted → ℤ
-lower boxes axis z p = int_min z (low_along boxes axis p)
+same_further : (end : End) (z : ℤ) → further end z z ≡ z
+same_further Low z = same_either (int_lt z z) z
+same_further High z = same_either (int_lt z z) z
 
-abbrev pub higher : List Bounds → Axis → ℤ → Shifted → ℤ
-higher boxes axis z p = int_max z (high_along boxes axis p)
+abbrev pub onward : List Bounds → Axis → End → ℤ → Shifted → ℤ
+onward boxes axis end z p = further end z (end_along boxes axis end p)
 
-pub lowest_is : (boxes : List Bounds) (axis : Axis) (ps : List Shifted) (d : Shifted) → 1 ≤ length ps
-    → fold (lower boxes axis) (low_along boxes axis (get_or ps 0 d)) ps ≡ lowest boxes axis ps
-unfolding lowest
-lowest_is boxes axis [] d h = absurd (omega arith)
-lowest_is boxes axis (p ∷ ps) d h =
-    let z = low_along boxes axis p in
-    ap (λ a. fold (lower boxes axis) a ps) (same_either (int_lt z z) z) ∙ sym (fold-map int_min (low_along boxes axis) z ps)
+pub extreme_is : (boxes : List Bounds) (axis : Axis) (end : End) (ps : List Shifted) (d : Shifted) → 1 ≤ length ps
+    → fold (onward boxes axis end) (end_along boxes axis end (get_or ps 0 d)) ps ≡ extreme boxes axis end ps
+unfolding extreme
+extreme_is boxes axis end [] d h = absurd (omega arith)
+extreme_is boxes axis end (p ∷ ps) d h =
+    let z = end_along boxes axis end p in
+    ap (λ a. fold (onward boxes axis end) a ps) (same_further end z)
+    ∙ sym (fold-map (further end) (end_along boxes axis end) z ps)
 
-pub highest_is : (boxes : List Bounds) (axis : Axis) (ps : List Shifted) (d : Shifted) → 1 ≤ length ps
-    → fold (higher boxes axis) (high_along boxes axis (get_or ps 0 d)) ps ≡ highest boxes axis ps
-unfolding highest
-highest_is boxes axis [] d h = absurd (omega arith)
-highest_is boxes axis (p ∷ ps) d h =
-    let z = high_along boxes axis p in
-    ap (λ a. fold (higher boxes axis) a ps) (same_either (int_lt z z) z) ∙ sym (fold-map int_max (high_along boxes axis) z ps)
+further_small : (end : End) (n : ℕ) (x y : ℤ) → unsigned_abs x ≤ n → unsigned_abs y ≤ n
+    → unsigned_abs (further end x y) ≤ n
+further_small Low n x y h k = omega (arith, ints, clamps, h, k)
+further_small High n x y h k = omega (arith, ints, clamps, h, k)
+
+-- one more box, as the machine's type holds the numbers
+pub extreme_more : (boxes : List Bounds) (axis : Axis) (end : End) (ps : List Shifted) (k : ℕ) (z d : Shifted)
+    (x y r : ℤ) → k < length ps → unsigned_abs x ≤ POINT + FARTHEST → unsigned_abs y ≤ POINT + FARTHEST
+    → x ≡ fold (onward boxes axis end) (end_along boxes axis end z) (take k ps) → y ≡ end_along boxes axis end (get_or ps k d)
+    → r ≡ further end x (to_z w128 (of_z w128 y))
+    → (to_z w128 (of_z w128 r) ≡ fold (onward boxes axis end) (end_along boxes axis end z) (take (k + 1) ps))
+    × (unsigned_abs (to_z w128 (of_z w128 r)) ≤ POINT + FARTHEST)
+extreme_more boxes axis end ps k z d x y r lt x_small y_small x_is y_is e =
+    let is : r ≡ further end x y = e ∙ ap (further end x) (reads y (omega (arith, y_small))) in
+    let small : unsigned_abs r ≤ POINT + FARTHEST = subst (λ q. unsigned_abs q ≤ POINT + FARTHEST) (sym is)
+    (further_small end (POINT + FARTHEST) x y x_small y_small) in
+    let held : to_z w128 (of_z w128 r) ≡ r = reads r (omega (arith, small)) in (
+      held ∙ is ∙ (λ i. further end (x_is i) (y_is i))
+          ∙ sym (fold_more (onward boxes axis end) (end_along boxes axis end z) ps k d lt),
+      subst (λ q. unsigned_abs q ≤ POINT + FARTHEST) (sym held) small,
+    )
 
 -- the box that covers a box and points, by its numbers
 covered : (b : Bounds) (ps : List V3) → fold covering b ps ≡ record {
@@ -70,8 +91,8 @@ box_is (p ∷ ps) d h = ap (λ b. fold covering b ps) once ∙ covered (around p
   where
     once : covering (around p) p ≡ around p
     once = λ i. record {
-      low = vector (same_either (int_lt p.x p.x) p.x i) (same_either (int_lt p.y p.y) p.y i) (same_either (int_lt p.z p.z) p.z i);
-      high = vector (same_either (int_lt p.x p.x) p.x i) (same_either (int_lt p.y p.y) p.y i) (same_either (int_lt p.z p.z) p.z i);
+      low = vector (same_further Low p.x i) (same_further Low p.y i) (same_further Low p.z i);
+      high = vector (same_further High p.x i) (same_further High p.y i) (same_further High p.z i);
     }
 
 -- what the machine's type holds of a function of two numbers

@@ -53,6 +53,17 @@ passed_gets r next t u v y first second = then_gets r (λ x. next) t u v tt y fi
 returned : {A : Type 0} (x : A) (t : List ℕ) → Gets (return x) t x t
 returned x t at = (at, refl)
 
+-- many values, from texts of which each holds one value more
+many_gets : {A : Type 0} (r : Reader A) (text : List A → List ℕ) (P : A → Type 0)
+    → ((x : A) (xs : List A) → P x → Gets r (text (x ∷ xs)) x (text xs)) → (xs : List A) → All P xs
+    → Gets (many (length xs) r) (text xs) xs (text [])
+unfolding many
+many_gets r text P each [] all = returned [] (text [])
+many_gets r text P each (x ∷ xs) all =
+    then_gets r _ (text (x ∷ xs)) (text xs) (text []) x (x ∷ xs) (each x xs (All-head P x xs all))
+    (then_gets (many (length xs) r) _ (text xs) (text []) (text []) xs (x ∷ xs)
+    (many_gets r text P each xs (All-tail P x xs all)) (returned (x ∷ xs) (text [])))
+
 -- what follows a word
 abbrev IsParted : List ℕ → Type 0
 IsParted s = prefix_len is_plain s ≡ 0
@@ -164,7 +175,7 @@ point_gets p t small =
     let bytes : 10 ∷ (signed_decimal p.x
     ++ (32 ∷ (signed_decimal p.y ++ (32 ∷ (signed_decimal p.z ++ (10 ∷ t))))))
     ≡ 10 ∷ (point_line p ++ t) = simp append_assoc in
-    subst (λ l. Gets (coordinate 0 >>= (λ x. coordinate 0 >>= (λ y. coordinate 0 >>= (λ z. return (record { x = x; y = y; z = z }))))) l p (10 ∷ t)) bytes
+    subst (λ l. Gets (point 0) l p (10 ∷ t)) bytes
     (then_gets (coordinate 0) _ _ (32 ∷ first) (10 ∷ t) p.x p
     (coordinate_gets (10 ∷ []) p.x (32 ∷ first) feed small.x refl)
     (then_gets (coordinate 0) _ _ (32 ∷ second) (10 ∷ t) p.y p
@@ -175,35 +186,20 @@ point_gets p t small =
 
 points_get : (ps : List V3) (t : List ℕ) → All (IsWithin POINT) ps
     → Gets (many (length ps) (point 0)) (10 ∷ (flat_map point_line ps ++ t)) ps (10 ∷ t)
-unfolding many
-points_get [] t small = returned [] (10 ∷ t)
-points_get (p ∷ ps) t small =
-    let bytes : 10 ∷ (point_line p ++ (flat_map point_line ps ++ t))
-    ≡ 10 ∷ (flat_map point_line (p ∷ ps) ++ t) =
-    ap (λ (l : List ℕ). 10 ∷ l) (sym (append_assoc (point_line p) (flat_map point_line ps) t)) in
-    subst (λ l. Gets (point 0 >>= (λ x. many (length ps) (point 0) >>= (λ xs. return (x ∷ xs)))) l (p ∷ ps) (10 ∷ t)) bytes
-    (then_gets (point 0) _ _ (10 ∷ (flat_map point_line ps ++ t)) (10 ∷ t) p (p ∷ ps)
-    (point_gets p (flat_map point_line ps ++ t) (All-head (IsWithin POINT) p ps small))
-    (then_gets (many (length ps) (point 0)) _ _ (10 ∷ t) (10 ∷ t) ps (p ∷ ps)
-    (points_get ps t (All-tail (IsWithin POINT) p ps small))
-    (returned (p ∷ ps) (10 ∷ t))))
+points_get ps t small = many_gets (point 0) (λ ps. 10 ∷ (flat_map point_line ps ++ t)) (IsWithin POINT)
+    (λ p ps within. subst (λ l. Gets (point 0) (10 ∷ l) p (10 ∷ (flat_map point_line ps ++ t)))
+    (sym (append_assoc (point_line p) (flat_map point_line ps) t))
+    (point_gets p (flat_map point_line ps ++ t) within)) ps small
 
 -- ---- faces
 
 indices_get : (vertices : ℕ) (ks : List ℕ) (t : List ℕ) → vertices ≤ MOST_COUNT
     → All (λ k. k < vertices) ks
     → Gets (many (length ks) (index vertices)) (spaced (map pos ks) ++ t) ks (10 ∷ t)
-unfolding many
-indices_get vertices [] t small all = returned [] (10 ∷ t)
-indices_get vertices (k ∷ ks) t small all =
-    let bytes : 32 ∷ (decimal k ++ (spaced (map pos ks) ++ t)) ≡ spaced (map pos (k ∷ ks)) ++ t =
-    ap (λ (l : List ℕ). 32 ∷ l) (sym (append_assoc (decimal k) (spaced (map pos ks)) t)) in
-    subst (λ l. Gets (index vertices >>= (λ x. many (length ks) (index vertices) >>= (λ xs. return (x ∷ xs)))) l (k ∷ ks) (10 ∷ t)) bytes
-    (then_gets (index vertices) _ _ (spaced (map pos ks) ++ t) (10 ∷ t) k (k ∷ ks)
-    (index_gets vertices (32 ∷ []) k (spaced (map pos ks) ++ t) space (All-head (λ j. j < vertices) k ks all) small (parted_spaced (map pos ks) t))
-    (then_gets (many (length ks) (index vertices)) _ _ (10 ∷ t) (10 ∷ t) ks (k ∷ ks)
-    (indices_get vertices ks t small (All-tail (λ j. j < vertices) k ks all))
-    (returned (k ∷ ks) (10 ∷ t))))
+indices_get vertices ks t small all = many_gets (index vertices) (λ ks. spaced (map pos ks) ++ t) (λ k. k < vertices)
+    (λ k ks lt. subst (λ l. Gets (index vertices) (32 ∷ l) k (spaced (map pos ks) ++ t))
+    (sym (append_assoc (decimal k) (spaced (map pos ks)) t))
+    (index_gets vertices (32 ∷ []) k (spaced (map pos ks) ++ t) space lt small (parted_spaced (map pos ks) t))) ks all
 
 line_gets : (t : List ℕ) → Gets line_passed (10 ∷ t) tt t
 unfolding after_line line_len
@@ -221,7 +217,7 @@ unfolding face
 face_gets vertices g ks t passed small h =
     let bytes : decimal (length ks) ++ (spaced (map pos ks) ++ t) ≡ face_line ks ++ t =
     sym (append_assoc (decimal (length ks)) (spaced (map pos ks)) t) in
-    subst (λ l. Gets (corner_count >>= (λ corners. many corners (index vertices) >>= (λ indices. line_passed >>= (λ passed. return indices)))) (g ++ l) ks t) bytes
+    subst (λ l. Gets (face vertices) (g ++ l) ks t) bytes
     (then_gets corner_count _ _ (spaced (map pos ks) ++ t) t (length ks) ks
     (corner_count_gets g (length ks) (spaced (map pos ks) ++ t) passed h.some h.few (parted_spaced (map pos ks) t))
     (then_gets (many (length ks) (index vertices)) _ _ (10 ∷ t) t ks ks
@@ -275,7 +271,7 @@ file_gets raw indexed counted corners =
     let lists = faces_get v (10 ∷ []) raw.faces feed counted.points (faces_are raw indexed counted corners) in
     let bytes : codes "OFF\n" ++ (decimal v ++ (32 ∷ others)) ≡ codes "OFF\n"
     ++ (numbers_line (pos v) (pos f ∷ pos 0 ∷ []) ++ points) = simp append_assoc in
-    subst (λ l. Gets (header >>= (λ first. count >>= (λ vertices. count >>= (λ faces. count >>= (λ edges. many vertices (point 0) >>= (λ points. many faces (face vertices) >>= (λ lists. end >>= (λ last. return (record { points = points; faces = lists }))))))))) l raw []) bytes
+    subst (λ l. Gets (file 0) l raw []) bytes
     (passed_gets header _ _ (10 ∷ (decimal v ++ (32 ∷ others))) [] raw (header_gets (decimal v ++ (32 ∷ others)))
     (then_gets count _ _ (32 ∷ others) [] v raw (count_gets (10 ∷ []) v (32 ∷ others) feed counted.points refl)
     (then_gets count _ _ (32 ∷ edges) [] f raw (count_gets (32 ∷ []) f (32 ∷ edges) space counted.faces refl)

@@ -1,6 +1,6 @@
 -- The boxes of the parts of a plan stand apart.
 use Rattle.std.proofs.Common.{◌≡◌, ◌≢◌, ℕ, ◌≤◌, List, [], ◌∷◌, map, length}
-use Rattle.std.proofs.Common.{Contains, ap, sym, subst, refl, ◌∙◌, arith, ◌⊎◌, inl, inr, ◌+ℤ◌}
+use Rattle.std.proofs.Common.{All, Contains, ap, sym, subst, refl, ◌∙◌, arith, ◌⊎◌, inl, inr, ◌+ℤ◌}
 use Rattle.std.proofs.Common.{◌*ℤ◌, ◌<ℤ◌, ◌≤ℤ◌, pos, ℤ}
 use Rattle.std.specs.Int.{int_max, int_min}
 use Rattle.std.specs.List.{fold}
@@ -13,10 +13,12 @@ use Rattle.staat_model.specs.Plans.{Plan, leaf, split}
 use Rattle.staat_explode.specs.declared.axis.Axis.{Axis}
 use Rattle.staat_explode.specs.declared.axis.Axis.TheVariants.{X, Y, Z}
 use Rattle.staat_explode.specs.declared.boxes.Bounds.{Bounds}
+use Rattle.staat_explode.specs.declared.boxes.End.{End}
+use Rattle.staat_explode.specs.declared.boxes.End.TheVariants.{High, Low}
 use Rattle.staat_explode.specs.declared.shifted.Shifted.{Shifted}
 use Rattle.staat_explode.specs.Apart.{AreParted, moved_box}
-use Rattle.staat_explode.specs.Boxes.{IsBoxOf, box_of, by_component, component, greatest, least}
-use Rattle.staat_explode.specs.Shifts.{ArePast, axis_of, box_at, high_along, highest, low_along, lowest, moved_on}
+use Rattle.staat_explode.specs.Boxes.{IsBoxOf, box_of, by_component, component, further, furthest}
+use Rattle.staat_explode.specs.Shifts.{ArePast, end_along, axis_of, box_at, extreme, moved_on}
 use Rattle.staat_explode.specs.Shifts.{shifted_of, steps_apart}
 use Rattle.staat_explode.specs.Sizes.{IsShiftable}
 use Rattle.staat_explode.proofs.Stepping.{past}
@@ -25,34 +27,34 @@ use Rattle.staat_vec.proofs.ListLaws.{Contains-map, Contains-from_map, Contains-
 
 -- ---- the least and the greatest
 
-least_le : (zs : List ℤ) (z : ℤ) → Contains zs z → least zs ≤ℤ z
-least_le [] z h = absurd (Contains-nothing z h)
-least_le (y ∷ zs) z h = let bound =
-    fold-int_min_bounds y zs (fold int_min y zs) refl in All-contains (λ x. fold int_min y zs ≤ℤ x) (y ∷ zs) z (All-cons (λ x. fold int_min y zs ≤ℤ x) y zs bound.0 bound.1) h
+-- the first number lies at least as far to the end as the second
+abbrev IsAsFar : End → ℤ → ℤ → Type 0
+IsAsFar Low y z = y ≤ℤ z
+IsAsFar High y z = z ≤ℤ y
 
-le_greatest : (zs : List ℤ) (z : ℤ) → Contains zs z → z ≤ℤ greatest zs
-le_greatest [] z h = absurd (Contains-nothing z h)
-le_greatest (y ∷ zs) z h = let bound =
-    fold-int_max_bounds y zs (fold int_max y zs) refl in All-contains (λ x. x ≤ℤ fold int_max y zs) (y ∷ zs) z (All-cons (λ x. x ≤ℤ fold int_max y zs) y zs bound.0 bound.1) h
+bounds : (end : End) (z : ℤ) (zs : List ℤ) → All (IsAsFar end (fold (further end) z zs)) (z ∷ zs)
+bounds Low z zs = let h = fold-int_min_bounds z zs (fold int_min z zs) refl in
+    All-cons (λ x. fold int_min z zs ≤ℤ x) z zs h.0 h.1
+bounds High z zs = let h = fold-int_max_bounds z zs (fold int_max z zs) refl in
+    All-cons (λ x. x ≤ℤ fold int_max z zs) z zs h.0 h.1
 
-lowest_le : (boxes : List Bounds) (axis : Axis) (ps : List Shifted) (p : Shifted) → Contains ps p
-    → lowest boxes axis ps ≤ℤ low_along boxes axis p
-unfolding lowest
-lowest_le boxes axis ps p h =
-    least_le (map (low_along boxes axis) ps) (low_along boxes axis p) (Contains-map (low_along boxes axis) ps p h)
+furthest_bounds : (end : End) (zs : List ℤ) (z : ℤ) → Contains zs z → IsAsFar end (furthest end zs) z
+furthest_bounds end [] z h = absurd (Contains-nothing z h)
+furthest_bounds end (y ∷ zs) z h =
+    All-contains (IsAsFar end (fold (further end) y zs)) (y ∷ zs) z (bounds end y zs) h
 
-le_highest : (boxes : List Bounds) (axis : Axis) (ps : List Shifted) (p : Shifted) → Contains ps p
-    → high_along boxes axis p ≤ℤ highest boxes axis ps
-unfolding highest
-le_highest boxes axis ps p h =
-    le_greatest (map (high_along boxes axis) ps) (high_along boxes axis p) (Contains-map (high_along boxes axis) ps p h)
+extreme_bounds : (boxes : List Bounds) (axis : Axis) (end : End) (ps : List Shifted) (p : Shifted) → Contains ps p
+    → IsAsFar end (extreme boxes axis end ps) (end_along boxes axis end p)
+unfolding extreme
+extreme_bounds boxes axis end ps p h = furthest_bounds end (map (end_along boxes axis end) ps) (end_along boxes axis end p)
+    (Contains-map (end_along boxes axis end) ps p h)
 
 -- ---- two parts
 
 abbrev Parted : List Bounds → Shifted → Shifted → Type 0
 Parted boxes x y = (axis : Axis)
-    × ((high_along boxes axis x <ℤ low_along boxes axis y)
-    ⊎ (high_along boxes axis y <ℤ low_along boxes axis x))
+    × ((end_along boxes axis High x <ℤ end_along boxes axis Low y)
+    ⊎ (end_along boxes axis High y <ℤ end_along boxes axis Low x))
 
 turned : (boxes : List Bounds) (x y : Shifted) → Parted boxes x y → Parted boxes y x
 turned boxes x y (axis, inl h) = (axis, inr h)
@@ -64,35 +66,32 @@ component-moved X v d m = refl
 component-moved Y v d m = refl
 component-moved Z v d m = refl
 
-low-moved : (boxes : List Bounds) (axis : Axis) (m : ℕ) (d : V3) (p : Shifted)
-    → low_along boxes axis (moved_on m d p) ≡ low_along boxes axis p +ℤ (pos m *ℤ component axis d)
-low-moved boxes axis m d p =
+along-moved : (boxes : List Bounds) (axis : Axis) (end : End) (m : ℕ) (d : V3) (p : Shifted)
+    → end_along boxes axis end (moved_on m d p) ≡ end_along boxes axis end p +ℤ (pos m *ℤ component axis d)
+along-moved boxes axis Low m d p =
     ap (λ z. component axis (box_at boxes p.part).low +ℤ z) (component-moved axis p.by d m) ∙ omega (arith, ints)
-
-high-moved : (boxes : List Bounds) (axis : Axis) (m : ℕ) (d : V3) (p : Shifted)
-    → high_along boxes axis (moved_on m d p) ≡ high_along boxes axis p +ℤ (pos m *ℤ component axis d)
-high-moved boxes axis m d p =
+along-moved boxes axis High m d p =
     ap (λ z. component axis (box_at boxes p.part).high +ℤ z) (component-moved axis p.by d m) ∙ omega (arith, ints)
 
 -- two parts that move alike stay parted
 both_moved : (boxes : List Bounds) (m : ℕ) (d : V3) (x y : Shifted) → Parted boxes x y
     → Parted boxes (moved_on m d x) (moved_on m d y)
 both_moved boxes m d x y (axis, inl h) =
-    (axis, inl (rw (high-moved boxes axis m d x, low-moved boxes axis m d y) (omega (arith, ints))))
+    (axis, inl (rw (along-moved boxes axis High m d x, along-moved boxes axis Low m d y) (omega (arith, ints))))
 both_moved boxes m d x y (axis, inr h) =
-    (axis, inr (rw (high-moved boxes axis m d y, low-moved boxes axis m d x) (omega (arith, ints))))
+    (axis, inr (rw (along-moved boxes axis High m d y, along-moved boxes axis Low m d x) (omega (arith, ints))))
 
 -- a moved part is past a resting one
 across : (boxes : List Bounds) (d : V3) (ms rs : List Shifted) (m : ℕ) (x y : Shifted) → ArePast boxes d ms rs m
     → Contains ms x → Contains rs y → Parted boxes (moved_on m d x) y
 across boxes d ms rs m x y (inl (up, h)) hx hy =
-    let low = lowest_le boxes (axis_of d) ms x hx in
-    let high = le_highest boxes (axis_of d) rs y hy in
-    (axis_of d, inr (rw (low-moved boxes (axis_of d) m d x) (omega (arith, ints, h))))
+    let low = extreme_bounds boxes (axis_of d) Low ms x hx in
+    let high = extreme_bounds boxes (axis_of d) High rs y hy in
+    (axis_of d, inr (rw (along-moved boxes (axis_of d) Low m d x) (omega (arith, ints, h))))
 across boxes d ms rs m x y (inr (down, h)) hx hy =
-    let high = le_highest boxes (axis_of d) ms x hx in
-    let low = lowest_le boxes (axis_of d) rs y hy in
-    (axis_of d, inl (rw (high-moved boxes (axis_of d) m d x) (omega (arith, ints, h))))
+    let high = extreme_bounds boxes (axis_of d) High ms x hx in
+    let low = extreme_bounds boxes (axis_of d) Low rs y hy in
+    (axis_of d, inl (rw (along-moved boxes (axis_of d) High m d x) (omega (arith, ints, h))))
 
 pub all_apart : (boxes : List Bounds) (n : ℕ) (plan : Plan) → IsShiftable n plan → (x y : Shifted)
     → Contains (shifted_of boxes plan) x → Contains (shifted_of boxes plan) y → x.part ≢ y.part
@@ -132,13 +131,15 @@ parted_boxes boxes x y (Z, h) = (Z, h)
 
 -- ---- the box of points
 
-least_there : (z : ℤ) (zs : List ℤ) → Contains (z ∷ zs) (fold int_min z zs)
-least_there z zs =
-    elim (fold-int_min_reached z zs (fold int_min z zs) refl) [ inl e ↦ subst (λ x. Contains (z ∷ zs) x) (sym e) (Contains-front z zs) | inr h ↦ Contains-there z (fold int_min z zs) zs h ]
-
-greatest_there : (z : ℤ) (zs : List ℤ) → Contains (z ∷ zs) (fold int_max z zs)
-greatest_there z zs =
-    elim (fold-int_max_reached z zs (fold int_max z zs) refl) [ inl e ↦ subst (λ x. Contains (z ∷ zs) x) (sym e) (Contains-front z zs) | inr h ↦ Contains-there z (fold int_max z zs) zs h ]
+furthest_there : (end : End) (z : ℤ) (zs : List ℤ) → Contains (z ∷ zs) (fold (further end) z zs)
+furthest_there end z zs = elim (reached end) [
+  | inl e ↦ subst (Contains (z ∷ zs)) (sym e) (Contains-front z zs)
+  | inr h ↦ Contains-there z (fold (further end) z zs) zs h
+]
+  where
+    reached : (end : End) → (fold (further end) z zs ≡ z) ⊎ Contains zs (fold (further end) z zs)
+    reached Low = fold-int_min_reached z zs (fold int_min z zs) refl
+    reached High = fold-int_max_reached z zs (fold int_max z zs) refl
 
 component_by : (f : Axis → ℤ) (axis : Axis) → component axis (by_component f) ≡ f axis
 component_by f X = refl
@@ -149,8 +150,8 @@ pub box_least : (points : List V3) → 1 ≤ length points → IsBoxOf points (b
 unfolding box_of
 box_least [] h = absurd (omega arith)
 box_least (v ∷ vs) h = record {
-  low = λ axis p k. subst (λ z. z ≤ℤ component axis p) (sym (component_by (λ a. least (map (component a) (v ∷ vs))) axis)) (least_le (map (component axis) (v ∷ vs)) (component axis p) (Contains-map (component axis) (v ∷ vs) p k));
-  high = λ axis p k. subst (λ z. component axis p ≤ℤ z) (sym (component_by (λ a. greatest (map (component a) (v ∷ vs))) axis)) (le_greatest (map (component axis) (v ∷ vs)) (component axis p) (Contains-map (component axis) (v ∷ vs) p k));
-  lowest = λ axis. subst (λ z. Contains (map (component axis) (v ∷ vs)) z) (sym (component_by (λ a. least (map (component a) (v ∷ vs))) axis)) (least_there (component axis v) (map (component axis) vs));
-  highest = λ axis. subst (λ z. Contains (map (component axis) (v ∷ vs)) z) (sym (component_by (λ a. greatest (map (component a) (v ∷ vs))) axis)) (greatest_there (component axis v) (map (component axis) vs));
+  low = λ axis p k. subst (λ z. z ≤ℤ component axis p) (sym (component_by (λ a. furthest Low (map (component a) (v ∷ vs))) axis)) (furthest_bounds Low (map (component axis) (v ∷ vs)) (component axis p) (Contains-map (component axis) (v ∷ vs) p k));
+  high = λ axis p k. subst (λ z. component axis p ≤ℤ z) (sym (component_by (λ a. furthest High (map (component a) (v ∷ vs))) axis)) (furthest_bounds High (map (component axis) (v ∷ vs)) (component axis p) (Contains-map (component axis) (v ∷ vs) p k));
+  lowest = λ axis. subst (λ z. Contains (map (component axis) (v ∷ vs)) z) (sym (component_by (λ a. furthest Low (map (component a) (v ∷ vs))) axis)) (furthest_there Low (component axis v) (map (component axis) vs));
+  highest = λ axis. subst (λ z. Contains (map (component axis) (v ∷ vs)) z) (sym (component_by (λ a. furthest High (map (component a) (v ∷ vs))) axis)) (furthest_there High (component axis v) (map (component axis) vs));
 }

@@ -102,3 +102,5 @@ module _ (boxes : List Bounds) (d : V3) (moved rest : List Shifted) (some : d â‰
       go false e far (inr a) =
           let down = a.0 in
           fewest _ size k far (past_down (highest boxes axis moved) (lowest boxes axis rest) step k (omega (arith, ints)) a.1)
+
+pub ruleset stepping = (past, least_past)

@@ -9,6 +9,8 @@ use Rattle.staat_model.specs.declared.assembly.Part.{Part}
 use Rattle.staat_explode.specs.declared.axis.Axis.{Axis}
 use Rattle.staat_explode.specs.declared.axis.Axis.TheVariants.{X, Y, Z}
 use Rattle.staat_explode.specs.declared.boxes.Bounds.{Bounds}
+use Rattle.staat_explode.specs.declared.boxes.End.{End}
+use Rattle.staat_explode.specs.declared.boxes.End.TheVariants.{High, Low}
 
 -- a component of a vector
 abbrev pub component : Axis → V3 → ℤ
@@ -20,15 +22,15 @@ component Z v = v.z
 abbrev pub points_of : Part → List V3
 points_of part = flat_map (λ piece. piece) part.pieces
 
--- the least number of a list, where it is not empty
-abbrev pub least : List ℤ → ℤ
-least [] = pos 0
-least (z ∷ zs) = fold int_min z zs
+-- of two numbers the one that lies further to the end
+abbrev pub further : End → ℤ → ℤ → ℤ
+further Low = int_min
+further High = int_max
 
--- the greatest
-abbrev pub greatest : List ℤ → ℤ
-greatest [] = pos 0
-greatest (z ∷ zs) = fold int_max z zs
+-- of a list of numbers the one that lies furthest to the end, where the list is not empty
+abbrev pub furthest : End → List ℤ → ℤ
+furthest end [] = pos 0
+furthest end (z ∷ zs) = fold (further end) z zs
 
 -- the vector of the numbers that f gives for the components
 abbrev pub by_component : (Axis → ℤ) → V3
@@ -37,8 +39,8 @@ by_component f = vector (f X) (f Y) (f Z)
 -- the box of points has as its least and greatest number in each component those of all the points
 unfoldable pub box_of : List V3 → Bounds
 box_of points = record {
-  low = by_component (λ axis. least (map (component axis) points));
-  high = by_component (λ axis. greatest (map (component axis) points));
+  low = by_component (λ axis. furthest Low (map (component axis) points));
+  high = by_component (λ axis. furthest High (map (component axis) points));
 }
 
 -- the boxes of the parts
@@ -49,16 +51,13 @@ boxes_of parts = map (λ part. box_of (points_of part)) parts
 abbrev pub around : V3 → Bounds
 around p = record { low = p; high = p }
 
--- the corners with the lesser and the greater number in each component
-abbrev pub low_corner : V3 → V3 → V3
-low_corner a b = vector (int_min a.x b.x) (int_min a.y b.y) (int_min a.z b.z)
-
-abbrev pub high_corner : V3 → V3 → V3
-high_corner a b = vector (int_max a.x b.x) (int_max a.y b.y) (int_max a.z b.z)
+-- the corner with the number that lies further to the end in each component
+abbrev pub corner : End → V3 → V3 → V3
+corner end a b = vector (further end a.x b.x) (further end a.y b.y) (further end a.z b.z)
 
 -- the box that covers a box and a point
 abbrev pub covering : Bounds → V3 → Bounds
-covering b p = record { low = low_corner b.low p; high = high_corner b.high p }
+covering b p = record { low = corner Low b.low p; high = corner High b.high p }
 
 -- the pieces of part a, and none where there is no such part
 abbrev pub pieces_of_part : List Part → ℕ → List (List V3)

@@ -11,8 +11,10 @@ use Rattle.staat_model.specs.Plans.{Plan, leaf, split}
 use Rattle.staat_explode.specs.declared.axis.Axis.{Axis}
 use Rattle.staat_explode.specs.declared.axis.Axis.TheVariants.{X, Y, Z}
 use Rattle.staat_explode.specs.declared.boxes.Bounds.{Bounds}
+use Rattle.staat_explode.specs.declared.boxes.End.{End}
+use Rattle.staat_explode.specs.declared.boxes.End.TheVariants.{High, Low}
 use Rattle.staat_explode.specs.declared.shifted.Shifted.{Shifted}
-use Rattle.staat_explode.specs.Boxes.{boxes_of, component, greatest, least}
+use Rattle.staat_explode.specs.Boxes.{boxes_of, component, furthest}
 
 -- the axis, or the next where the number is 0
 abbrev pub axis_or_next : ℤ → Axis → Axis → Axis
@@ -27,19 +29,20 @@ axis_of d = axis_or_next d.x X (axis_or_next d.y Y Z)
 abbrev pub box_at : List Bounds → ℕ → Bounds
 box_at boxes part = unwrap_or (slice_get boxes part) (record { low = origin; high = origin })
 
--- the least and the greatest number in a component of a part's box, moved by the part's vector
-abbrev pub low_along : List Bounds → Axis → Shifted → ℤ
-low_along boxes axis p = component axis (box_at boxes p.part).low +ℤ component axis p.by
+-- the number in a component of a part's box at the end, moved by the part's vector
+abbrev pub end_along : List Bounds → Axis → End → Shifted → ℤ
+end_along boxes axis Low p = component axis (box_at boxes p.part).low +ℤ component axis p.by
+end_along boxes axis High p = component axis (box_at boxes p.part).high +ℤ component axis p.by
 
-abbrev pub high_along : List Bounds → Axis → Shifted → ℤ
-high_along boxes axis p = component axis (box_at boxes p.part).high +ℤ component axis p.by
+-- of all these boxes the number in a component that lies furthest to the end: the lowest or the highest
+unfoldable pub extreme : List Bounds → Axis → End → List Shifted → ℤ
+extreme boxes axis end ps = furthest end (map (end_along boxes axis end) ps)
 
--- the least and the greatest number in a component of all these boxes
-unfoldable pub lowest : List Bounds → Axis → List Shifted → ℤ
-lowest boxes axis ps = least (map (low_along boxes axis) ps)
+abbrev pub lowest : List Bounds → Axis → List Shifted → ℤ
+lowest boxes axis = extreme boxes axis Low
 
-unfoldable pub highest : List Bounds → Axis → List Shifted → ℤ
-highest boxes axis ps = greatest (map (high_along boxes axis) ps)
+abbrev pub highest : List Bounds → Axis → List Shifted → ℤ
+highest boxes axis = extreme boxes axis High
 
 -- how far the moved parts have to go in a component until they are past the resting ones: up where the direction goes
 -- up, and else down

@@ -1,9 +1,8 @@
 // The boxes round parts.
 ghost use Rattle.std.specs.Prelude.{◌≡◌, ◌<◌, ◌≤◌, All, IfOk, length};
-ghost use Rattle.std.specs.Int.{int_max, int_min};
 ghost use Rattle.std.specs.List.{fold};
 ghost use Rattle.staat_vec.specs.Vectors.{IsWithin};
-ghost use Rattle.staat_explode.specs.Boxes.{around, box_of, boxes_of, covering, high_corner, low_corner, points_at};
+ghost use Rattle.staat_explode.specs.Boxes.{around, box_of, boxes_of, corner, covering, further, points_at};
 ghost use Rattle.staat_explode.specs.Sizes.{AreBounds};
 
 use staat_model::Assembly;
@@ -24,37 +23,31 @@ fn around(p: V3) -> Bounds
     Bounds { low: p, high: p }
 }
 
-pub(crate) fn lesser(a: i128, b: i128) -> i128
-    ensures { result ≡ int_min a b }
-{
-    a.min(b)
+/// An end of a box: the least numbers of its points, or the greatest.
+#[derive(Clone, Copy)]
+pub enum End {
+    Low,
+    High,
 }
 
-pub(crate) fn greater(a: i128, b: i128) -> i128
-    ensures { result ≡ int_max a b }
+// The number that lies further to the end.
+pub(crate) fn further(end: End, a: i128, b: i128) -> i128
+    ensures { result ≡ further end a b }
 {
-    a.max(b)
-}
-
-// The corner with the lesser number in each component.
-fn low_corner(a: V3, b: V3) -> V3
-    ensures { result ≡ low_corner a b }
-{
-    V3 {
-        x: lesser(a.x, b.x),
-        y: lesser(a.y, b.y),
-        z: lesser(a.z, b.z),
+    match end {
+        End::Low => a.min(b),
+        End::High => a.max(b),
     }
 }
 
-// The corner with the greater number in each component.
-fn high_corner(a: V3, b: V3) -> V3
-    ensures { result ≡ high_corner a b }
+// The corner with the number that lies further to the end in each component.
+fn corner(end: End, a: V3, b: V3) -> V3
+    ensures { result ≡ corner end a b }
 {
     V3 {
-        x: greater(a.x, b.x),
-        y: greater(a.y, b.y),
-        z: greater(a.z, b.z),
+        x: further(end, a.x, b.x),
+        y: further(end, a.y, b.y),
+        z: further(end, a.z, b.z),
     }
 }
 
@@ -63,8 +56,8 @@ fn covering(b: Bounds, p: V3) -> Bounds
     ensures { result ≡ covering b p }
 {
     Bounds {
-        low: low_corner(b.low, p),
-        high: high_corner(b.high, p),
+        low: corner(End::Low, b.low, p),
+        high: corner(End::High, b.high, p),
     }
 }
 

@@ -9,7 +9,7 @@ ghost use Rattle.staat_explode.specs.Apart.{StandApart};
 ghost use Rattle.staat_explode.specs.Boxes.{boxes_of};
 ghost use Rattle.staat_explode.specs.Shifts.{moved_on, parted, shifted_of, vector_of_part};
 ghost use Rattle.staat_explode.specs.Sizes.{HasDirections, AreBounds, IsShiftable, IsShifted};
-ghost use Rattle.staat_explode.specs.Splits.{AllNear, AreSums, Explodes, HasFar, IsRefused, IsTooFarAt, leaf_count};
+ghost use Rattle.staat_explode.specs.Splits.{AllNear, AreSums, Explodes, HasFar, IsRefused, IsTooFarAt};
 ghost use Rattle.staat_explode.specs.Splits.{node_count};
 
 use crate::boxes::{Bounds, boxes_of};
@@ -149,6 +149,7 @@ fn placed_of(
 }
 
 // The vector of each part, in the order of the parts.
+#[tactic(auto, using(crate::proofs::Looking::shifts_more))]
 pub(crate) fn shifts_of(
     alloc: Global,
     parts: u32,

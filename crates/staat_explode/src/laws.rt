@@ -15,11 +15,13 @@ ghost use Rattle.staat_explode.specs.Scenes.{off_text, points_of_scene, scene_of
 ghost use Rattle.staat_explode.specs.Shifts.{ArePast, steps_apart};
 
 /// A box has as its least and greatest number in each component those of its points.
+#[tactic(auto, using(crate::proofs::Standing::box_least))]
 pub fn box_is_least()
     ensures { (points : List Vector) → 1 ≤ length points → IsBoxOf points (box_of points) }
 {}
 
 /// The moved parts go on by the least multiple of the direction that takes them past the resting ones.
+#[tactic(auto, using(crate::proofs::Stepping::stepping))]
 pub fn steps_are_least()
     ensures past { (boxes : List Box) (d : Vector) (moved rest : List ShiftedPart) → d ≢ origin
         → ArePast boxes d moved rest (steps_apart boxes d moved rest) }
@@ -33,6 +35,7 @@ pub fn no_common_point()
 {}
 
 /// What is read in the text of points and faces is those points and faces.
+#[tactic(auto, using(crate::proofs::Rereading::reading_again))]
 pub fn text_is_read_again()
     ensures { (raw : RawValue) → IsIndexed raw → IsCounted raw → HasCorners raw → reading 0 (off_text raw)
         ≡ Ok raw }
@@ -40,6 +43,7 @@ pub fn text_is_read_again()
 
 /// What is read in the text of a scene is its points and faces, where they are no more than a file may hold and no
 /// written coordinate is too great.
+#[tactic(auto, using(crate::proofs::Lines::scene_again))]
 pub fn scene_is_read_again()
     ensures { (solids : List SolidValue) (shifts : List Vector) → All (λ s. IsIndexed s.raw) solids
         → All (IsWithin POINT) (points_of_scene solids shifts) → IsCounted (scene_of solids shifts)

@@ -12,7 +12,7 @@ use crate::refusal::SceneRefusal;
 use crate::sheet::Sheet;
 use crate::shifts::Shifts;
 use staat_off::{Corners, Raw, Vertex};
-use staat_vec::{Bytes, DIRECTION, Listed, POINT, V3, add};
+use staat_vec::{Bytes, Listed, POINT, V3};
 use std::alloc::{AllocError, Global};
 
 /// A solid of a part, with the vector by which it is moved beside its part's.
@@ -26,19 +26,6 @@ pub struct Solid {
 /// A list of solids.
 pub type Solids = Listed<Solid>;
 
-// A place in the scene, moved by its part's vector.
-fn moved(place: V3, shift: V3) -> V3
-    requires place { IsWithin DIRECTION place }
-    requires shift { IsWithin FARTHEST shift }
-    ensures { result ≡ plus place shift }
-{
-    V3 {
-        x: place.x + shift.x,
-        y: place.y + shift.y,
-        z: place.z + shift.z,
-    }
-}
-
 // A point of a solid, at its place in the scene.
 fn placed(p: V3, at: V3, shift: V3) -> V3
     requires p { IsWithin POINT p }
@@ -46,7 +33,11 @@ fn placed(p: V3, at: V3, shift: V3) -> V3
     requires shift { IsWithin FARTHEST shift }
     ensures { result ≡ plus (plus p at) shift }
 {
-    moved(add(p, at), shift)
+    V3 {
+        x: p.x + at.x + shift.x,
+        y: p.y + at.y + shift.y,
+        z: p.z + at.z + shift.z,
+    }
 }
 
 // Writes the points of a solid, each at its place in the scene.

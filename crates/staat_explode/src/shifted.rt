@@ -3,12 +3,12 @@ ghost use Rattle.std.specs.Prelude.{◌≡◌, ◌≢◌, ◌<◌, ◌≤◌, �
 ghost use Rattle.std.specs.Prelude.{length, unsigned_abs, pos};
 ghost use Rattle.staat_vec.specs.Vectors.{IsWithin, origin};
 ghost use Rattle.staat_explode.specs.Boxes.{component};
-ghost use Rattle.staat_explode.specs.Shifts.{box_at, gap_along, high_along, highest, low_along, lowest, rounds};
-ghost use Rattle.staat_explode.specs.Shifts.{steps_apart, vector_of_part};
+ghost use Rattle.staat_explode.specs.Shifts.{end_along, box_at, extreme, gap_along, rounds, steps_apart};
+ghost use Rattle.staat_explode.specs.Shifts.{vector_of_part};
 ghost use Rattle.staat_explode.specs.Sizes.{AreBounds, IsShifted};
 
 use crate::axis::{Axis, axis_of, component};
-use crate::boxes::{Bounds, greater, lesser};
+use crate::boxes::{Bounds, End, further};
 use crate::grow::FARTHEST;
 use staat_vec::{DIRECTION, POINT, V3};
 
@@ -42,54 +42,33 @@ fn moved(axis: Axis, corner: V3, by: V3) -> i128
     }
 }
 
-// The least number of the part's box, moved by the part's vector.
-fn low_along(boxes: &[Bounds], axis: Axis, p: Shifted) -> i128
+// The number of the part's box at the end, moved by the part's vector.
+fn end_along(boxes: &[Bounds], axis: Axis, end: End, p: Shifted) -> i128
     requires boxes { All AreBounds boxes.now }
     requires placed { IsShifted (length boxes.now) p }
-    ensures value { result ≡ low_along boxes.now axis p }
+    ensures value { result ≡ end_along boxes.now axis end p }
     ensures size { unsigned_abs result ≤ POINT + FARTHEST }
 {
-    moved(axis, box_at(boxes, p.part).low, p.by)
+    let bounds = box_at(boxes, p.part);
+    match end {
+        End::Low => moved(axis, bounds.low, p.by),
+        End::High => moved(axis, bounds.high, p.by),
+    }
 }
 
-// The greatest number of the part's box, moved by the part's vector.
-fn high_along(boxes: &[Bounds], axis: Axis, p: Shifted) -> i128
-    requires boxes { All AreBounds boxes.now }
-    requires placed { IsShifted (length boxes.now) p }
-    ensures value { result ≡ high_along boxes.now axis p }
-    ensures size { unsigned_abs result ≤ POINT + FARTHEST }
-{
-    moved(axis, box_at(boxes, p.part).high, p.by)
-}
-
-// The least number of the boxes of these parts.
-fn lowest(boxes: &[Bounds], axis: Axis, placed: &[Shifted]) -> i128
+// The number of the boxes of these parts that lies furthest to the end.
+fn extreme(boxes: &[Bounds], axis: Axis, end: End, placed: &[Shifted]) -> i128
     requires boxes { All AreBounds boxes.now }
     requires placed { All (IsShifted (length boxes.now)) placed.now }
     requires some { 1 ≤ length placed.now }
-    ensures value { result ≡ lowest boxes.now axis placed.now }
+    ensures value { result ≡ extreme boxes.now axis end placed.now }
     ensures size { unsigned_abs result ≤ POINT + FARTHEST }
 {
-    let mut least = low_along(boxes, axis, placed[0]);
+    let mut furthest = end_along(boxes, axis, end, placed[0]);
     for p in placed {
-        least = lesser(least, low_along(boxes, axis, *p));
+        furthest = further(end, furthest, end_along(boxes, axis, end, *p));
     }
-    least
-}
-
-// The greatest number of the boxes of these parts.
-fn highest(boxes: &[Bounds], axis: Axis, placed: &[Shifted]) -> i128
-    requires boxes { All AreBounds boxes.now }
-    requires placed { All (IsShifted (length boxes.now)) placed.now }
-    requires some { 1 ≤ length placed.now }
-    ensures value { result ≡ highest boxes.now axis placed.now }
-    ensures size { unsigned_abs result ≤ POINT + FARTHEST }
-{
-    let mut greatest = high_along(boxes, axis, placed[0]);
-    for p in placed {
-        greatest = greater(greatest, high_along(boxes, axis, *p));
-    }
-    greatest
+    furthest
 }
 
 // How far the moved parts have to go until they are past the resting ones.
@@ -103,9 +82,9 @@ fn gap_along(boxes: &[Bounds], axis: Axis, step: i128, moved: &[Shifted], rest: 
     ensures size { unsigned_abs result ≤ 2 * (POINT + FARTHEST) + 1 }
 {
     if step > 0 {
-        highest(boxes, axis, rest) + 1 - lowest(boxes, axis, moved)
+        extreme(boxes, axis, End::High, rest) + 1 - extreme(boxes, axis, End::Low, moved)
     } else {
-        highest(boxes, axis, moved) + 1 - lowest(boxes, axis, rest)
+        extreme(boxes, axis, End::High, moved) + 1 - extreme(boxes, axis, End::Low, rest)
     }
 }
 

@@ -1,5 +1,5 @@
 -- Rows of marks: their marks as arcs, the walks that they tell, and the groups of parts that reach each other.
-use Rattle.std.proofs.Common.{◌≡◌, ◌∙◌, ◌⊎◌, ◌↔◌, inl, inr, ⊎_elim, ℕ, zero, suc, ◌+◌, ◌*◌, ◌<◌, ◌≤◌, Bool, true, false, List, [], ◌∷◌, ◌++◌, All, Contains, IsTrue, arith, ap, refl, sym, subst, get_or, length, map}
+use Rattle.std.proofs.Common.{◌≡◌, ◌≢◌, ◌∙◌, ◌⊎◌, ◌↔◌, inl, inr, ⊎_elim, ℕ, zero, suc, ◌+◌, ◌*◌, ◌<◌, ◌≤◌, Bool, true, false, List, [], ◌∷◌, ◌++◌, All, Contains, IsTrue, arith, ap, refl, sym, subst, get_or, length, map}
 use Rattle.std.specs.Prelude.{◌/◌, ◌%◌, ◌&&◌, ◌||◌, slice_index}
 use Rattle.std.specs.Int.{bit_at}
 use Rattle.std.specs.List.Sorted.{IsStrictlySortedBy}
@@ -16,10 +16,9 @@ use Rattle.staat_model.specs.Sets.{Has, IsLeastOf, below}
 use Rattle.staat_model.proofs.Members.{All-from_members}
 use Rattle.staat_model.proofs.SetBits.{has-below}
 use Rattle.staat_model.proofs.SetListings.{has-set_of}
-use Rattle.staat_graph.specs.Graphs.{AreGroups, HasArc, InOrder, IsGroup, Walks, along, here}
+use Rattle.staat_graph.specs.Graphs.{AreGroups, HasArc, IsGroup, Walks, along, here}
 use Rattle.staat_graph.specs.Rows.{AllLeadOn, AreAscendingBelow, AreWalkRows, HasMark, IsMutualMark, IsSquare, row_word}
-use Rattle.staat_graph.proofs.Classes.{order_push, one_least}
-use Rattle.staat_graph.proofs.Finite.{some_least}
+use Rattle.staat_graph.proofs.Classes.{AreFirst, all_groups, first_more, first_none, first_same}
 use Rattle.staat_graph.proofs.Reaching.{one_group}
 use Rattle.staat_graph.proofs.Walking.{joined, walk_ends}
 use Rattle.staat_vec.proofs.Naturals.{lt_or_le, lt_one_more_cases}
@@ -277,20 +276,13 @@ none_listed P = record { ascending = tt; each = λ q c. absurd (Contains-nothing
 
 -- ---- all groups
 
--- the groups whose least part is below n, in order
+-- the groups with a part below n, in order
 pub record AreFirstGroups (rows : List (List Bool)) (n : ℕ) (groups : List (List ℕ)) : Type 0 where
-  pub each : (s : PartSet) → Contains (map set_of groups) s → IsGroup (HasArc (map row_word rows)) (below (length rows)) s × ((p : ℕ) × (p < n) × IsLeastOf s p)
-  pub all : (s : PartSet) (p : ℕ) → p < n → IsGroup (HasArc (map row_word rows)) (below (length rows)) s → IsLeastOf s p → Contains (map set_of groups) s
-  pub in_order : InOrder (map set_of groups)
+  pub first : AreFirst (HasArc (map row_word rows)) (below (length rows)) n (map set_of groups)
   pub numbers : All (AreAscendingBelow (length rows)) groups
 
 pub no_groups : (rows : List (List Bool)) → AreFirstGroups rows 0 []
-no_groups rows = record {
-  each = λ s c. absurd (Contains-nothing s c);
-  all = λ s p lt. absurd (omega (arith, lt));
-  in_order = tt;
-  numbers = λ i d lt. absurd (omega (arith, lt));
-}
+no_groups rows = record { first = first_none (HasArc (map row_word rows)) (below (length rows)); numbers = λ i d lt. absurd (omega (arith, lt)) }
 
 module _ (rows : List (List Bool)) where
   abbrev RowArc : ℕ → ℕ → Type 0
@@ -300,61 +292,32 @@ module _ (rows : List (List Bool)) where
   places = below (length rows)
 
   module _ (table : List (List Bool)) (n : ℕ) (groups : List (List ℕ)) (group : List ℕ) (are : AreWalkRows rows table) (n_in : n < length rows) (lists : Lists nat_cmp (λ q. (q < length table) × IsMutualMark table n q) group) (old : AreFirstGroups rows n groups) where
-    before_last : (q : ℕ) → q < n + 1 → (q < n) ⊎ (q ≡ n)
-    before_last q lt = grind arith
-
     abbrev own : IsGroup RowArc places (set_of group)
     own = is_group rows table n group are n_in lists
 
     own_has : Has (set_of group) n
     own_has = (has-set_of group n).1 (own_in rows table n group are n_in lists)
 
-    pushed : map set_of (groups ++ group ∷ []) ≡ map set_of groups ++ set_of group ∷ []
-    pushed = map-append set_of groups (group ∷ [])
-
     pub group_next : (0 < length group) × (get_or group 0 0 ≡ n) → AreFirstGroups rows (n + 1) (groups ++ group ∷ [])
     group_next (some, first) =
         let least : IsLeastOf (set_of group) n = record { has = own_has; least = λ q h. let le = first_least group q lists.ascending ((has-set_of group q).0 h) in omega (arith, le, first) } in
         record {
-          each = λ s c. ⊎_elim {C = IsGroup RowArc places s × ((p : ℕ) × (p < n + 1) × IsLeastOf s p)}
-              (λ m. let e = old.each s m in let lt = e.1.1 in (e.0, (e.1.0, omega (arith, lt), e.1.2)))
-              (λ e. subst (λ z. IsGroup RowArc places z × ((p : ℕ) × (p < n + 1) × IsLeastOf z p)) e (own, (n, omega arith, least)))
-              (Contains-push_cases (map set_of groups) (set_of group) s (subst (λ (l : List PartSet). Contains l s) pushed c));
-          all = λ s p lt is l. subst (λ (xs : List PartSet). Contains xs s) (sym pushed) (⊎_elim {C = Contains (map set_of groups ++ set_of group ∷ []) s}
-              (λ less. Contains-append_left (map set_of groups) (set_of group ∷ []) s (old.all s p less is l))
-              (λ e. subst (Contains (map set_of groups ++ set_of group ∷ [])) (one_group RowArc places (set_of group) s n own is own_has (subst (Has s) e l.has)) (Contains-push (map set_of groups) (set_of group)))
-              (before_last p lt));
-          in_order = subst InOrder (sym pushed) (order_push RowArc places (map set_of groups) (set_of group) old.in_order
-              (λ t p q c x y. let e = old.each t c in let ep : p ≡ e.1.0 = one_least t p e.1.0 x e.1.2 in let eq : q ≡ n = one_least (set_of group) q n y least in let lt = e.1.1 in omega (arith, ep, eq, lt)));
+          first = subst (AreFirst RowArc places (n + 1)) (sym (map-append set_of groups (group ∷ []))) (first_more RowArc places n (map set_of groups) (set_of group) old.first own least);
           numbers = All-push (AreAscendingBelow (length rows)) groups group old.numbers (group_numbers rows table n group are n_in lists);
         }
 
     pub group_same : ((0 < length group) × (get_or group 0 0 ≡ n) → ⊥) → AreFirstGroups rows (n + 1) groups
-    group_same none = record {
-      each = λ s c. let e = old.each s c in let lt = e.1.1 in (e.0, (e.1.0, omega (arith, lt), e.1.2));
-      all = λ s p lt is l. ⊎_elim {C = Contains (map set_of groups) s}
-          (λ less. old.all s p less is l)
-          (λ e. absurd (clash s is (subst (IsLeastOf s) e l)))
-          (before_last p lt);
-      in_order = old.in_order;
-      numbers = old.numbers;
-    }
+    group_same none = record { first = first_same RowArc places n (map set_of groups) old.first listed; numbers = old.numbers }
       where
-        clash : (s : PartSet) → IsGroup RowArc places s → IsLeastOf s n → ⊥
-        clash s is l =
+        -- it has a part below n, so it is listed
+        listed : (s : PartSet) → IsGroup RowArc places s → Has s n → Contains (map set_of groups) s
+        listed s is h =
             let (some, first) = first_in group n (own_in rows table n group are n_in lists) in
-            let same : set_of group ≡ s = one_group RowArc places (set_of group) s n own is own_has l.has in
+            let same : set_of group ≡ s = one_group RowArc places (set_of group) s n own is own_has h in
             let in_s : Has s (get_or group 0 0) = subst (λ (z : PartSet). Has z (get_or group 0 0)) same ((has-set_of group (get_or group 0 0)).1 first) in
-            let above : n ≤ get_or group 0 0 = l.least (get_or group 0 0) in_s in
             let under : get_or group 0 0 ≤ n = first_least group n lists.ascending (own_in rows table n group are n_in lists) in
-            none (some, omega (arith, above, under))
+            let other : get_or group 0 0 ≢ n = λ e. none (some, e) in
+            old.first.all s (get_or group 0 0) (omega (arith, under, other)) is in_s
 
-  pub all_groups : (n : ℕ) (groups : List (List ℕ)) → length rows ≤ n → AreFirstGroups rows n groups → AreGroups RowArc places (map set_of groups)
-  all_groups n groups le is = record {
-    each = λ s c. (is.each s c).0;
-    all = λ s group.
-        let (p, least) = some_least s group.nonempty.0 group.nonempty.1 in
-        let lt = (has-below (length rows) p).0 (group.within p least.has) in
-        is.all s p (omega (arith, lt, le)) group least;
-    in_order = is.in_order;
-  }
+  pub all_listed : (n : ℕ) (groups : List (List ℕ)) → length rows ≤ n → AreFirstGroups rows n groups → AreGroups RowArc places (map set_of groups)
+  all_listed n groups le is = all_groups RowArc places n (map set_of groups) is.first (λ q h. let lt = (has-below (length rows) q).0 h in omega (arith, lt, le))

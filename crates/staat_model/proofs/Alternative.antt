@@ -1,18 +1,18 @@
 -- For a list of vectors and a vector h, a multiple of h is a sum of multiples of the members, or some x has all members on its positive side and h on the negative one (Farkas, 1902).
-use Rattle.std.proofs.Common.{◌≡◌, ℕ, zero, suc, ◌*◌, ◌≤◌, refl, sym, ap, ◌∙◌, arith, ℤ, pos, negsuc, ◌+ℤ◌, ◌-ℤ◌, ◌*ℤ◌, neg_ℤ, ◌≤ℤ◌, ◌<ℤ◌, ◌⊎◌, inl, inr, ⊎_elim, List, [], ◌∷◌, length, map, mul-le-mul}
-use Rattle.std.proofs.lemmas.Int.{ints, by_lt_z}
+use Rattle.std.proofs.Common.{◌≡◌, ℕ, zero, suc, ◌*◌, ◌≤◌, refl, sym, ap, ◌∙◌, arith, ℤ, pos, ◌+ℤ◌, ◌-ℤ◌, ◌*ℤ◌, neg_ℤ, ◌≤ℤ◌, ◌<ℤ◌, ◌⊎◌, inl, inr, ⊎_elim, List, [], ◌∷◌, length, map, mul-le-mul}
+use Rattle.std.proofs.lemmas.Int.{by_lt_z}
 use Rattle.std.proofs.lemmas.List.{length-map}
 use Rattle.std.proofs.lemmas.List.Elements.{All-nil, All-cons, All-head, All-tail}
 use lib.IntN.{+ℤ_invr}
 use Rattle.staat_vec.specs.declared.vector.V3.{V3}
-use Rattle.staat_vec.specs.Vectors.{dot, plus, times, origin}
-use Rattle.staat_vec.proofs.Ring.{Ex, at, num, ◌⊕◌, ◌⊖◌, ◌⊗◌, opp, ring, zero-mul_ℤ}
-use Rattle.staat_vec.proofs.VecRing.{VEx, dotE, plusE, timesE, originE, values, v0, v1, v2, v3, scale, ring3}
+use Rattle.staat_vec.specs.Vectors.{dot, negative, plus, times, origin}
+use Rattle.staat_vec.proofs.Ring.{Ex, at, ◌⊕◌, ◌⊖◌, ◌⊗◌, opp, ring, zero-mul_ℤ}
+use Rattle.staat_vec.proofs.VecRing.{VEx, dotE, dot_negative, plusE, timesE, originE, values, v0, v1, v2, v3, scale, ring3}
 use Rattle.staat_vec.proofs.Order.{as_nat, as_negative, coefficient_nonneg, negative_is, nonneg_is, nonneg_pos}
 use Rattle.staat_model.specs.Meeting.{mix}
 use Rattle.staat_model.specs.Cones.{IsAbove, IsCombined}
 use Rattle.staat_model.proofs.Mixes.{mix_scale, mix_above, scale_origin, square_vector}
-use Rattle.staat_vec.proofs.Integers.{negative_nonneg_clash}
+use Rattle.staat_vec.proofs.Integers.{negative_nonneg_clash, opposite_negative}
 use Rattle.staat_vec.proofs.VectorLaws.{times_zero_plus}
 
 -- some x has the members on its positive side and h strictly on the negative one
@@ -76,18 +76,11 @@ above_unmap n a x y (v ∷ vs) h =
     (nonneg_is (dot v (lift n a x y)) (dot (reduce n a x v) y) (sym (reduce_dot n a x v y)) (All-head (λ v. pos 0 ≤ℤ dot v y) (reduce n a x v) (map (reduce n a x) vs) h))
     (above_unmap n a x y vs (All-tail (λ v. pos 0 ≤ℤ dot v y) (reduce n a x v) (map (reduce n a x) vs) h))
 
-dot_turned : (h : V3) → dot h (scale (negsuc 0) h) ≡ negsuc 0 *ℤ dot h h
-dot_turned h = ring (values (h ∷ []) []) (dotE v0 (timesE (num (negsuc 0)) v0)) (num (negsuc 0) ⊗ dotE v0 v0) tt
-
-turned_below : (p q : ℤ) → p ≡ negsuc 0 *ℤ q → pos 0 <ℤ q → p <ℤ pos 0
-turned_below p q e h = omega (arith, ints)
-
 alternative_none : (h : V3) → Alternative [] h
-alternative_none h = pick (square_vector h)
-  where
-    pick : (h ≡ origin) ⊎ (pos 0 <ℤ dot h h) → Alternative [] h
-    pick (inl e) = inl (record { k = 1; positive = omega arith; numbers = []; one_each = refl; is = scale_origin (pos 1) ∙ ap (times 1) (sym e) })
-    pick (inr p) = inr (scale (negsuc 0) h, All-nil (λ v. pos 0 ≤ℤ dot v (scale (negsuc 0) h)), turned_below (dot h (scale (negsuc 0) h)) (dot h h) (dot_turned h) p)
+alternative_none h = elim (square_vector h) [
+  | inl e ↦ inl (record { k = 1; positive = omega arith; numbers = []; one_each = refl; is = scale_origin (pos 1) ∙ ap (times 1) (sym e) })
+  | inr p ↦ inr (negative h, All-nil (λ v. pos 0 ≤ℤ dot v (negative h)), opposite_negative (dot h (negative h)) (dot h h) (dot_negative h h) p)
+]
 
 -- a is on the negative side of an x that separates the rest from h
 module _ (n : ℕ) (one : 1 ≤ n) (a x h : V3) (vs : List V3) (up : IsAbove x vs) (down : dot a x ≡ neg_ℤ (pos n)) (low : dot h x <ℤ pos 0) where

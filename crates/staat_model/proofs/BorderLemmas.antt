@@ -1,5 +1,5 @@
 -- A vector strictly on the positive side of all members of a list that spans space: the cone of the conditions has two walls, and on each a direction strictly inside the other conditions.
-use Rattle.std.proofs.Common.{◌≡◌, ℕ, zero, suc, ◌≤◌, ◌≢◌, refl, sym, ap, subst, ◌∙◌, arith, ℤ, pos, negsuc, ◌+ℤ◌, ◌-ℤ◌, ◌*ℤ◌, ◌≤ℤ◌, neg_ℤ, ◌<ℤ◌, ◌⊎◌, inl, inr, ⊎_elim, List, [], ◌∷◌, ◌++◌, All, Contains}
+use Rattle.std.proofs.Common.{◌≡◌, ℕ, zero, suc, ◌≤◌, ◌≢◌, refl, sym, ap, subst, ◌∙◌, arith, pos, ◌+ℤ◌, ◌-ℤ◌, ◌*ℤ◌, ◌≤ℤ◌, ◌<ℤ◌, ◌⊎◌, inl, inr, ⊎_elim, List, [], ◌∷◌, ◌++◌, All, Contains}
 use Rattle.std.proofs.lemmas.Int.{ints}
 use Rattle.std.proofs.lemmas.List.Elements.{All-nil, All-cons, All-head, All-tail, All-contains, All-weaker, All-append}
 use Rattle.staat_vec.specs.declared.vector.V3.{V3}
@@ -7,13 +7,14 @@ use Rattle.staat_vec.specs.Vectors.{dot, cross, plus, times, negative, origin, v
 use Rattle.staat_vec.proofs.VectorOrder.{vector_exact, vector_total}
 use Rattle.staat_vec.proofs.Ring.{at, num, ◌⊕◌, ◌⊖◌, ◌⊗◌, ring}
 use Rattle.staat_vec.proofs.VecRing.{dotE, crossE, plusE, timesE, originE, values, v0, v1, v2, scale, ring3, dot_negative, cross_self}
-use Rattle.staat_vec.proofs.Order.{nonneg_is, nonneg_pos, nonneg_mul, pos_mul, positive_is, cancel_nonneg, positive_nonneg, turned_positive}
-use Rattle.staat_vec.proofs.Integers.{cancel_positive, positive_pos}
+use Rattle.staat_vec.proofs.Order.{nonneg_is, nonneg_pos, nonneg_mul, pos_mul, positive_is, positive_sum, cancel_nonneg, positive_nonneg, turned_positive}
+use Rattle.staat_vec.proofs.Integers.{cancel_positive, opposite_nonpositive_back, opposite_zero, positive_pos, zero_from_bounds, zero_nonneg}
+use lib.IntN.{+ℤ_idr}
 use Rattle.staat_vec.proofs.VectorLaws.{times_zero_plus, unscaled}
 use Rattle.staat_model.specs.Meeting.{mix}
 use Rattle.staat_model.specs.Cones.{IsAbove, IsSpanning, IsCombined, IsOnBorder, HasTwoBorders}
 use Rattle.staat_model.proofs.Members.{All-from_members, all_back, all_front, both, joined}
-use Rattle.staat_model.proofs.Mixes.{mix_above, dot_step}
+use Rattle.staat_model.proofs.Mixes.{mix_above, dot_step, times_dot}
 use Rattle.staat_model.proofs.Alternative.{IsSeparated, alternative, combine_lemma}
 use Rattle.staat_model.proofs.Tilt.{dot_pair}
 use Rattle.staat_model.proofs.Decisions.{equal_or, first_or}
@@ -28,9 +29,6 @@ Needed ks rs g = (x : V3) × (dot g x <ℤ pos 0) × All (λ m. (m ≡ g) ⊎ (p
 -- kept members that say all that the list says, each of them needed
 Pruned : List V3 → List V3 → Type 0
 Pruned ks rs = (ls : List V3) × All (Needed ls []) ls × ((x : V3) → IsAbove x ls → IsAbove x (ks ++ rs)) × ((g : V3) → Contains ls g → Contains ks g ⊎ Contains rs g)
-
-times_dot : (t : ℕ) (d n : V3) → dot (times t d) n ≡ pos t *ℤ dot d n
-times_dot t d n = ring (values (d ∷ n ∷ []) (pos t ∷ [])) (dotE (timesE (at 6) v0) v1) (at 6 ⊗ dotE v0 v1) tt
 
 follows : (vs : List V3) (h x : V3) → IsCombined vs h → IsAbove x vs → pos 0 ≤ℤ dot h x
 follows vs h x c up =
@@ -72,26 +70,20 @@ find_other g ks = elim (first_or (λ m. m ≡ g) (λ m. equal_or vector_cmp vect
   | inr other ↦ (let at = IsFirst-in (λ m. m ≢ g) ks other.0 other.1 in inl (other.0, at.0, at.1))
 ]
 
-between_zero : (p q : ℤ) → p ≡ neg_ℤ q → pos 0 ≤ℤ q → pos 0 ≤ℤ p → q ≡ pos 0
-between_zero p q e h g = omega (arith, ints)
-
-zero_turned : (p q : ℤ) → p ≡ neg_ℤ q → q ≡ pos 0 → pos 0 ≤ℤ p
-zero_turned p q e f = omega (arith, ints)
-
 -- a vector on the positive side of all is zero with its negative
 line_zero : (vs : List V3) (u : V3) → IsSpanning vs → IsAbove u vs → IsAbove (negative u) vs → u ≡ origin
 line_zero vs u spans up down =
     spans u (both (λ v. pos 0 ≤ℤ dot v u) (λ v. pos 0 ≤ℤ dot v (negative u)) (λ v. dot v u ≡ pos 0)
-    (λ v p q. between_zero (dot v (negative u)) (dot v u) (dot_negative v u) p q) vs up down)
+    (λ v p q. zero_from_bounds (dot v u) p (opposite_nonpositive_back (dot v (negative u)) (dot v u) (dot_negative v u) q)) vs up down)
 
 -- the list is not spanned by conditions that are all one
 not_one : (vs ks : List V3) (g : V3) → IsSpanning vs → ((x : V3) → IsAbove x ks → IsAbove x vs) → All (λ m. m ≡ g) ks → ⊥
 not_one vs ks g spans rules one =
     let (u, some, flat) = perpendicular g in
     some (line_zero vs u spans
-    (rules u (All-weaker (λ m. m ≡ g) (λ m. pos 0 ≤ℤ dot m u) (λ m e. nonneg_is (dot m u) (pos 0) (ap (λ v. dot v u) e ∙ flat) (nonneg_pos 0)) ks one))
+    (rules u (All-weaker (λ m. m ≡ g) (λ m. pos 0 ≤ℤ dot m u) (λ m e. zero_nonneg (dot m u) (ap (λ v. dot v u) e ∙ flat)) ks one))
     (rules (negative u) (All-weaker (λ m. m ≡ g) (λ m. pos 0 ≤ℤ dot m (negative u))
-    (λ m e. zero_turned (dot m (negative u)) (dot m u) (dot_negative m u) (ap (λ v. dot v u) e ∙ flat)) ks one)))
+    (λ m e. zero_nonneg (dot m (negative u)) (opposite_zero (dot m (negative u)) (dot m u) (dot_negative m u) (ap (λ v. dot v u) e ∙ flat))) ks one)))
 
 -- v is parallel to g and lies on z, or z is strictly on its positive side
 Side : V3 → V3 → V3 → Type 0
@@ -108,22 +100,18 @@ cross_sum c v m g e f =
     ring3 (values (v ∷ m ∷ g ∷ []) (pos c ∷ [])) (crossE (plusE (timesE (at 9) v0) v1) v2) (plusE (timesE (at 9) (crossE v0 v2)) (crossE v1 v2)) (tt, tt, tt)
     ∙ (λ i. plus (times c (e i)) (f i)) ∙ ring3 (pos c ∷ []) (plusE (timesE (at 0) originE) originE) originE (tt, tt, tt)
 
-sum_positive : (p : ℤ) (c : ℕ) (q r : ℤ) → r ≡ pos c *ℤ p +ℤ q → pos 0 ≤ℤ p → pos 0 <ℤ q → pos 0 <ℤ r
-sum_positive (pos p) c q r e h g = omega (arith, ints)
-sum_positive (negsuc p) c q r e h g = absurd h.le
+side_more : (c : ℕ) (v m z : V3) → pos 0 ≤ℤ dot v z → pos 0 <ℤ dot m z → pos 0 <ℤ dot (plus (times c v) m) z
+side_more c v m z h = positive_sum _ (pos c *ℤ dot v z) (dot m z) (dot_step c v m z) (nonneg_mul (pos c) (dot v z) (nonneg_pos c) h)
 
 side_sum : (g z : V3) (c : ℕ) (v m : V3) → Side g z v → Side g z m → Side g z (plus (times c v) m)
 unfolding Side
 side_sum g z c v m (inl (e, f)) (inl (h, j)) = inl (cross_sum c v m g e h, dot_step c v m z ∙ (λ i. pos c *ℤ f i +ℤ j i) ∙ ring (pos c ∷ []) (at 0 ⊗ num (pos 0) ⊕ num (pos 0)) (num (pos 0)) tt)
-side_sum g z c v m (inl (e, f)) (inr q) = inr (sum_positive (dot v z) c (dot m z) (dot (plus (times c v) m) z) (dot_step c v m z) (nonneg_is (dot v z) (pos 0) f (nonneg_pos 0)) q)
-side_sum g z c v m (inr p) (inr q) = inr (sum_positive (dot v z) c (dot m z) (dot (plus (times c v) m) z) (dot_step c v m z) (positive_nonneg (dot v z) p) q)
+side_sum g z c v m (inl (e, f)) (inr q) = inr (side_more c v m z (zero_nonneg (dot v z) f) q)
+side_sum g z c v m (inr p) (inr q) = inr (side_more c v m z (positive_nonneg (dot v z) p) q)
 side_sum g z zero v m (inr p) (inl (h, j)) = inl (ap (λ w. cross w g) (times_zero_plus v m) ∙ h, ap (λ w. dot w z) (times_zero_plus v m) ∙ j)
 side_sum g z (suc c) v m (inr p) (inl (h, j)) =
-    inr (positive_is (dot (plus (times (suc c) v) m) z) (pos (suc c) *ℤ dot v z +ℤ pos 0) (dot_step (suc c) v m z ∙ ap (λ q. pos (suc c) *ℤ dot v z +ℤ q) j)
-    (more (pos (suc c) *ℤ dot v z) (pos_mul (pos (suc c)) (dot v z) (omega (arith, ints)) p)))
-  where
-    more : (p : ℤ) → pos 0 <ℤ p → pos 0 <ℤ (p +ℤ pos 0)
-    more p h = omega (arith, ints)
+    inr (positive_is (dot (plus (times (suc c) v) m) z) (pos (suc c) *ℤ dot v z) (dot_step (suc c) v m z ∙ ap (λ q. pos (suc c) *ℤ dot v z +ℤ q) j ∙ +ℤ_idr (pos (suc c) *ℤ dot v z))
+    (pos_mul (pos (suc c)) (dot v z) (omega (arith, ints)) p))
 
 side_mix : (g z : V3) (cs : List ℕ) (ks : List V3) → All (Side g z) ks → Side g z (mix cs ks)
 side_mix g z [] ks h = side_zero g z
@@ -145,12 +133,6 @@ between g d x = plus (scale (dot g d) x) (scale (pos 0 -ℤ dot g x) d)
 between_on : (g d x : V3) → dot g (between g d x) ≡ pos 0
 between_on g d x = ring (values (g ∷ d ∷ x ∷ []) []) (dotE v0 (plusE (timesE (dotE v0 v1) v2) (timesE (num (pos 0) ⊖ dotE v0 v2) v1))) (num (pos 0)) tt
 
-positive_pair : (a p b q r : ℤ) → r ≡ a *ℤ p +ℤ b *ℤ q → pos 0 ≤ℤ (a *ℤ p) → pos 0 <ℤ (b *ℤ q) → pos 0 <ℤ r
-positive_pair a p b q r e h g = plain (a *ℤ p) (b *ℤ q) r e h g
-  where
-    plain : (s t r : ℤ) → r ≡ s +ℤ t → pos 0 ≤ℤ s → pos 0 <ℤ t → pos 0 <ℤ r
-    plain s t r e h g = omega (arith, ints)
-
 module _ (vs ks : List V3) (d : V3) (inside : All (λ v. pos 0 <ℤ dot v d) vs)
     (rules : (x : V3) → IsAbove x ks → IsAbove x vs) (from : (g : V3) → Contains ks g → Contains vs g) where
   in_d : (g : V3) → Contains ks g → pos 0 <ℤ dot g d
@@ -159,7 +141,7 @@ module _ (vs ks : List V3) (d : V3) (inside : All (λ v. pos 0 <ℤ dot v d) vs)
   -- a kept member other than g is strictly on the positive side of the vector on g
   strictly : (g : V3) (x : V3) → pos 0 <ℤ dot g d → dot g x <ℤ pos 0 → (m : V3) → Contains ks m → pos 0 ≤ℤ dot m x → pos 0 <ℤ dot m (between g d x)
   strictly g x pd low m c h =
-      positive_pair (dot g d) (dot m x) (pos 0 -ℤ dot g x) (dot m d) (dot m (between g d x)) (dot_pair (dot g d) (pos 0 -ℤ dot g x) m x d)
+      positive_sum (dot m (between g d x)) (dot g d *ℤ dot m x) ((pos 0 -ℤ dot g x) *ℤ dot m d) (dot_pair (dot g d) (pos 0 -ℤ dot g x) m x d)
       (nonneg_mul (dot g d) (dot m x) (positive_nonneg (dot g d) pd) h)
       (pos_mul (pos 0 -ℤ dot g x) (dot m d) (turned_positive (dot g x) low) (in_d m c))
 
@@ -190,15 +172,14 @@ module _ (vs ks : List V3) (d : V3) (inside : All (λ v. pos 0 <ℤ dot v d) vs)
 two_borders : (vs ks : List V3) (d : V3) → IsSpanning vs → All (λ v. pos 0 <ℤ dot v d) vs → ((x : V3) → IsAbove x ks → IsAbove x vs) → ((g : V3) → Contains ks g → Contains vs g)
     → All (Needed ks []) ks → HasTwoBorders vs
 two_borders vs [] d spans inside rules from needed = absurd (not_one vs [] d spans rules (All-nil (λ m. m ≡ d)))
-two_borders vs (g ∷ ks) d spans inside rules from needed = go (find_other g (g ∷ ks))
-  where
-    go : ((h : V3) × Contains (g ∷ ks) h × (h ≢ g)) ⊎ All (λ m. m ≡ g) (g ∷ ks) → HasTwoBorders vs
-    go (inr one) = absurd (not_one vs (g ∷ ks) g spans rules one)
-    go (inl (h, in_h, apart)) =
-        let in_g = Contains-front g ks in
-        let b = border_at vs (g ∷ ks) d inside rules from g in_g (All-contains (Needed (g ∷ ks) []) (g ∷ ks) g needed in_g) in
-        let c = border_at vs (g ∷ ks) d inside rules from h in_h (All-contains (Needed (g ∷ ks) []) (g ∷ ks) h needed in_h) in
-        record { g = g; h = h; y = b.0; z = c.0; y_on = b.1; z_on = c.1; y_inside = b.2 h in_h apart; z_inside = c.2 g in_g (λ e. apart (sym e)) }
+two_borders vs (g ∷ ks) d spans inside rules from needed = elim (find_other g (g ∷ ks)) [
+  | inr one ↦ absurd (not_one vs (g ∷ ks) g spans rules one)
+  | inl (h, in_h, apart) ↦
+      let in_g = Contains-front g ks in
+      let b = border_at vs (g ∷ ks) d inside rules from g in_g (All-contains (Needed (g ∷ ks) []) (g ∷ ks) g needed in_g) in
+      let c = border_at vs (g ∷ ks) d inside rules from h in_h (All-contains (Needed (g ∷ ks) []) (g ∷ ks) h needed in_h) in
+      record { g = g; h = h; y = b.0; z = c.0; y_on = b.1; z_on = c.1; y_inside = b.2 h in_h apart; z_inside = c.2 g in_g (λ e. apart (sym e)) }
+]
 
 pub borders_lemma : (vs : List V3) (d : V3) → IsSpanning vs → All (λ v. pos 0 <ℤ dot v d) vs → HasTwoBorders vs
 unfolding Pruned

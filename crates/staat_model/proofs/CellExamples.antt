@@ -1,24 +1,22 @@
 -- Two of the eight open cells of the axes: their signs and their representatives.
 use Rattle.std.proofs.Common.{◌≡◌, ◌≢◌, ◌⊎◌, Bool, true, false, List, [], ◌∷◌, All, Contains, ap, sym, subst, refl, ◌∙◌, inl, inr, ℤ, pos, neg_ℤ, lit<, rules}
 use Rattle.std.specs.Prelude.{◌&&◌, ◌||◌, not}
-use Rattle.std.proofs.lemmas.Bool.{false≢true, or_cases}
+use Rattle.std.proofs.lemmas.Bool.{or_cases}
 use Rattle.std.specs.List.{list_all}
-use Rattle.std.specs.declared.cmp.Ordering.{Ordering}
-use Rattle.std.specs.declared.cmp.Ordering.TheVariants.{Less, Equal}
+use Rattle.std.specs.Ordering.{is_eq}
+use Rattle.std.specs.declared.cmp.Ordering.TheVariants.{Less}
+use Rattle.staat_vec.proofs.Comparisons.{from_is_eq}
 use Rattle.std.proofs.lemmas.List.Elements.{All-contains}
 use Rattle.staat_vec.specs.declared.vector.V3.{V3}
 use Rattle.staat_vec.specs.declared.vector.Sign.{Sign}
 use Rattle.staat_vec.specs.declared.vector.Sign.TheVariants.{Neg, Zero, Pos}
-use Rattle.staat_vec.specs.Vectors.{plus, vector, vector_cmp}
+use Rattle.staat_vec.specs.Vectors.{plus, vector_cmp}
 use Rattle.staat_vec.proofs.VectorOrder.{vector_exact}
 use Rattle.staat_model.specs.declared.tree.Kind.TheVariants.{Point, Edge, Open}
 use Rattle.staat_model.specs.Cells.{signs_of, signs_cmp, kind_of, IsBorder, IsEnd, IsEdgeSum, IsBorderEdge, IsRepresentative}
 use Rattle.staat_model.specs.Planes.{axes}
-use Rattle.staat_model.proofs.Examples.{axis_vertices, by_test, six}
+use Rattle.staat_model.proofs.Examples.{axis_vertices, by_test, six, v}
 use Rattle.staat_model.proofs.EndLemmas.{pair_lists}
-
-abbrev v : ℤ → ℤ → ℤ → V3
-v = vector
 
 abbrev m1 : ℤ
 m1 = neg_ℤ (pos 1)
@@ -50,20 +48,12 @@ border_test f s h = absurd h
 
 -- ---- edges of the axes
 
-abbrev is_equal : Ordering → Bool
-is_equal Equal = true
-is_equal o = false
-
-vector_equal : (x u : V3) → is_equal (vector_cmp x u) ≡ true → x ≡ u
-vector_equal x u = go (vector_cmp x u) refl
-  where
-    go : (o : Ordering) → vector_cmp x u ≡ o → is_equal o ≡ true → x ≡ u
-    go Equal e h = vector_exact x u e
-    go o e h = absurd (false≢true h)
+vector_equal : (x u : V3) → is_eq (vector_cmp x u) ≡ true → x ≡ u
+vector_equal x u h = vector_exact x u (from_is_eq (vector_cmp x u) h)
 
 -- whether x is one of the two, or not on the border
 abbrev no_other : List Sign → V3 → V3 → V3 → Bool
-no_other s u w x = not (borders (signs_of axes x) s) || (is_equal (vector_cmp x u) || is_equal (vector_cmp x w))
+no_other s u w x = not (borders (signs_of axes x) s) || (is_eq (vector_cmp x u) || is_eq (vector_cmp x w))
 
 -- where a test says so of the six vertices, the edge s has these two ends, and is represented by their sum
 edge_sum : (s : List Sign) (u w : V3) → vector_cmp u w ≡ Less → Contains six u → Contains six w
@@ -82,8 +72,8 @@ edge_sum s u w less u_in w_in u_on w_on test = record {
 
     one_of : (x : V3) → no_other s u w x ≡ true → IsBorder (signs_of axes x) s → (x ≡ u) ⊎ (x ≡ w)
     one_of x h on =
-        let passes : (is_equal (vector_cmp x u) || is_equal (vector_cmp x w)) ≡ true =
-        sym (ap (λ b. not b || (is_equal (vector_cmp x u) || is_equal (vector_cmp x w))) (border_test (signs_of axes x) s on)) ∙ h in
+        let passes : (is_eq (vector_cmp x u) || is_eq (vector_cmp x w)) ≡ true =
+        sym (ap (λ b. not b || (is_eq (vector_cmp x u) || is_eq (vector_cmp x w))) (border_test (signs_of axes x) s on)) ∙ h in
         elim (or_cases _ _ passes) [ inl e ↦ inl (vector_equal x u e) | inr e ↦ inr (vector_equal x w e) ]
 
     only : All (λ x. IsBorder (signs_of axes x) s → (x ≡ u) ⊎ (x ≡ w)) six

@@ -106,12 +106,10 @@ covers_or_same (e ∷ es) (f ∷ fs) (s ∷ ss) ce cf be bf = go be.0 bf.0 (cove
 covers_or_same es fs ss ce cf be bf = search rules
 
 sum_positive : (a b : ℤ) → pos 0 <ℤ a → (pos 0 <ℤ b) ⊎ (b ≡ pos 0) → pos 0 <ℤ (a +ℤ b)
-sum_positive a b h (inl g) = omega (arith, ints)
-sum_positive a b h (inr e) = omega (arith, ints)
+sum_positive a b h g = grind (arith, ints)
 
 sum_negative : (a b : ℤ) → a <ℤ pos 0 → (b <ℤ pos 0) ⊎ (b ≡ pos 0) → (a +ℤ b) <ℤ pos 0
-sum_negative a b h (inl g) = omega (arith, ints)
-sum_negative a b h (inr e) = omega (arith, ints)
+sum_negative a b h g = grind (arith, ints)
 
 -- the sign of a sum of two numbers, one of the sign s and the other of it or 0
 sum_sign : (a b : ℤ) (s : Sign) → sign a ≡ s → (sign b ≡ s) ⊎ (sign b ≡ Zero) → sign (a +ℤ b) ≡ s
@@ -130,11 +128,10 @@ sum_covers gs u v ss c bu bv = absurd c
 
 -- directions on two different edges on the border of a cell add up to one in it
 pub edges_add_up_lemma : (planes : List V3) (s e f : List Sign) (u v : V3) → kind_of e ≡ Edge → kind_of f ≡ Edge → IsBorder e s → IsBorder f s → e ≢ f → signs_of planes u ≡ e → signs_of planes v ≡ f → signs_of planes (plus u v) ≡ s
-edges_add_up_lemma planes s e f u v ke kf be bf apart is_e is_f = go (covers_or_same e f s (let z = edge_zeros e ke in omega (arith, z)) (let z = edge_zeros f kf in omega (arith, z)) be bf)
-  where
-    go : Covers e f s ⊎ (e ≡ f) → signs_of planes (plus u v) ≡ s
-    go (inr same) = absurd (apart same)
-    go (inl c) = sum_covers planes u v s (subst (λ x. Covers x (signs_of planes v) s) (sym is_e) (subst (λ x. Covers e x s) (sym is_f) c)) (subst (λ x. IsBorder x s) (sym is_e) be) (subst (λ x. IsBorder x s) (sym is_f) bf)
+edges_add_up_lemma planes s e f u v ke kf be bf apart is_e is_f = elim (covers_or_same e f s (let z = edge_zeros e ke in omega (arith, z)) (let z = edge_zeros f kf in omega (arith, z)) be bf) [
+  | inr same ↦ absurd (apart same)
+  | inl c ↦ sum_covers planes u v s (subst (λ x. Covers x (signs_of planes v) s) (sym is_e) (subst (λ x. Covers e x s) (sym is_f) c)) (subst (λ x. IsBorder x s) (sym is_e) be) (subst (λ x. IsBorder x s) (sym is_f) bf)
+]
 
 -- ---- an open cell has two edges on its border
 

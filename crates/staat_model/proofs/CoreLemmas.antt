@@ -1,9 +1,7 @@
 -- A core that holds a set of parts together at the crossings with a plane does so along each direction on the plane.
-use Rattle.std.proofs.Common.{◌≡◌, ◌≢◌, zero, suc, ◌≤◌, refl, sym, ap, ◌∙◌, arith, pos, inl, inr, ⊎_elim, List, ◌∷◌, All, Contains}
-use Rattle.std.specs.FinSet as set
+use Rattle.std.proofs.Common.{◌≡◌, ◌≢◌, zero, suc, refl, sym, ap, ◌∙◌, arith, pos, inl, inr, ⊎_elim, List, ◌∷◌, All, Contains}
 use Rattle.staat_vec.specs.declared.vector.V3.{V3}
-use Rattle.staat_vec.specs.Vectors.{dot, cross, origin, vector_cmp}
-use Rattle.staat_vec.proofs.VectorOrder.{vector_exact, vector_total}
+use Rattle.staat_vec.specs.Vectors.{dot, cross, origin}
 use Rattle.staat_vec.specs.Primitives.{IsPrimitive, primitive, canon}
 use Rattle.staat_vec.proofs.VecRing.{cross_self, cross_turned}
 use Rattle.staat_vec.proofs.Primitives.{IsPrimitive-some, primitive-negative}
@@ -11,15 +9,12 @@ use Rattle.staat_model.specs.declared.assembly.Part.{Part}
 use Rattle.staat_model.specs.declared.set.PartSet.{PartSet}
 use Rattle.staat_model.specs.declared.certificate.Arc.{Arc}
 use Rattle.staat_model.specs.Assemblies.{IsPart}
-use Rattle.staat_model.specs.Cores.{HasCorePlanes, HoldsAtCrossings, HoldsAtVertices, HoldsTogether}
-use Rattle.staat_model.specs.Cores.{IsCrossingOn, IsFreeAtCrossing, IsFreeAtVertex, IsFreeInCore}
-use Rattle.staat_model.specs.Outcomes.{Serves}
-use Rattle.staat_model.specs.Plans.{IsStuck}
+use Rattle.staat_model.specs.Cores.{HasCorePlanes, IsCrossingOn, IsFreeAtCrossing, IsFreeAtVertex, IsFreeInCore}
 use Rattle.staat_model.specs.Removal.{MeetsAlong}
-use Rattle.staat_model.proofs.Corners.{IsCornerTowards, axes_held, IsOnBoth, IsTowards, corner_towards, on_both}
+use Rattle.staat_model.proofs.Corners.{IsCornerTowards, axes_held, IsTowards, corner_towards, on_both}
 use Rattle.staat_model.proofs.FacetLemmas.{across_crosses}
 use Rattle.staat_model.proofs.GraphLemmas.{meets_where}
-use Rattle.staat_model.proofs.Decisions.{Decided, equal_or}
+use Rattle.staat_model.proofs.SomePlanes.{vector_or}
 use Rattle.staat_model.proofs.VertexLemmas.{in_vertices}
 use Rattle.staat_vec.proofs.Integers.{zero_from_bounds, zero_nonneg, zero_nonpositive}
 use Rattle.staat_vec.proofs.Unique.{Contains-front}
@@ -62,15 +57,15 @@ crossing_at g planes v h is on_g on_h (suc k, lt, e) apart = record {
 }
 
 crossing_on : (g d v : V3) (planes : List V3) → g ≢ origin → dot g v ≡ pos 0 → IsCornerTowards (g ∷ planes) d v → IsCrossingOn g planes v
-crossing_on g d v planes some on c = go (equal_or vector_cmp vector_total vector_exact (cross g c.g) origin) (equal_or vector_cmp vector_total vector_exact (cross g c.h) origin)
-  where
-    o : IsOnBoth v c.g c.h
-    o = on_both v c.g c.h c.independent c.is
-
-    go : Decided (cross g c.g ≡ origin) → Decided (cross g c.h ≡ origin) → IsCrossingOn g planes v
-    go (inr n) q = crossing_at g planes v c.g o.primitive on o.on_g c.g_in n
-    go (inl p) (inr n) = crossing_at g planes v c.h o.primitive on o.on_h c.h_in n
-    go (inl p) (inl q) = absurd (c.independent (parallel_cross g c.g c.h some p q))
+crossing_on g d v planes some on c =
+    let o = on_both v c.g c.h c.independent c.is in
+    elim (vector_or (cross g c.g) origin) [
+      | inr n ↦ crossing_at g planes v c.g o.primitive on o.on_g c.g_in n
+      | inl p ↦ elim (vector_or (cross g c.h) origin) [
+        | inr n ↦ crossing_at g planes v c.h o.primitive on o.on_h c.h_in n
+        | inl q ↦ absurd (c.independent (parallel_cross g c.g c.h some p q))
+      ]
+    ]
 
 -- what is free along some direction on the plane of g is free along a crossing of it
 pub free_at_crossing_lemma : (parts : List Part) (core : List Arc) (planes : List V3) (g : V3) (s r : PartSet) (d : V3)
@@ -86,33 +81,3 @@ free_at_crossing_lemma parts core planes g s r d each has g_some some on free =
           free arc listed a_in b_in
           (meets_towards parts core planes d v arc each has (λ n n_in. c.towards n (Contains-there g n planes n_in)) listed m);
     }
-
--- ---- all sides of a set
-
-pub core_holds_lemma : (parts : List Part) (core : List Arc) (w : PartSet) (planes : List V3) (d : V3)
-    → All IsPart parts → HasCorePlanes parts core planes → HoldsAtVertices parts core w planes → d ≢ origin
-    → HoldsTogether parts core w d
-core_holds_lemma parts core w planes d each has at_vertices some = λ s side free.
-    let at = free_at_vertex_lemma parts core planes s (set.difference w s) d each has some free in
-    at_vertices at.v at.vertex s side at.free
-
-pub core_stuck_lemma : (parts : List Part) (core : List Arc) (w : PartSet) (planes : List V3) → All IsPart parts
-    → 2 ≤ set.len w → HasCorePlanes parts core planes → HoldsAtVertices parts core w planes → IsStuck parts w
-core_stuck_lemma parts core w planes each two has at_vertices = record {
-  two = two;
-  held = λ s d side free. core_holds_lemma parts core w planes d each has at_vertices free.moves s side (λ arc listed. free.clear arc);
-}
-
-pub core_on_plane_lemma : (parts : List Part) (core : List Arc) (w : PartSet) (planes : List V3) (g d : V3)
-    → All IsPart parts → HasCorePlanes parts core planes → g ≢ origin → HoldsAtCrossings parts core w g planes
-    → d ≢ origin → dot g d ≡ pos 0 → HoldsTogether parts core w d
-core_on_plane_lemma parts core w planes g d each has g_some at_crossings some on = λ s side free.
-    let at = free_at_crossing_lemma parts core planes g s (set.difference w s) d each has g_some some on free in
-    at_crossings at.v at.crossing s side at.free
-
-pub core_none_lemma : (parts : List Part) (core : List Arc) (w : PartSet) (planes : List V3) (g d : V3)
-    → All IsPart parts → HasCorePlanes parts core planes → g ≢ origin → HoldsAtCrossings parts core w g planes
-    → dot g d ≡ pos 0 → Serves parts w d → ⊥
-core_none_lemma parts core w planes g d each has g_some at_crossings on serves =
-    let free = serves.free in
-    core_on_plane_lemma parts core w planes g d each has g_some at_crossings free.moves on serves.side serves.is_side (λ arc listed. free.clear arc)

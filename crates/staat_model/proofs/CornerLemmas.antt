@@ -1,6 +1,5 @@
 -- A pointed cone that holds a vector but zero holds a vertex.
-use Rattle.std.proofs.Common.{◌≡◌, ℕ, ◌≢◌, refl, sym, ap, subst, ◌∙◌, arith, ℤ, pos, neg_ℤ, ◌*ℤ◌, ◌≤ℤ◌, ◌<ℤ◌, inl, inr, List, [], ◌∷◌, All}
-use Rattle.std.proofs.lemmas.Int.{ints}
+use Rattle.std.proofs.Common.{◌≡◌, ℕ, ◌≢◌, refl, sym, ap, subst, ◌∙◌, pos, ◌*ℤ◌, ◌≤ℤ◌, ◌<ℤ◌, inl, inr, List, [], ◌∷◌, All}
 use Rattle.std.proofs.lemmas.List.Elements.{All-contains, All-weaker}
 use Rattle.staat_vec.specs.declared.vector.V3.{V3}
 use Rattle.staat_vec.specs.Vectors.{vector, dot, cross, times, negative, origin}
@@ -8,10 +7,10 @@ use Rattle.staat_vec.specs.Primitives.{IsPrimitiveOf, primitive}
 use Rattle.staat_model.specs.Cones.{IsAbove, IsSpanning, HasAxes, HasEither, HasCorner}
 use Rattle.staat_vec.proofs.Ring.{Ex, at, num, ◌⊗◌, ring}
 use Rattle.staat_vec.proofs.VecRing.{dotE, timesE, vectorE, values, v0, v1, same_vector, negative_dot}
-use Rattle.staat_vec.proofs.Order.{cancel_nonneg, cancel_zero, negative_is, nonneg_is}
+use Rattle.staat_vec.proofs.Order.{cancel_nonneg, cancel_zero, nonneg_is}
 use Rattle.staat_model.proofs.Edge.{edge_below}
 use Rattle.staat_vec.proofs.Primitives.{primitive-is}
-use Rattle.staat_vec.proofs.Integers.{cancel_positive, zero_from_opposite, positive_pos}
+use Rattle.staat_vec.proofs.Integers.{cancel_positive, opposite_negative, zero_from_opposite, positive_pos}
 use Rattle.staat_vec.proofs.VectorLaws.{some_square}
 
 -- n is at right angles to an axis of the list
@@ -49,10 +48,7 @@ pub above_primitive : (vs : List V3) (f n : V3) → IsPrimitiveOf f n → IsAbov
 above_primitive vs f n i h =
     All-weaker (λ v. pos 0 ≤ℤ dot v f) (λ v. pos 0 ≤ℤ dot v n) (λ v q. cancel_nonneg (pos i.factor) (dot v n) (positive_pos i.factor i.positive) (nonneg_is (pos i.factor *ℤ dot v n) (dot v f) (sym (dot_multiple v f n i.factor i.multiple)) q)) vs h
 
-opposite_low : (q : ℤ) → pos 0 <ℤ q → neg_ℤ q <ℤ pos 0
-opposite_low q h = omega (arith, ints)
-
 pub corner_lemma : (vs : List V3) (d : V3) → HasAxes vs → d ≢ origin → IsAbove d vs → HasCorner vs
 corner_lemma vs d axes some up =
-    let (g, h, (in_g, in_h, apart, above), side) = edge_below vs d (negative d) (axes_span vs axes) up (negative_is (dot (negative d) d) (neg_ℤ (dot d d)) (negative_dot d d) (opposite_low (dot d d) (some_square d some))) in
+    let (g, h, (in_g, in_h, apart, above), side) = edge_below vs d (negative d) (axes_span vs axes) up (opposite_negative (dot (negative d) d) (dot d d) (negative_dot d d) (some_square d some)) in
     record { v = primitive (cross g h); crossing = record { g = g; h = h; g_in = in_g; h_in = in_h; independent = apart; is = refl }; above = above_primitive vs (cross g h) (primitive (cross g h)) (primitive-is (cross g h) apart) above }

@@ -53,16 +53,17 @@ less_or a b = by_lt_z {P = Decided (a <ℤ b)} a b (λ less. inl less) (λ le. i
 -- of members for which it can be decided, all keep the rule, or there is a first that breaks it
 pub all_or_where : {X : Type 0} (Q P : X → Type 0) → ((x : X) → Q x → Decided (P x)) → (xs : List X) → All Q xs → All P xs ⊎ ((k : ℕ) × FailsFirst P xs k)
 all_or_where Q P f [] all = inl (All-nil P)
-all_or_where {X} Q P f (x ∷ xs) all = go (f x (All-head Q x xs all)) (all_or_where Q P f xs (All-tail Q x xs all))
+all_or_where {X} Q P f (x ∷ xs) all = elim (f x (All-head Q x xs all)) [
+  | inr n ↦ inr (0, record { x = x; at = refl; fails = n; before = λ m y lt e. absurd (omega (arith, lt)) })
+  | inl p ↦ elim (all_or_where Q P f xs (All-tail Q x xs all)) [
+    | inl rest ↦ inl (All-cons P x xs p rest)
+    | inr (k, fails) ↦ inr (suc k, record { x = fails.x; at = fails.at; fails = fails.fails; before = earlier p k fails.before })
+  ]
+]
   where
-    go : Decided (P x) → All P xs ⊎ ((k : ℕ) × FailsFirst P xs k) → All P (x ∷ xs) ⊎ ((k : ℕ) × FailsFirst P (x ∷ xs) k)
-    go (inr n) rest = inr (0, record { x = x; at = refl; fails = n; before = λ m y lt e. absurd (omega (arith, lt)) })
-    go (inl p) (inl rest) = inl (All-cons P x xs p rest)
-    go (inl p) (inr (k, fails)) = inr (suc k, record { x = fails.x; at = fails.at; fails = fails.fails; before = earlier })
-      where
-        earlier : (m : ℕ) (y : X) → m < suc k → slice_get (x ∷ xs) m ≡ Some y → P y
-        earlier zero y lt e = let same : x ≡ y = cc in subst P same p
-        earlier (suc m) y lt e = fails.before m y (omega (arith, lt)) e
+    earlier : P x → (k : ℕ) → ((m : ℕ) (y : X) → m < k → slice_get xs m ≡ Some y → P y) → (m : ℕ) (y : X) → m < suc k → slice_get (x ∷ xs) m ≡ Some y → P y
+    earlier p k before zero y lt e = let same : x ≡ y = cc in subst P same p
+    earlier p k before (suc m) y lt e = before m y (omega (arith, lt)) e
 
 pub all_or : {X : Type 0} (P : X → Type 0) → ((x : X) → Decided (P x)) → (xs : List X) → All P xs ⊎ ((k : ℕ) × FailsFirst P xs k)
 all_or P f xs = all_or_where (λ x. Unit {0}) P (λ x q. f x) xs (λ k x lt. tt)
@@ -70,12 +71,10 @@ all_or P f xs = all_or_where (λ x. Unit {0}) P (λ x q. f x) xs (λ k x lt. tt)
 -- the same, with the first itself
 pub first_or : {X : Type 0} (P : X → Type 0) → ((x : X) → Decided (P x)) → (xs : List X) → All P xs ⊎ ((x : X) × IsFirst (λ y. P y → ⊥) xs x)
 first_or P f [] = inl (All-nil P)
-first_or {X} P f (x ∷ xs) = go (f x) (first_or P f xs)
-  where
-    go : Decided (P x) → All P xs ⊎ ((y : X) × IsFirst (λ z. P z → ⊥) xs y) → All P (x ∷ xs) ⊎ ((y : X) × IsFirst (λ z. P z → ⊥) (x ∷ xs) y)
-    go (inr n) rest = inr (x, inl (refl, n))
-    go (inl p) (inl all) = inl (All-cons P x xs p all)
-    go (inl p) (inr (y, first)) = inr (y, inr ((λ n. n p), first))
+first_or P f (x ∷ xs) = elim (f x) [
+  | inr n ↦ inr (x, inl (refl, n))
+  | inl p ↦ elim (first_or P f xs) [ inl all ↦ inl (All-cons P x xs p all) | inr later ↦ inr (later.0, inr ((λ n. n p), later.1)) ]
+]
 
 pub all_decided : {X : Type 0} (P : X → Type 0) → ((x : X) → Decided (P x)) → (xs : List X) → Decided (All P xs)
 all_decided P f xs = elim (all_or P f xs) [ inl all ↦ inl all | inr one ↦ inr (λ all. one.1.fails (let at = one.1.at in All-at P xs one.0 one.1.x at all)) ]
@@ -83,33 +82,31 @@ all_decided P f xs = elim (all_or P f xs) [ inl all ↦ inl all | inr one ↦ in
 -- the members with a property
 pub kept : {X : Type 0} (P : X → Type 0) → ((x : X) → Decided (P x)) → (xs : List X) → (ys : List X) × ((y : X) → Contains ys y → Contains xs y × P y) × ((y : X) → Contains xs y → P y → Contains ys y)
 kept P f [] = ([], (λ y c. absurd (Contains-nothing y c)), λ y c p. c)
-kept {X} P f (x ∷ xs) = go (f x) (kept P f xs)
-  where
-    go : Decided (P x) → (ys : List X) × ((y : X) → Contains ys y → Contains xs y × P y) × ((y : X) → Contains xs y → P y → Contains ys y)
-        → (ys : List X) × ((y : X) → Contains ys y → Contains (x ∷ xs) y × P y) × ((y : X) → Contains (x ∷ xs) y → P y → Contains ys y)
-    go (inl p) (ys, from, all) = (
-      x ∷ ys,
-      (λ y c. elim (Contains-cases x ys y c) [ inl e ↦ (joined x xs y (inl e), subst P (sym e) p) | inr later ↦ (Contains-later x xs y (from y later).0, (from y later).1) ]),
-      λ y c q. joined x ys y (⊎_elim (λ e. inl e) (λ later. inr (all y later q)) (Contains-cases x xs y c)),
-    )
-    go (inr n) (ys, from, all) = (
-      ys,
-      (λ y c. (Contains-later x xs y (from y c).0, (from y c).1)),
-      λ y c q. ⊎_elim (λ e. absurd (n (subst P e q))) (λ later. all y later q) (Contains-cases x xs y c),
-    )
+kept P f (x ∷ xs) = let (ys, from, all) = kept P f xs in elim (f x) [
+  | inl p ↦ (
+    x ∷ ys,
+    (λ y c. elim (Contains-cases x ys y c) [ inl e ↦ (joined x xs y (inl e), subst P (sym e) p) | inr later ↦ (Contains-later x xs y (from y later).0, (from y later).1) ]),
+    λ y c q. joined x ys y (⊎_elim (λ e. inl e) (λ later. inr (all y later q)) (Contains-cases x xs y c)),
+  )
+  | inr n ↦ (
+    ys,
+    (λ y c. (Contains-later x xs y (from y c).0, (from y c).1)),
+    λ y c q. ⊎_elim (λ e. absurd (n (subst P e q))) (λ later. all y later q) (Contains-cases x xs y c),
+  )
+]
 
 -- ---- numbers
 
 -- the least number below n with a property
 pub below_or : (P : ℕ → Type 0) → ((k : ℕ) → Decided (P k)) → (n : ℕ) → ((k : ℕ) × (k < n) × P k × ((j : ℕ) → j < k → P j → ⊥)) ⊎ ((k : ℕ) → k < n → P k → ⊥)
 below_or P f zero = inr (λ k lt p. absurd (omega (arith, lt)))
-below_or P f (suc n) = go (below_or P f n) (f n)
-  where
-    go : ((k : ℕ) × (k < n) × P k × ((j : ℕ) → j < k → P j → ⊥)) ⊎ ((k : ℕ) → k < n → P k → ⊥) → Decided (P n)
-        → ((k : ℕ) × (k < suc n) × P k × ((j : ℕ) → j < k → P j → ⊥)) ⊎ ((k : ℕ) → k < suc n → P k → ⊥)
-    go (inl (k, lt, p, least)) d = inl (k, omega (arith, lt), p, least)
-    go (inr none) (inl p) = inl (n, omega arith, p, none)
-    go (inr none) (inr not) = inr (λ k lt p. elim (lt_or k n) [ inl low ↦ none k low p | inr high ↦ not (let e : k ≡ n = omega (arith, lt, high) in subst P e p) ])
+below_or P f (suc n) = elim (below_or P f n) [
+  | inl t ↦ inl (t.0, omega (arith, t.1), t.2, t.3)
+  | inr none ↦ elim (f n) [
+    | inl p ↦ inl (n, omega arith, p, none)
+    | inr not ↦ inr (λ k lt p. elim (lt_or k n) [ inl low ↦ none k low p | inr high ↦ not (let e : k ≡ n = omega (arith, lt, high) in subst P e p) ])
+  ]
+]
 
 pub some_below : (P : ℕ → Type 0) → ((k : ℕ) → Decided (P k)) → (n : ℕ) → Decided ((k : ℕ) × (k < n) × P k)
 some_below P f n = elim (below_or P f n) [ inl t ↦ inl (t.0, t.1, t.2) | inr none ↦ inr (λ h. none h.0 h.1 h.2) ]

@@ -1,5 +1,5 @@
 -- The differences of two lists of points: which vectors they are, and that those of solid points span space.
-use Rattle.std.proofs.Common.{◌≡◌, ◌≢◌, zero, suc, sym, ap, subst, ◌∙◌, arith, ℤ, pos, neg_ℤ, ◌⊎◌, inl, inr, List, [], ◌∷◌, map, Contains}
+use Rattle.std.proofs.Common.{◌≡◌, ◌≢◌, zero, suc, sym, ap, subst, ◌∙◌, arith, ℤ, pos, neg_ℤ, inl, inr, List, [], ◌∷◌, map, Contains}
 use Rattle.std.proofs.lemmas.Int.{ints}
 use Rattle.std.proofs.lemmas.List.Elements.{All-contains, Contains-append_cases, Contains-append_left, Contains-append_right}
 use Rattle.staat_vec.specs.declared.vector.V3.{V3}
@@ -25,14 +25,10 @@ in_differences (x ∷ ps) qs p q (suc k, lt, e) in_q = Contains-append_right (ma
 -- the two points of a difference
 pub from_differences : (ps qs : List V3) (v : V3) → Contains (differences ps qs) v → (p q : V3) × Contains ps p × Contains qs q × (v ≡ minus q p)
 from_differences [] qs v (k, lt, e) = absurd (omega (arith, lt))
-from_differences (p ∷ ps) qs v has = go (from_differences ps qs v) (Contains-append_cases (map (λ q. minus q p) qs) (differences ps qs) v has)
-  where
-    Points : List V3 → Type 0
-    Points xs = (p q : V3) × Contains xs p × Contains qs q × (v ≡ minus q p)
-
-    go : (Contains (differences ps qs) v → Points ps) → Contains (map (λ q. minus q p) qs) v ⊎ Contains (differences ps qs) v → Points (p ∷ ps)
-    go f (inl c) = let (q, in_q, e) = from_map (λ q. minus q p) qs v c in (p, q, Contains-front p ps, in_q, e)
-    go f (inr c) = let (x, q, in_x, in_q, e) = f c in (x, q, Contains-there p x ps in_x, in_q, e)
+from_differences (p ∷ ps) qs v has = elim (Contains-append_cases (map (λ q. minus q p) qs) (differences ps qs) v has) [
+  | inl c ↦ let (q, in_q, e) = from_map (λ q. minus q p) qs v c in (p, q, Contains-front p ps, in_q, e)
+  | inr c ↦ let (x, q, in_x, in_q, e) = from_differences ps qs v c in (x, q, Contains-there p x ps in_x, in_q, e)
+]
 
 -- a vector at right angles to three that do not lie in one plane
 pub three_across : (u v w n : V3) → det u v w ≢ pos 0 → dot u n ≡ pos 0 → dot v n ≡ pos 0 → dot w n ≡ pos 0 → n ≡ origin

@@ -1,5 +1,5 @@
 -- A list that spans space, with a vector that has all members on its positive side and y on the negative one: some cross product of two members has that too.
-use Rattle.std.proofs.Common.{◌≡◌, zero, suc, ◌≢◌, ap, ◌∙◌, arith, ℤ, pos, negsuc, ◌-ℤ◌, ◌*ℤ◌, ◌≤ℤ◌, ◌<ℤ◌, ◌⊎◌, inl, inr, List, [], ◌∷◌, Contains}
+use Rattle.std.proofs.Common.{◌≡◌, zero, suc, ◌≢◌, ap, ◌∙◌, arith, ℤ, pos, negsuc, ◌-ℤ◌, ◌*ℤ◌, ◌≤ℤ◌, ◌<ℤ◌, inl, inr, List, [], ◌∷◌, Contains}
 use Rattle.std.proofs.lemmas.Int.{ints, by_lt_z}
 use Rattle.std.proofs.lemmas.List.Elements.{All-weaker}
 use Rattle.staat_vec.specs.declared.vector.V3.{V3}
@@ -24,28 +24,24 @@ not_positive_zero (negsuc a) h e = omega (arith, ints)
 
 -- a vector at right angles to y
 pub perpendicular : (y : V3) → (u : V3) × (u ≢ origin) × (dot y u ≡ pos 0)
-perpendicular y = pick (square_sign y.x)
-  where
-    pick : (y.x ≡ pos 0) ⊎ (pos 0 <ℤ (y.x *ℤ y.x)) → (u : V3) × (u ≢ origin) × (dot y u ≡ pos 0)
-    pick (inl e) = (
-      record { x = pos 1; y = pos 0; z = pos 0 },
-      (λ q. let one : pos 1 ≡ pos 0 = ap (λ v. v.x) q in absurd (omega (arith, ints))),
-      ring_by (values (y ∷ []) []) (dotE v0 (vectorE (num (pos 1)) (num (pos 0)) (num (pos 0)))) (num (pos 0)) (num (pos 1)) (at 0) (num (pos 0)) e tt,
-    )
-    pick (inr p) = (
-      record { x = y.y; y = pos 0 -ℤ y.x; z = pos 0 },
-      (λ q. not_positive_zero y.x p (ap (λ v. v.y) q)),
-      ring (values (y ∷ []) []) (dotE v0 (vectorE (at 1) (num (pos 0) ⊖ at 0) (num (pos 0)))) (num (pos 0)) tt,
-    )
+perpendicular y = elim (square_sign y.x) [
+  | inl e ↦ (
+    record { x = pos 1; y = pos 0; z = pos 0 },
+    (λ q. let one : pos 1 ≡ pos 0 = ap (λ v. v.x) q in absurd (omega (arith, ints))),
+    ring_by (values (y ∷ []) []) (dotE v0 (vectorE (num (pos 1)) (num (pos 0)) (num (pos 0)))) (num (pos 0)) (num (pos 1)) (at 0) (num (pos 0)) e tt,
+  )
+  | inr p ↦ (
+    record { x = y.y; y = pos 0 -ℤ y.x; z = pos 0 },
+    (λ q. not_positive_zero y.x p (ap (λ v. v.y) q)),
+    ring (values (y ∷ []) []) (dotE v0 (vectorE (at 1) (num (pos 0) ⊖ at 0) (num (pos 0)))) (num (pos 0)) tt,
+  )
+]
 
 -- what follows where w is parallel to y
 crossing : (w y u x : V3) → cross w y ≡ origin → dot y u ≡ pos 0 → dot w u *ℤ dot y x ≡ pos 0
 crossing w y u x e f =
     ring_by (values (w ∷ y ∷ u ∷ x ∷ []) []) (dotE v0 v2 ⊗ dotE v1 v3) (dotE (crossE v0 v1) (crossE v2 v3)) (dotE v0 v3) (dotE v1 v2) (num (pos 0)) f tt
     ∙ ap (λ c. dot c (cross u x)) e ∙ dot_origin (cross u x)
-
-cross_cycle : (v w y : V3) → dot v (cross w y) ≡ negsuc 0 *ℤ dot y (cross w v)
-cross_cycle v w y = ring (values (v ∷ w ∷ y ∷ []) []) (dotE v0 (crossE v1 v2)) (num (negsuc 0) ⊗ dotE v2 (crossE v1 v0)) tt
 
 pub cross_swap : (v w y : V3) → dot y (cross w v) ≡ negsuc 0 *ℤ dot y (cross v w)
 cross_swap v w y = ring (values (v ∷ w ∷ y ∷ []) []) (dotE v2 (crossE v1 v0)) (num (negsuc 0) ⊗ dotE v2 (crossE v0 v1)) tt
@@ -82,7 +78,7 @@ second_turn vs y r u w low in_w e (s, up, v, in_v, apart, f, a, pa, keep) =
     (keep w (dot_cross_left w y) ∙ product_zero a (dot w r) e)
     f
     (negative_is (dot y s) (a *ℤ dot y r) (keep y (dot_cross_right w y)) (negative_mul a (dot y r) pa low))
-    (λ q. apart (cross_cycle v w y ∙ product_zero (negsuc 0) (dot y (cross w v)) q))
+    (λ q. apart (ring (values (v ∷ w ∷ y ∷ []) []) (dotE v0 (crossE v1 v2)) (num (negsuc 0) ⊗ dotE v2 (crossE v1 v0)) tt ∙ product_zero (negsuc 0) (dot y (cross w v)) q))
 
 first_turn : (vs : List V3) (x y u : V3) → IsSpanning vs → dot y x <ℤ pos 0 → dot y u ≡ pos 0 → Turned vs x u → EdgeBelow vs y
 unfolding Turned

@@ -7,7 +7,7 @@ use Rattle.std.proofs.lemmas.List.Elements.{All-contains}
 use Rattle.staat_vec.specs.declared.vector.V3.{V3}
 use Rattle.staat_vec.specs.Vectors.{dot, cross, plus, minus, times, negative, origin}
 use Rattle.staat_vec.specs.Primitives.{IsPrimitive, primitive}
-use Rattle.staat_vec.proofs.Ring.{Ex, at, num, ◌⊕◌, ◌⊖◌, ◌⊗◌, opp, ring, from_zero}
+use Rattle.staat_vec.proofs.Ring.{Ex, at, num, ◌⊕◌, ◌⊖◌, ◌⊗◌, opp, ring, ring_by, from_zero}
 use Rattle.staat_vec.proofs.VecRing.{VEx, crossE, cross_self, dotE, dot_scale, minusE, negativeE, negative_dot, originE, plusE, ring3, same_vector, scale, timesE, v0, v1, v2, values}
 use Rattle.staat_vec.proofs.Order.{as_positive, nonneg_is, nonneg_mul, pos_mul, positive_is, positive_nonneg}
 use Rattle.staat_vec.proofs.Primitives.{IsPrimitive-some, primitive-is, same_primitive}
@@ -16,8 +16,7 @@ use Rattle.staat_model.proofs.Members.{All-from_members}
 use Rattle.staat_model.proofs.Edge.{edge_below}
 use Rattle.staat_model.proofs.CornerLemmas.{above_primitive, ahead_primitive, axes_span}
 use Rattle.staat_model.proofs.Corners.{Conditions, conditions, have_axes, is_corner, HoldsAxes, same_back, same_zero, IsOnBoth, IsSame, IsTowards, IsCornerTowards, on_both}
-use Rattle.staat_vec.proofs.Integers.{mixed_product, mul-comm_ℤ, negative_nonneg_clash, negative_nonpositive, opposite_negative, other_factor_zero, product_zero, products_zero, two_negatives, positive_nonpositive_mul, zero_or}
-use Rattle.staat_vec.proofs.Integers.{positive_from_nonneg, opposite_positive_back, zero_from_bounds, zero_nonneg, zero_nonpositive}
+use Rattle.staat_vec.proofs.Integers.{mixed_product, mul-comm_ℤ, negative_nonneg_clash, negative_nonpositive, opposite_negative, other_factor_zero, product_zero, products_zero, two_negatives, positive_nonpositive_mul, zero_or, opposite_nonpositive_back, positive_from_nonneg, positive_nonpositive_clash, opposite_positive_back, zero_from_bounds, zero_nonneg, zero_nonpositive}
 use Rattle.staat_vec.proofs.VectorLaws.{dot_along, some_square, unscaled}
 
 -- ---- far enough along d
@@ -124,15 +123,12 @@ none_along c d p e f g some none =
     unscaled (dot (cross c d) (cross c d)) p some
     (along_d c d p e f g ∙ ap (λ k. scale k d) none ∙ ring3 (values (d ∷ []) []) (timesE (num (pos 0)) v0) originE (tt, tt, tt))
 
-not_both_sides : (p r : ℤ) → p ≡ r → p ≤ℤ pos 0 → pos 0 <ℤ r → ⊥
-not_both_sides p r e h g = omega (arith, ints)
-
 -- a positive multiple of a number on q's side of 0 is a multiple of q with a factor of at least 0
 factor_nonneg : (k b q x : ℤ) → pos 0 <ℤ k → q ≢ pos 0 → (pos 0 ≤ℤ q → pos 0 ≤ℤ x) → (q ≤ℤ pos 0 → x ≤ℤ pos 0) → k *ℤ x ≡ b *ℤ q → pos 0 ≤ℤ b
 factor_nonneg k b q x h n up down e =
     by_lt_z {P = pos 0 ≤ℤ b} b (pos 0)
     (λ low. absurd (by_lt_z {P = ⊥} q (pos 0)
-    (λ neg. not_both_sides (k *ℤ x) (b *ℤ q) e (positive_nonpositive_mul k x h (down (negative_nonpositive q neg))) (two_negatives b q low neg))
+    (λ neg. positive_nonpositive_clash (b *ℤ q) (two_negatives b q low neg) (subst (λ z. z ≤ℤ pos 0) e (positive_nonpositive_mul k x h (down (negative_nonpositive q neg)))))
     (λ nonneg. negative_nonneg_clash (b *ℤ q) (mixed_product b q low (positive_from_nonneg q nonneg n)) (nonneg_is (b *ℤ q) (k *ℤ x) (sym e) (nonneg_mul k x (positive_nonneg k h) (up nonneg))))))
     (λ nonneg. nonneg)
 
@@ -149,7 +145,13 @@ pub record IsTip (planes : List V3) (d c w : V3) : Type 0 where
   pub towards : (g : V3) → Contains planes g → IsTowards d w g
 
 pub tip : (planes : List V3) (d c w : V3) → IsOnOne planes d c → IsCornerTowards planes d w → IsTip planes d c w
-tip planes d c w one corner = go (one.only corner.g corner.g_in) (one.only corner.h corner.h_in)
+tip planes d c w one corner = elim (one.only corner.g corner.g_in) [
+  | inr off ↦ at corner.g corner.g_in off crossing.on_g
+  | inl e ↦ elim (one.only corner.h corner.h_in) [
+    | inr off ↦ at corner.h corner.h_in off crossing.on_h
+    | inl f ↦ absurd (corner.independent ((λ i. cross (e i) (f i)) ∙ cross_self c))
+  ]
+]
   where
     flat_c : dot c w ≡ pos 0
     flat_c = let t = corner.towards c one.c_in in zero_from_bounds (dot c w) (t.up (zero_nonneg (dot c d) one.on)) (t.down (zero_nonpositive (dot c d) one.on))
@@ -168,19 +170,11 @@ tip planes d c w one corner = go (one.only corner.g corner.g_in) (one.only corne
       towards = corner.towards;
     }
 
-    go : (corner.g ≡ c) ⊎ (dot corner.g d ≢ pos 0) → (corner.h ≡ c) ⊎ (dot corner.h d ≢ pos 0) → IsTip planes d c w
-    go (inr off) other = at corner.g corner.g_in off crossing.on_g
-    go (inl e) (inr off) = at corner.h corner.h_in off crossing.on_h
-    go (inl e) (inl f) = absurd (corner.independent ((λ i. cross (e i) (f i)) ∙ cross_self c))
-
-cross_square : (c d : V3) → dot (cross c d) (cross c d) ≡ dot c c *ℤ dot d d -ℤ dot c d *ℤ dot c d
-cross_square c d = ring (values (c ∷ d ∷ []) []) (dotE (crossE v0 v1) (crossE v0 v1)) (dotE v0 v0 ⊗ dotE v1 v1 ⊖ dotE v0 v1 ⊗ dotE v0 v1) tt
-
 pub cross_positive : (c d : V3) → c ≢ origin → d ≢ origin → dot c d ≡ pos 0 → pos 0 <ℤ dot (cross c d) (cross c d)
-cross_positive c d some_c some_d on = positive_is (dot (cross c d) (cross c d)) (dot c c *ℤ dot d d) (cross_square c d ∙ ap (λ z. dot c c *ℤ dot d d -ℤ z *ℤ z) on ∙ drop (dot c c *ℤ dot d d)) (pos_mul (dot c c) (dot d d) (some_square c some_c) (some_square d some_d))
-  where
-    drop : (a : ℤ) → a -ℤ pos 0 *ℤ pos 0 ≡ a
-    drop a = ring (a ∷ []) (at 0 ⊖ num (pos 0) ⊗ num (pos 0)) (at 0) tt
+cross_positive c d some_c some_d on =
+    positive_is (dot (cross c d) (cross c d)) (dot c c *ℤ dot d d)
+    (ring_by (values (c ∷ d ∷ []) []) (dotE (crossE v0 v1) (crossE v0 v1)) (dotE v0 v0 ⊗ dotE v1 v1) (opp (dotE v0 v1)) (dotE v0 v1) (num (pos 0)) on tt)
+    (pos_mul (dot c c) (dot d d) (some_square c some_c) (some_square d some_d))
 
 -- two vectors on the plane of c, of which the multiples by b and a reach as far along the cross product of c and d
 record AreLevel (c d : V3) (a b : ℤ) (u w : V3) : Type 0 where
@@ -222,15 +216,8 @@ left_only k a x b y r e z = ring (k ∷ a ∷ x ∷ b ∷ []) ((at 0 ⊗ at 1) �
 
 right_only : (k a x b y s q : ℤ) → k *ℤ (a *ℤ x -ℤ b *ℤ y) ≡ s *ℤ q → x ≡ pos 0 → (k *ℤ b) *ℤ y ≡ neg_ℤ s *ℤ q
 right_only k a x b y s q e z =
-    ring (k ∷ a ∷ b ∷ y ∷ []) ((at 0 ⊗ at 2) ⊗ at 3) (opp (at 0 ⊗ (at 1 ⊗ num (pos 0) ⊖ at 2 ⊗ at 3))) tt
-    ∙ ap (λ x. neg_ℤ (k *ℤ (a *ℤ x -ℤ b *ℤ y))) (sym z) ∙ ap neg_ℤ e
-    ∙ ring (s ∷ q ∷ []) (opp (at 0 ⊗ at 1)) (opp (at 0) ⊗ at 1) tt
-
-between_nonneg : (b : ℤ) → pos 0 ≤ℤ b → pos 0 ≤ℤ neg_ℤ b → b ≡ pos 0
-between_nonneg b h g = omega (arith, ints)
-
-turned_up : (a : ℤ) → a <ℤ pos 0 → pos 0 <ℤ neg_ℤ a
-turned_up a h = omega (arith, ints)
+    ring_by (k ∷ a ∷ x ∷ b ∷ y ∷ []) ((at 0 ⊗ at 3) ⊗ at 4) (opp (at 0 ⊗ (at 1 ⊗ at 2 ⊖ at 3 ⊗ at 4))) (at 0 ⊗ at 1) (at 2) (num (pos 0)) z tt
+    ∙ ap neg_ℤ e ∙ ring (s ∷ q ∷ []) (opp (at 0 ⊗ at 1)) (opp (at 0) ⊗ at 1) tt
 
 module _ (planes : List V3) (d c : V3) (axes : HoldsAxes planes) (one : IsOnOne planes d c) (some_c : c ≢ origin) where
   big_positive : pos 0 <ℤ dot (cross c d) (cross c d)
@@ -249,7 +236,7 @@ module _ (planes : List V3) (d c : V3) (axes : HoldsAxes planes) (one : IsOnOne 
       (left_only big a (dot tu.m w) b (dot tu.m u) (s *ℤ dot tu.m d) (at tu.m) tu.on_m) in
       let down : pos 0 ≤ℤ neg_ℤ s = factor_nonneg (big *ℤ b) (neg_ℤ s) (dot tw.m d) (dot tw.m u) (pos_mul big b big_positive pb) tw.off u_at.up u_at.down
       (right_only big a (dot tw.m w) b (dot tw.m u) s (dot tw.m d) (at tw.m) tw.on_m) in
-      let same = none_shared c d one.on big_positive a b u w l (between_nonneg s up down) in
+      let same = none_shared c d one.on big_positive a b u w l (zero_from_bounds s up (opposite_nonpositive_back (neg_ℤ s) s refl down)) in
       let m = as_positive a pa in
       let n = as_positive b pb in
       sym (same_primitive m.0 n.0 w u m.1 n.1 (ap (λ k. scale k w) (sym m.2) ∙ same ∙ ap (λ k. scale k u) n.2) tw.primitive tu.primitive)
@@ -262,7 +249,7 @@ module _ (planes : List V3) (d c : V3) (axes : HoldsAxes planes) (one : IsOnOne 
   same_tip_low u w tu tw nu nw =
       let a = dot (cross c d) u in
       let b = dot (cross c d) w in
-      level_tips (neg_ℤ a) (neg_ℤ b) u w tu tw (turned_up a nu) (turned_up b nw) (ring (a ∷ b ∷ []) (opp (at 0) ⊗ at 1) (opp (at 1) ⊗ at 0) tt)
+      level_tips (neg_ℤ a) (neg_ℤ b) u w tu tw (omega (arith, ints, nu)) (omega (arith, ints, nw)) (ring (a ∷ b ∷ []) (opp (at 0) ⊗ at 1) (opp (at 1) ⊗ at 0) tt)
 
   -- no end lies along d
   pub tip_aside : (w : V3) → IsTip planes d c w → dot (cross c d) w ≢ pos 0

@@ -11,7 +11,7 @@ use Rattle.staat_vec.specs.declared.vector.Sign.{Sign}
 use Rattle.staat_vec.specs.declared.vector.Sign.TheVariants.{Zero}
 use Rattle.staat_vec.specs.Vectors.{dot, cross, plus, negative, origin, sign, vector_cmp}
 use Rattle.staat_vec.specs.Primitives.{primitive}
-use Rattle.staat_vec.proofs.VecRing.{crossE, dotE, negativeE, values, v0, v1, negative_dot, dot_negative, dot_cross_left, dot_cross_right}
+use Rattle.staat_vec.proofs.VecRing.{crossE, dotE, negativeE, values, v0, v1, negative_dot, dot_negative, dot_cross_left, dot_cross_right, dot_comm}
 use Rattle.staat_vec.proofs.Order.{positive_nonneg}
 use Rattle.staat_vec.proofs.Ring.{ring}
 use Rattle.staat_model.specs.declared.tree.Kind.TheVariants.{Edge}
@@ -50,11 +50,10 @@ from_crossings g (h ∷ hs) v (suc (suc k), lt, e) = let (m, c, s) = from_crossi
 
 pub from_vertices : (gs : List V3) (v : V3) → NoneParallel gs → Contains (vertices gs) v → FromTwo gs v
 from_vertices [] v apart (k, lt, e) = absurd (omega arith)
-from_vertices (g ∷ gs) v (head, rest) has = go (Contains-append_cases (crossings g gs) (vertices gs) v has) (from_vertices gs v rest)
-  where
-    go : Contains (crossings g gs) v ⊎ Contains (vertices gs) v → (Contains (vertices gs) v → FromTwo gs v) → FromTwo (g ∷ gs) v
-    go (inl c) ih = let (h, in_gs, same) = from_crossings g gs v c in record { g = g; h = h; g_in = Contains-front g gs; h_in = Contains-there g h gs in_gs; independent = All-contains (λ h. cross g h ≢ origin) gs h head in_gs; is = same }
-    go (inr c) ih = let f = ih c in record { g = f.g; h = f.h; g_in = Contains-there g f.g gs f.g_in; h_in = Contains-there g f.h gs f.h_in; independent = f.independent; is = f.is }
+from_vertices (g ∷ gs) v (head, rest) has = elim (Contains-append_cases (crossings g gs) (vertices gs) v has) [
+  | inl c ↦ let (h, in_gs, same) = from_crossings g gs v c in record { g = g; h = h; g_in = Contains-front g gs; h_in = Contains-there g h gs in_gs; independent = All-contains (λ h. cross g h ≢ origin) gs h head in_gs; is = same }
+  | inr c ↦ let f = from_vertices gs v rest c in record { g = f.g; h = f.h; g_in = Contains-there g f.g gs f.g_in; h_in = Contains-there g f.h gs f.h_in; independent = f.independent; is = f.is }
+]
 
 -- the vertices on the border of d's cell are the crossings on no other side than d
 end_corner : (planes : List V3) (d v : V3) → NoneParallel planes → IsEnd planes (signs_of planes d) v → IsCornerTowards planes d v
@@ -69,22 +68,14 @@ corner_end planes d v c = record { vertex = in_vertices planes c.g c.h v c.g_in 
 
 pub on_one : (gs : List V3) (d : V3) → zeros (signs_of gs d) ≡ 1 → (c : V3) × Contains gs c × (dot c d ≡ pos 0) × ((g : V3) → Contains gs g → (g ≡ c) ⊎ (dot g d ≢ pos 0))
 on_one [] d e = absurd (omega (arith, e))
-on_one (h ∷ gs) d e = go (sign_zero_or (sign (dot h d))) (on_one gs d)
-  where
-    Found : List V3 → Type 0
-    Found gs = (c : V3) × Contains gs c × (dot c d ≡ pos 0) × ((g : V3) → Contains gs g → (g ≡ c) ⊎ (dot g d ≢ pos 0))
-
-    first : zeros (signs_of gs d) ≡ 0 → (g : V3) → Contains (h ∷ gs) g → (g ≡ h) ⊎ (dot g d ≢ pos 0)
-    first none g (zero, lt, p) = inl (sym p)
-    first none g (suc k, lt, p) = inr (λ z. off_all gs d none g (k, omega arith, p) (ap sign z))
-
-    later : (c : V3) → sign (dot h d) ≢ Zero → ((g : V3) → Contains gs g → (g ≡ c) ⊎ (dot g d ≢ pos 0)) → (g : V3) → Contains (h ∷ gs) g → (g ≡ c) ⊎ (dot g d ≢ pos 0)
-    later c off only g (zero, lt, p) = inr (λ z. off (ap sign (ap (λ v. dot v d) p ∙ z)))
-    later c off only g (suc k, lt, p) = only g (k, omega arith, p)
-
-    go : (sign (dot h d) ≡ Zero) ⊎ (sign (dot h d) ≢ Zero) → (zeros (signs_of gs d) ≡ 1 → Found gs) → Found (h ∷ gs)
-    go (inl z) ih = (h, Contains-front h gs, zero_sign (dot h d) z, first (omega (arith, e, zeros_on (sign (dot h d)) (signs_of gs d) z)))
-    go (inr off) ih = let (c, c_in, on, only) = ih (sym (zeros_off (sign (dot h d)) (signs_of gs d) off) ∙ e) in (c, Contains-there h c gs c_in, on, later c off only)
+on_one (h ∷ gs) d e = elim (sign_zero_or (sign (dot h d))) [
+  | inl z ↦
+      let none : zeros (signs_of gs d) ≡ 0 = omega (arith, e, zeros_on (sign (dot h d)) (signs_of gs d) z) in
+      (h, Contains-front h gs, zero_sign (dot h d) z, λ g c. ⊎_elim (λ p. inl p) (λ later. inr (λ q. off_all gs d none g later (ap sign q))) (Contains-cases h gs g c))
+  | inr off ↦
+      let (c, c_in, on, only) = on_one gs d (sym (zeros_off (sign (dot h d)) (signs_of gs d) off) ∙ e) in
+      (c, Contains-there h c gs c_in, on, λ g g_in. ⊎_elim (λ p. inr (λ q. off (ap sign (ap (λ v. dot v d) (sym p) ∙ q)))) (only g) (Contains-cases h gs g g_in))
+]
 
 -- ---- the two ends
 
@@ -110,13 +101,13 @@ module _ (planes : List V3) (d c : V3) (axes : HoldsAxes planes) (apart : NonePa
 
   -- the end on the side of c x d
   front : IsAhead planes d (cross c d)
-  front = ahead planes d c (cross c d) axes one (dot_cross_left c d) (ring (values (c ∷ d ∷ []) []) (dotE (crossE v0 v1) v1) (dotE v1 (crossE v0 v1)) tt ∙ dot_cross_right c d) square
+  front = ahead planes d c (cross c d) axes one (dot_cross_left c d) (dot_comm (cross c d) d ∙ dot_cross_right c d) square
 
   -- the end on the other side
   rear : IsAhead planes d (negative (cross c d))
   rear = ahead planes d c (negative (cross c d)) axes one
       (opposite_zero (dot c (negative (cross c d))) (dot c (cross c d)) (dot_negative c (cross c d)) (dot_cross_left c d))
-      (opposite_zero (dot (negative (cross c d)) d) (dot (cross c d) d) (negative_dot (cross c d) d) (ring (values (c ∷ d ∷ []) []) (dotE (crossE v0 v1) v1) (dotE v1 (crossE v0 v1)) tt ∙ dot_cross_right c d))
+      (opposite_zero (dot (negative (cross c d)) d) (dot (cross c d) d) (negative_dot (cross c d) d) (dot_comm (cross c d) d ∙ dot_cross_right c d))
       (subst (λ z. pos 0 <ℤ z) (ring (values (c ∷ d ∷ []) []) (dotE (crossE v0 v1) (crossE v0 v1)) (dotE (negativeE (crossE v0 v1)) (negativeE (crossE v0 v1))) tt) square)
 
   front_tip : IsTip planes d c front.v
@@ -125,20 +116,17 @@ module _ (planes : List V3) (d c : V3) (axes : HoldsAxes planes) (apart : NonePa
   rear_tip : IsTip planes d c rear.v
   rear_tip = tip planes d c rear.v one rear.corner
 
-  end_tip : (w : V3) → IsEnd planes (signs_of planes d) w → IsTip planes d c w
-  end_tip w end = tip planes d c w one (end_corner planes d w apart end)
-
-  low_side : pos 0 <ℤ dot (negative (cross c d)) rear.v → dot (cross c d) rear.v <ℤ pos 0
-  low_side h = opposite_negative_back (dot (negative (cross c d)) rear.v) (dot (cross c d) rear.v) (negative_dot (cross c d) rear.v) h
+  low_side : dot (cross c d) rear.v <ℤ pos 0
+  low_side = opposite_negative_back (dot (negative (cross c d)) rear.v) (dot (cross c d) rear.v) (negative_dot (cross c d) rear.v) rear.side
 
   -- one of the two is each end
   either_end : (w : V3) → IsEnd planes (signs_of planes d) w → (w ≡ front.v) ⊎ (w ≡ rear.v)
   either_end w end =
-      let tw = end_tip w end in
+      let tw = tip planes d c w one (end_corner planes d w apart end) in
       by_lt_z {P = (w ≡ front.v) ⊎ (w ≡ rear.v)} (pos 0) (dot (cross c d) w)
       (λ high. inl (same_tip planes d c axes one some_c w front.v tw front_tip high front.side))
       (λ not_high. by_lt_z {P = (w ≡ front.v) ⊎ (w ≡ rear.v)} (dot (cross c d) w) (pos 0)
-      (λ low. inr (same_tip_low planes d c axes one some_c w rear.v tw rear_tip low (low_side rear.side)))
+      (λ low. inr (same_tip_low planes d c axes one some_c w rear.v tw rear_tip low low_side))
       (λ not_low. absurd (tip_aside planes d c axes one some_c w tw (zero_from_bounds_down (dot (cross c d) w) not_high not_low))))
 
   -- the sum of the two lies on the edge
@@ -155,7 +143,7 @@ module _ (planes : List V3) (d c : V3) (axes : HoldsAxes planes) (apart : NonePa
       at g g_in place (inl p) q = inl p
       at g g_in place (inr z) (inl q) = inr q
       at g g_in (inl e) (inr z) (inr y) = inl (ap sign (ap (λ v. dot v front.v) e ∙ front_tip.on_c) ∙ sym (ap sign (ap (λ v. dot v d) e ∙ one.on)))
-      at g g_in (inr off) (inr z) (inr y) = absurd (not_both planes d c axes one some_c front.v rear.v g front_tip rear_tip front.side (low_side rear.side) off
+      at g g_in (inr off) (inr z) (inr y) = absurd (not_both planes d c axes one some_c front.v rear.v g front_tip rear_tip front.side low_side off
           (zero_sign (dot g front.v) z) (zero_sign (dot g rear.v) y))
 
   -- two vectors that are all ends, in this order, represent the edge by their sum
@@ -168,7 +156,7 @@ module _ (planes : List V3) (d c : V3) (axes : HoldsAxes planes) (apart : NonePa
   has_sum = by_order (vector_cmp front.v rear.v) refl
     where
       different : front.v ≡ rear.v → ⊥
-      different e = negative_nonneg_clash (dot (cross c d) rear.v) (low_side rear.side) (subst (λ v. pos 0 ≤ℤ dot (cross c d) v) e (positive_nonneg (dot (cross c d) front.v) front.side))
+      different e = negative_nonneg_clash (dot (cross c d) rear.v) low_side (subst (λ v. pos 0 ≤ℤ dot (cross c d) v) e (positive_nonneg (dot (cross c d) front.v) front.side))
 
       by_order : (o : Ordering) → vector_cmp front.v rear.v ≡ o → (e : V3) × IsEdgeSum planes (signs_of planes d) e
       by_order Less p = sum_of front.v rear.v p (corner_end planes d front.v front.corner) (corner_end planes d rear.v rear.corner) either_end

@@ -1,23 +1,19 @@
 -- There is one way to number values by first use.
-use Rattle.std.proofs.Common.{◌≡◌, ◌⊎◌, ℕ, zero, suc, ◌<◌, List, length, arith, ap, sym, ◌∙◌, inl, inr}
+use Rattle.std.proofs.Common.{◌≡◌, ℕ, zero, suc, ◌<◌, List, length, arith, ap, sym, ◌∙◌, inl, inr}
 use Rattle.std.specs.Prelude.{Some, slice_get}
 use Rattle.staat_model.specs.Certify.{NumbersByFirstUse}
 use Rattle.staat_model.proofs.Places.{one_at_place, place_within, same_places, some_at}
-use Rattle.staat_vec.proofs.Naturals.{trichotomy}
+use Rattle.staat_vec.proofs.Naturals.{lt_suc_cases, trichotomy}
 use Rattle.staat_vec.proofs.ListLaws.{place_of}
-
--- below the next number: the number itself, or below it
-next_or : (q k : ℕ) → q < suc k → (q < k) ⊎ (k ≡ q)
-next_or q k lt = grind arith
 
 -- a number below one in use was used before
 used_below : (n : ℕ) (us : List ℕ) → NumbersByFirstUse n us → (k m q : ℕ) → slice_get us m ≡ Some k → q < k → (j : ℕ) × (j < m) × (slice_get us j ≡ Some q)
 used_below n us o zero m q at lt = absurd (omega arith)
 used_below n us o (suc k) m q at lt =
     let before = o.in_order k m at in
-    elim (next_or q k lt) [
+    elim (lt_suc_cases q k lt) [
       | inl less ↦ (let earlier = used_below n us o k before.0 q before.2 less in (earlier.0, omega (arith, before.1, earlier.1), earlier.2))
-      | inr e ↦ (before.0, before.1, before.2 ∙ ap Some e)
+      | inr e ↦ (before.0, before.1, before.2 ∙ ap Some (sym e))
     ]
 
 -- no element stands at two places
@@ -55,23 +51,15 @@ module _ {X : Type 0} (us vs : List ℕ) (ws xs : List X) (lengths : length us �
   across : (i k : ℕ) → slice_get us i ≡ Some k → slice_get vs i ≡ Some k
   across i k a = let v = some_at vs i (omega (arith, place_within us i k a, lengths)) in v.1 ∙ ap Some (sym (same_below (suc i) i k v.0 (omega arith) a v.1))
 
-  back : (i k : ℕ) → slice_get vs i ≡ Some k → slice_get us i ≡ Some k
-  back i k b = let u = some_at us i (omega (arith, place_within vs i k b, lengths)) in u.1 ∙ ap Some (same_below (suc i) i u.0 k (omega arith) u.1 b)
-
-  pub same_numbers : us ≡ vs
-  same_numbers = same_places us vs across back
-
   value_across : (k : ℕ) (x : X) → slice_get ws k ≡ Some x → slice_get xs k ≡ Some x
   value_across k x at =
       let named = place_of us k (ou.used k (place_within ws k x at)) in
       let there = same named.0 k k named.1 (across named.0 k named.1) in
       there.2 ∙ ap Some (one_at_place ws k there.0 x there.1 at)
 
-  value_back : (k : ℕ) (x : X) → slice_get xs k ≡ Some x → slice_get ws k ≡ Some x
-  value_back k x at =
-      let named = place_of vs k (ov.used k (place_within xs k x at)) in
-      let there = same named.0 k k (back named.0 k named.1) named.1 in
-      there.1 ∙ ap Some (one_at_place xs k there.0 x there.2 at)
+module _ {X : Type 0} (us vs : List ℕ) (ws xs : List X) (lengths : length us ≡ length vs) (ou : NumbersByFirstUse (length ws) us) (ov : NumbersByFirstUse (length xs) vs) (dw : IsDistinct ws) (dx : IsDistinct xs) (same : StandForSame us vs ws xs) where
+  pub same_numbers : us ≡ vs
+  same_numbers = same_places us vs (across us vs ws xs lengths ou ov dw dx same) (across vs us xs ws (sym lengths) ov ou dx dw (turned us vs ws xs same))
 
   pub same_values : ws ≡ xs
-  same_values = same_places ws xs value_across value_back
+  same_values = same_places ws xs (value_across us vs ws xs lengths ou ov dw dx same) (value_across vs us xs ws (sym lengths) ov ou dx dw (turned us vs ws xs same))

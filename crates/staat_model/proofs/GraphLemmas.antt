@@ -1,5 +1,5 @@
 -- Which parts block which at a direction, and on the border of its cell.
-use Rattle.std.proofs.Common.{◌≡◌, ◌≢◌, ◌↔◌, ◌∙◌, ℕ, zero, suc, refl, sym, subst, arith, ℤ, pos, negsuc, neg_ℤ, ◌≤ℤ◌, ◌<ℤ◌, ◌⊎◌, inl, inr, ⊎_elim, List, [], ◌∷◌, All, Contains}
+use Rattle.std.proofs.Common.{◌≡◌, ◌≢◌, ◌↔◌, ◌∙◌, ℕ, zero, suc, refl, sym, subst, arith, ℤ, pos, negsuc, ◌≤ℤ◌, ◌<ℤ◌, ◌⊎◌, inl, inr, ⊎_elim, List, [], ◌∷◌, All, Contains}
 use Rattle.std.specs.Prelude.{Some, slice_get}
 use Rattle.std.proofs.lemmas.Int.{by_lt_z, ints}
 use Rattle.std.proofs.lemmas.Option.{option_and_then_some}
@@ -102,20 +102,13 @@ border_towards (g ∷ gs) d v f = let t = f g (Contains-front g gs) in (sign_tow
 
 -- the sides of a facet are those of its plane
 pub facet_towards : (d v n : V3) → IsTowards d v (canon n) → IsTowards d v n
-facet_towards d v n t = go (canon-either n)
+facet_towards d v n t = elim (canon-either n) [ inl e ↦ subst (IsTowards d v) e t | inr e ↦ opposite (subst (IsTowards d v) e t) ]
   where
-    back_up : (p q : ℤ) → p ≡ neg_ℤ q → p ≤ℤ pos 0 → pos 0 ≤ℤ q
-    back_up p q e h = omega (arith, ints)
-
     opposite : IsTowards d v (negative n) → IsTowards d v n
     opposite s = record {
-      up = λ u. back_up (dot (negative n) v) (dot n v) (negative_dot n v) (s.down (opposite_nonpositive (dot (negative n) d) (dot n d) (negative_dot n d) u));
+      up = λ u. let low = s.down (opposite_nonpositive (dot (negative n) d) (dot n d) (negative_dot n d) u) in omega (arith, ints, low, negative_dot n v);
       down = λ u. opposite_nonpositive_back (dot (negative n) v) (dot n v) (negative_dot n v) (s.up (opposite_nonneg (dot (negative n) d) (dot n d) (negative_dot n d) u));
     }
-
-    go : (canon n ≡ n) ⊎ (canon n ≡ negative n) → IsTowards d v n
-    go (inl e) = subst (IsTowards d v) e t
-    go (inr e) = opposite (subst (IsTowards d v) e t)
 
 -- ---- the graph on the border of a cell
 

@@ -1,37 +1,24 @@
 -- Nodes that stay whole are held together along each direction, where a core does so at each vertex of its planes.
-use Rattle.std.proofs.Common.{◌≡◌, ◌≢◌, ℕ, zero, suc, ◌≤◌, ◌<◌, refl, sym, subst, ◌∙◌, arith}
-use Rattle.std.proofs.Common.{inl, inr, List, [], ◌∷◌, All, Contains, pos}
+use Rattle.std.proofs.Common.{◌≡◌, ℕ, zero, suc, ◌≤◌, ◌<◌, refl, sym, subst, ◌∙◌, arith, inl, inr, List, [], ◌∷◌, All, Contains}
 use Rattle.std.specs.FinSet as set
 use Rattle.staat_vec.specs.declared.vector.V3.{V3}
-use Rattle.staat_vec.specs.Vectors.{dot, origin}
 use Rattle.staat_model.specs.declared.assembly.Part.{Part}
 use Rattle.staat_model.specs.declared.set.PartSet.{PartSet}
 use Rattle.staat_model.specs.declared.certificate.Arc.{Arc}
 use Rattle.staat_model.specs.Assemblies.{IsPart}
 use Rattle.staat_model.specs.Cores.{HasCorePlanes}
-use Rattle.staat_model.specs.Groups.{AreNodes, HoldsNodes, HoldsNodesAtCrossings, HoldsNodesAtVertices}
-use Rattle.staat_model.specs.Groups.{IsNode, KeepsWhole}
-use Rattle.staat_model.specs.Outcomes.{Serves}
+use Rattle.staat_model.specs.Groups.{AreNodes, HoldsNodesAtVertices, IsNode, KeepsWhole}
 use Rattle.staat_model.specs.Plans.{IsStuck}
 use Rattle.staat_model.specs.Removal.{IsFree}
 use Rattle.staat_model.specs.SetLists.{union_of}
 use Rattle.staat_model.specs.Sets.{Has, IsNonempty, IsSubset, single}
-use Rattle.staat_model.proofs.CoreLemmas.{free_at_crossing_lemma, free_at_vertex_lemma}
+use Rattle.staat_model.proofs.CoreLemmas.{free_at_vertex_lemma}
 use Rattle.staat_model.proofs.WholeLemmas.{left_within, moves_whole_lemma, right_within}
 use Rattle.staat_model.proofs.RestrictLemmas.{nonempty_or}
 use Rattle.staat_model.proofs.SetMembers.{has-single}
 use Rattle.staat_model.proofs.SetSizes.{len_below, many}
 use Rattle.staat_vec.proofs.Unique.{Contains-front}
 use Rattle.staat_vec.proofs.ListLaws.{Contains-there}
-
--- ---- the nodes at each direction
-
-pub nodes_hold_lemma : (parts : List Part) (core : List Arc) (nodes : List PartSet) (planes : List V3) (d : V3)
-    → All IsPart parts → HasCorePlanes parts core planes → HoldsNodesAtVertices parts core nodes planes
-    → d ≢ origin → HoldsNodes parts core nodes d
-nodes_hold_lemma parts core nodes planes d sound has at_vertices some = λ s side whole free.
-    let at = free_at_vertex_lemma parts core planes s (set.difference (union_of nodes) s) d sound has some free in
-    at_vertices at.v at.vertex s side whole at.free
 
 -- ---- all nodes together
 
@@ -44,7 +31,7 @@ within_union (s ∷ rest) t (suc k, lt, e) = λ p h.
     right_within s (union_of rest) p (within_union rest t (k, omega arith, e) p h)
 
 -- a side that is free along some direction keeps each node whole
-free_keeps_whole : (parts : List Part) (nodes : List PartSet) (s : PartSet) (d : V3)
+pub free_keeps_whole : (parts : List Part) (nodes : List PartSet) (s : PartSet) (d : V3)
     → ((t : PartSet) → Contains nodes t → IsNode parts t)
     → IsFree parts s (set.difference (union_of nodes) s) d → KeepsWhole nodes s
 free_keeps_whole parts nodes s d each free t t_in p q p_in q_in moved = go (each t t_in)
@@ -73,12 +60,11 @@ two_parts parts (s ∷ t ∷ rest) are =
     let nodes : List PartSet = s ∷ t ∷ rest in
     let s_in : Contains nodes s = Contains-front s (t ∷ rest) in
     let t_in : Contains nodes t = Contains-there s t (t ∷ rest) (Contains-front t rest) in
-    let apart = are.apart in
     let (p, p_in) = node_nonempty parts s (are.each s s_in) in
     let (q, q_in) = node_nonempty parts t (are.each t t_in) in
     let other : IsSubset (union_of nodes) (single p) → ⊥ = λ one.
     let same : q ≡ p = (has-single p q).0 (one q (within_union nodes t t_in q q_in)) in
-    apart.0 t (Contains-front t rest) p p_in (subst (Has t) same q_in) in
+    are.apart.0 t (Contains-front t rest) p p_in (subst (Has t) same q_in) in
     let more : 1 < set.len (union_of nodes) = many (union_of nodes) p (within_union nodes s s_in p p_in) other in
     omega (arith, more)
 two_parts parts nodes are = let two = are.two in absurd (omega (arith, two))
@@ -89,26 +75,6 @@ pub nodes_stuck_lemma : (parts : List Part) (core : List Arc) (nodes : List Part
 nodes_stuck_lemma parts core nodes planes sound are has at_vertices = record {
   two = two_parts parts nodes are;
   held = λ s d side free.
-      let held = nodes_hold_lemma parts core nodes planes d sound has at_vertices free.moves in
-      let whole = free_keeps_whole parts nodes s d are.each free in
-      held s side whole (λ arc listed. free.clear arc);
+      let at = free_at_vertex_lemma parts core planes s (set.difference (union_of nodes) s) d sound has free.moves (λ arc listed. free.clear arc) in
+      at_vertices at.v at.vertex s side (free_keeps_whole parts nodes s d are.each free) at.free;
 }
-
--- ---- on a plane
-
-pub nodes_on_plane_lemma : (parts : List Part) (core : List Arc) (nodes : List PartSet) (planes : List V3) (g d : V3)
-    → All IsPart parts → HasCorePlanes parts core planes → g ≢ origin
-    → HoldsNodesAtCrossings parts core nodes g planes → d ≢ origin → dot g d ≡ pos 0 → HoldsNodes parts core nodes d
-nodes_on_plane_lemma parts core nodes planes g d sound has g_some at_crossings some on = λ s side whole free.
-    let r = set.difference (union_of nodes) s in
-    let at = free_at_crossing_lemma parts core planes g s r d sound has g_some some on free in
-    at_crossings at.v at.crossing s side whole at.free
-
-pub nodes_none_lemma : (parts : List Part) (core : List Arc) (nodes : List PartSet) (planes : List V3) (g d : V3)
-    → All IsPart parts → AreNodes parts nodes → HasCorePlanes parts core planes → g ≢ origin
-    → HoldsNodesAtCrossings parts core nodes g planes → dot g d ≡ pos 0 → Serves parts (union_of nodes) d → ⊥
-nodes_none_lemma parts core nodes planes g d sound are has g_some at_crossings on serves =
-    let free = serves.free in
-    let whole = free_keeps_whole parts nodes serves.side d are.each free in
-    let held = nodes_on_plane_lemma parts core nodes planes g d sound has g_some at_crossings free.moves on in
-    held serves.side serves.is_side whole (λ arc listed. free.clear arc)

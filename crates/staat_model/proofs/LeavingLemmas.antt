@@ -4,10 +4,9 @@ use Rattle.std.specs.FinSet as set
 use Rattle.staat_vec.specs.declared.vector.V3.{V3}
 use Rattle.staat_model.specs.declared.assembly.Part.{Part}
 use Rattle.staat_model.specs.declared.set.PartSet.{PartSet}
-use Rattle.staat_model.specs.declared.certificate.Arc.{Arc}
 use Rattle.staat_model.specs.Leaving.{AreGoodPlans, IsLeavingOrder, LeaveInTurn, in_turn}
 use Rattle.staat_model.specs.Plans.{IsGood, Plan, leaf, parts_of, split}
-use Rattle.staat_model.specs.Removal.{IsFree, MeetsAlong}
+use Rattle.staat_model.specs.Removal.{IsFree}
 use Rattle.staat_model.specs.SetLists.{union_of}
 use Rattle.staat_model.specs.Sets.{AreApart, Has}
 use Rattle.staat_model.proofs.SetMembers.{has-empty, has-union}
@@ -27,32 +26,25 @@ in_one (s ∷ rest) p h = ⊎_elim
 
 later : (parts : List Part) (d : V3) (s : PartSet) (rest : List PartSet) → IsLeavingOrder parts d (s ∷ rest)
     → IsLeavingOrder parts d rest
-later parts d s rest is =
-    let apart = is.apart in
-    let order = is.order in
-    record { moves = is.moves; apart = apart.1; order = order.1 }
+later parts d s rest is = record { moves = is.moves; apart = is.apart.1; order = is.order.1 }
 
 first_apart : (parts : List Part) (d : V3) (s : PartSet) (rest : List PartSet) → IsLeavingOrder parts d (s ∷ rest)
     → AreApart s (union_of rest)
-first_apart parts d s rest is p in_s h =
-    let apart = is.apart in
-    let (t, t_in, has) = in_one rest p h in
-    apart.0 t t_in p in_s has
+first_apart parts d s rest is p in_s h = let (t, t_in, has) = in_one rest p h in is.apart.0 t t_in p in_s has
 
 first_free : (parts : List Part) (d : V3) (s : PartSet) (rest : List PartSet) → IsLeavingOrder parts d (s ∷ rest)
     → IsFree parts s (union_of rest) d
-first_free parts d s rest is = record { moves = is.moves; clear = clear }
-  where
-    clear : (arc : Arc) → Has s arc.a → Has (union_of rest) arc.b → MeetsAlong parts d arc → ⊥
-    clear arc a_in b_in m =
-        let order = is.order in
-        let (t, t_in, has) = in_one rest arc.b b_in in
-        order.0 t t_in arc.a arc.b a_in has (record {
-          i = arc.i;
-          j = arc.j;
-          different = λ e. first_apart parts d s rest is arc.a a_in (subst (Has (union_of rest)) (sym e) b_in);
-          meets = m;
-        })
+first_free parts d s rest is = record {
+  moves = is.moves;
+  clear = λ arc a_in b_in m.
+      let (t, t_in, has) = in_one rest arc.b b_in in
+      is.order.0 t t_in arc.a arc.b a_in has (record {
+        i = arc.i;
+        j = arc.j;
+        different = λ e. first_apart parts d s rest is arc.a a_in (subst (Has (union_of rest)) (sym e) b_in);
+        meets = m;
+      });
+}
 
 pub leave_in_turn_lemma : (parts : List Part) (d : V3) (sets : List PartSet) → IsLeavingOrder parts d sets
     → LeaveInTurn parts d sets

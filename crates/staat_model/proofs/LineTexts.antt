@@ -38,8 +38,6 @@ tails_of x p q e = cc
 -- the numbers are known by their text
 pub spaced_same : (ys zs : List ℤ) → All IsSmall ys → All IsSmall zs → spaced ys ≡ spaced zs → ys ≡ zs
 spaced_same [] [] a b e = refl
-spaced_same [] (z ∷ zs) a b e = cc
-spaced_same (y ∷ ys) [] a b e = cc
 spaced_same (y ∷ ys) (z ∷ zs) a b e =
     let sy = All-head IsSmall y ys a in
     let sz = All-head IsSmall z zs b in
@@ -47,6 +45,7 @@ spaced_same (y ∷ ys) (z ∷ zs) a b e =
     let front : y ≡ z = signed_same y z sy sz cuts.0 in
     let rest : ys ≡ zs = spaced_same ys zs (All-tail IsSmall y ys a) (All-tail IsSmall z zs b) cuts.1 in
     λ i. front i ∷ rest i
+spaced_same ys zs a b e = absurd cc
 
 -- ---- a line from its word and its numbers
 
@@ -217,12 +216,13 @@ pub line_is : (l : Line) → line_text l ≡ line_front l ++ 10 ∷ []
 unfolding line_front
 line_is l = ap (λ t. word_of l ++ t) (spaced_bare (numbers_in l)) ∙ sym (append_assoc (word_of l) (bare (numbers_in l)) (10 ∷ []))
 
-line_no_feed : (l : Line) → IsInBounds l → HasNoFeed (line_front l)
-unfolding line_front
-line_no_feed l h = All-append (λ b. b ≢ 10) (word_of l) (bare (numbers_in l)) (plain_no_feed (word_of l) (word_plain l)) (bare_no_feed (numbers_in l) (numbers_small l h))
-
 pub line_whole : (l : Line) → IsInBounds l → IsLine (line_text l)
-line_whole l h = record { front = line_front l; is = line_is l; no_feed = line_no_feed l h }
+unfolding line_front
+line_whole l h = record {
+  front = line_front l;
+  is = line_is l;
+  no_feed = All-append (λ b. b ≢ 10) (word_of l) (bare (numbers_in l)) (plain_no_feed (word_of l) (word_plain l)) (bare_no_feed (numbers_in l) (numbers_small l h));
+}
 
 -- ---- lengths
 

@@ -1,9 +1,10 @@
 -- Where each direction of a version has a line, each vertex is listed.
-use Rattle.std.proofs.Common.{◌≡◌, ◌≢◌, ◌⊎◌, ℕ, arith, ap, subst, ◌∙◌, inl, inr, ⊎_elim, List, All, Contains}
+use Rattle.std.proofs.Common.{◌≡◌, ◌≢◌, ◌⊎◌, ℕ, ap, subst, ◌∙◌, inl, inr, ⊎_elim, List, All, Contains}
 use Rattle.staat_vec.specs.declared.vector.V3.{V3}
 use Rattle.staat_vec.specs.Primitives.{IsCanon}
 use Rattle.staat_vec.specs.Vectors.{cross, negative, origin}
 use Rattle.staat_vec.proofs.Canons.{IsCanon-canon, canon-either, negative-negative}
+use Rattle.staat_vec.proofs.Naturals.{same_or}
 use Rattle.staat_vec.proofs.Primitives.{IsPrimitive-some, primitive-is}
 use Rattle.staat_model.specs.declared.certificate.Dir.{Dir}
 use Rattle.staat_model.specs.Certificates.{HasLine, IsListed}
@@ -26,9 +27,6 @@ opposite_vertex planes v apart c =
     let f = from_vertices planes v apart c in
     in_vertices planes f.g f.h (negative v) f.g_in f.h_in f.independent (⊎_elim {C = (negative v ≡ _) ⊎ (negative v ≡ negative _)} (λ e. inr (ap negative e)) (λ e. inl (ap negative e ∙ negative-negative _)) f.is)
 
-two_or : (version : ℕ) → (version ≡ 2) ⊎ (version ≢ 2)
-two_or version = grind arith
-
 one_canonical : (v : V3) → v ≢ origin → IsCanon v ⊎ IsCanon (negative v)
 one_canonical v some = ⊎_elim (λ e. inl (subst (λ w. IsCanon w) e (IsCanon-canon v some))) (λ e. inr (subst (λ w. IsCanon w) e (IsCanon-canon v some))) (canon-either v)
 
@@ -40,4 +38,4 @@ all_listed version planes dirs apart lines = All-from_members (IsListed version 
     (λ opposite. inr (two, lines (negative v) (record { vertex = opposite_vertex planes v apart c; canonical = λ e. opposite })))
     (one_canonical v (vertex_some planes v apart c)))
     (λ other. inl (lines v (record { vertex = c; canonical = λ e. absurd (other e) })))
-    (two_or version))
+    (same_or version 2))

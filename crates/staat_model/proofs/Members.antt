@@ -30,14 +30,13 @@ all_back P (x ∷ xs) ys h = all_back P xs ys (All-tail P x (xs ++ ys) h)
 pub known_by : {X Y : Type 0} (f : X → Y) (P : X → Type 0) → ((x y : X) → f x ≡ f y → P x → P y → x ≡ y)
     → (xs ys : List X) → map f xs ≡ map f ys → All P xs → All P ys → xs ≡ ys
 known_by f P one [] [] e g h = refl
-known_by f P one [] (y ∷ ys) e g h = absurd cc
-known_by f P one (x ∷ xs) [] e g h = absurd cc
 known_by f P one (x ∷ xs) (y ∷ ys) e g h =
     let heads : f x ≡ f y = cc in
     let tails : map f xs ≡ map f ys = cc in
     let front : x ≡ y = one x y heads (All-head P x xs g) (All-head P y ys h) in
     let rest : xs ≡ ys = known_by f P one xs ys tails (All-tail P x xs g) (All-tail P y ys h) in
     λ i. front i ∷ rest i
+known_by f P one xs ys e g h = absurd cc
 
 -- a member's part of a sum is at most the whole
 pub member_le : {X : Type 0} (f : X → ℕ) (xs : List X) (x : X) → Contains xs x → f x ≤ sum_by f xs

@@ -11,14 +11,13 @@ use Rattle.staat_model.specs.declared.set.PartSet.{PartSet}
 use Rattle.staat_model.specs.declared.certificate.Arc.{Arc}
 use Rattle.staat_model.specs.declared.certificate.Sep.{Sep}
 use Rattle.staat_model.specs.declared.certificate.Dir.{Dir}
-use Rattle.staat_model.specs.declared.certificate.Node.{Node}
 use Rattle.staat_model.specs.declared.certificate.Witness.{Witness}
 use Rattle.staat_model.specs.declared.certificate.Body.{Body}
 use Rattle.staat_model.specs.declared.certificate.Body.TheVariants as body
 use Rattle.staat_model.specs.declared.certificate.Certificate.{Certificate}
 use Rattle.staat_model.specs.Bridges.{IsNextBridge, IsTree}
 use Rattle.staat_model.specs.Certificates.{WalledPlan, walled_leaf, walled_split, nodes_of, unwalled, walled_parts, arc_cmp, inward, outward, IsAcross}
-use Rattle.staat_model.specs.Certify.{IsFacetAway, AreLeastWalls, HasLeastWalls, ArePlanNodes, IsLeastArc, IsWitnessAt, NamesWitness, IsDirection, IsRefusalOf, IsBodyOf, IsCertificateOf}
+use Rattle.staat_model.specs.Certify.{IsFacetAway, AreLeastWalls, HasLeastWalls, IsLeastArc, IsWitnessAt, NamesWitness, IsDirection, IsRefusalOf, IsBodyOf, IsCertificateOf}
 use Rattle.staat_vec.specs.Lists.{IsLeast}
 use Rattle.staat_vec.specs.Lists as lists
 use Rattle.staat_model.specs.Outcomes.{Finding, planned, stuck}
@@ -47,8 +46,6 @@ walls_unique parts s r d xs ys a b =
 
 walled_unique : (parts : List Part) (t u : WalledPlan) → unwalled t ≡ unwalled u → HasLeastWalls parts t → HasLeastWalls parts u → t ≡ u
 walled_unique parts (walled_leaf p) (walled_leaf q) e f g = let same : p ≡ q = cc in ap walled_leaf same
-walled_unique parts (walled_leaf p) (walled_split d xs m r) e f g = absurd cc
-walled_unique parts (walled_split d xs m r) (walled_leaf p) e f g = absurd cc
 walled_unique parts (walled_split d xs m r) (walled_split d' ys m' r') e f g =
     let ds : d ≡ d' = cc in
     let moved : unwalled m ≡ unwalled m' = cc in
@@ -61,9 +58,7 @@ walled_unique parts (walled_split d xs m r) (walled_split d' ys m' r') e f g =
     let m_is : m ≡ m' = walled_unique parts m m' moved f.1 g.1 in
     let r_is : r ≡ r' = walled_unique parts r r' rest f.2 g.2 in
     λ i. walled_split (ds i) (seps i) (m_is i) (r_is i)
-
-plan_nodes_unique : (parts : List Part) (plan : Plan) (xs ys : List Node) → ArePlanNodes parts plan xs → ArePlanNodes parts plan ys → xs ≡ ys
-plan_nodes_unique parts plan xs ys a b = a.nodes_are ∙ ap nodes_of (walled_unique parts a.tree b.tree (a.plan_is ∙ sym b.plan_is) a.walls b.walls) ∙ sym b.nodes_are
+walled_unique parts t u e f g = absurd cc
 
 -- ---- trees of bridges
 
@@ -114,8 +109,6 @@ witness_unique parts w d x y a b =
 
 dirs_same : (xs ys : List Dir) → map (λ dir. dir.d) xs ≡ map (λ dir. dir.d) ys → map (λ dir. dir.witness) xs ≡ map (λ dir. dir.witness) ys → xs ≡ ys
 dirs_same [] [] e f = refl
-dirs_same [] (y ∷ ys) e f = absurd cc
-dirs_same (x ∷ xs) [] e f = absurd cc
 dirs_same (x ∷ xs) (y ∷ ys) e f =
     let ds : x.d ≡ y.d = cc in
     let ws : x.witness ≡ y.witness = cc in
@@ -123,6 +116,7 @@ dirs_same (x ∷ xs) (y ∷ ys) e f =
     let rest_w : map (λ dir. dir.witness) xs ≡ map (λ dir. dir.witness) ys = cc in
     let rest : xs ≡ ys = dirs_same xs ys rest_d rest_w in
     λ i. record { d = ds i; witness = ws i } ∷ rest i
+dirs_same xs ys e f = absurd cc
 
 refusal_unique : (parts : List Part) (version : ℕ) (w : PartSet) (ws xs : List Witness) (ds es : List Dir) → IsRefusalOf parts version w ws ds → IsRefusalOf parts version w xs es → (ws ≡ xs) × (ds ≡ es)
 refusal_unique parts version w ws xs ds es a b =
@@ -144,7 +138,7 @@ refusal_unique parts version w ws xs ds es a b =
 -- ---- certificates
 
 body_unique : (parts : List Part) (version : ℕ) (f : Finding) (b c : Body) → IsBodyOf parts version f b → IsBodyOf parts version f c → b ≡ c
-body_unique parts version (planned plan marks) (body.Plan xs) (body.Plan ys) g h = ap body.Plan (plan_nodes_unique parts plan xs ys g h)
+body_unique parts version (planned plan marks) (body.Plan xs) (body.Plan ys) g h = ap body.Plan (g.nodes_are ∙ ap nodes_of (walled_unique parts g.tree h.tree (g.plan_is ∙ sym h.plan_is) g.walls h.walls) ∙ sym h.nodes_are)
 body_unique parts version (planned plan marks) (body.Plan xs) (body.Stuck w ws ds) g h = absurd h
 body_unique parts version (planned plan marks) (body.Stuck w ws ds) c g h = absurd g
 body_unique parts version (stuck v) (body.Plan xs) c g h = absurd g

@@ -1,12 +1,13 @@
 -- Bytes have one reading at most: one certificate, or one first bad line, or neither.
-use Rattle.std.proofs.Common.{◌≡◌, ◌≢◌, ◌⊎◌, ℕ, suc, ◌+◌, ◌<◌, List, [], ◌∷◌, ◌++◌, map, length, All, ap, sym, subst, refl, ◌∙◌, arith, inl, inr, append_assoc, append-nil}
+use Rattle.std.proofs.Common.{◌≡◌, ◌≢◌, ◌⊎◌, ℕ, ◌+◌, ◌<◌, List, [], ◌∷◌, ◌++◌, map, length, All, ap, sym, subst, refl, ◌∙◌, arith, inl, inr, append_assoc, append-nil}
 use Rattle.std.specs.Prelude.{flat_map}
+use Rattle.std.proofs.lemmas.List.{length-map}
 use Rattle.std.proofs.lemmas.Grind.{flat_map-append}
 use Rattle.std.proofs.lemmas.List.Elements.{All-head, All-tail}
 use Rattle.staat_model.specs.declared.certificate.Certificate.{Certificate}
 use Rattle.staat_model.specs.declared.line.Line.{Line}
 use Rattle.staat_model.specs.Lines.{IsInBounds, line_text}
-use Rattle.staat_model.specs.Texts.{lines_of, text_of, IsTextOf, IsWellFormed, BeginsText, HasNoFeed, IsLine, joined, IsBadAfter, IsFirstBadLine, Reading, whole, bad_line, too_short, IsReading}
+use Rattle.staat_model.specs.Texts.{lines_of, text_of, IsTextOf, IsWellFormed, HasNoFeed, IsLine, joined, IsBadAfter, IsFirstBadLine, Reading, whole, bad_line, too_short, IsReading}
 use Rattle.staat_model.proofs.CertificateLines.{lines_end, one_by_lines}
 use Rattle.staat_model.proofs.LineTexts.{line_front, line_is, line_length, line_whole, one_line, tails_of}
 use Rattle.staat_model.proofs.Members.{all_back, all_front, cut_once}
@@ -20,11 +21,8 @@ text ls = flat_map line_text ls
 -- the bytes before the first line feed are the only ones
 pub first_line : (xs ys p q : List ℕ) → HasNoFeed xs → HasNoFeed ys → xs ++ 10 ∷ p ≡ ys ++ 10 ∷ q → (xs ≡ ys) × (p ≡ q)
 first_line xs ys p q a b e =
-    let cuts = cut_once (λ b. b ≢ 10) (λ l. (t : List ℕ) × (l ≡ 10 ∷ t)) (λ b t feed other. other (let same : b ≡ 10 = first_of feed.1 in same)) xs ys (10 ∷ p) (10 ∷ q) a b (p, refl) (q, refl) e in
+    let cuts = cut_once (λ b. b ≢ 10) (λ l. (t : List ℕ) × (l ≡ 10 ∷ t)) (λ b t feed other. other (let first = feed.1 in let same : b ≡ 10 = cc in same)) xs ys (10 ∷ p) (10 ∷ q) a b (p, refl) (q, refl) e in
     (cuts.0, tails_of 10 p q cuts.1)
-  where
-    first_of : {b : ℕ} {t u : List ℕ} → b ∷ t ≡ 10 ∷ u → b ≡ 10
-    first_of h = cc
 
 pub with_feed : (front p : List ℕ) → (front ++ 10 ∷ []) ++ p ≡ front ++ 10 ∷ p
 with_feed front p = append_assoc front (10 ∷ []) p
@@ -102,26 +100,17 @@ pub record AreLines (ls : List (List ℕ)) (all : List Line) : Type 0 where
   pub is : all ≡ front ++ back
   pub lines : ls ≡ map line_text front
 
-lines_more : (l : List ℕ) (ls : List (List ℕ)) (m : Line) (ms : List Line) → l ≡ line_text m → AreLines ls ms → AreLines (l ∷ ls) (m ∷ ms)
-lines_more l ls m ms e f = record { front = m ∷ f.front; back = f.back; is = ap (λ x. m ∷ x) f.is; lines = λ i. e i ∷ f.lines i }
-
 pub begin_lines : (ls : List (List ℕ)) (ms : List Line) (more : List ℕ) → All IsLine ls → All IsInBounds ms → joined ls ++ more ≡ text ms → AreLines ls ms
 begin_lines [] ms more a b e = record { front = []; back = ms; is = refl; lines = refl }
 begin_lines (l ∷ ls) [] more a b e = absurd (line_some l (joined ls ++ more) (All-head IsLine l ls a) (sym (append_assoc l (joined ls) more) ∙ e))
 begin_lines (l ∷ ls) (m ∷ ms) more a b e =
     let once = lines_once l (line_text m) (joined ls ++ more) (text ms) (All-head IsLine l ls a) (line_whole m (All-head IsInBounds m ms b)) (sym (append_assoc l (joined ls) more) ∙ e) in
-    lines_more l ls m ms once.0 (begin_lines ls ms more (All-tail IsLine l ls a) (All-tail IsInBounds m ms b) once.1)
-
-pub begun : (ls : List (List ℕ)) → All IsLine ls → (h : BeginsText (joined ls)) → AreLines ls (lines_of h.certificate)
-begun ls a h = begin_lines ls (lines_of h.certificate) h.more a h.form.lines (sym h.is)
+    let rest = begin_lines ls ms more (All-tail IsLine l ls a) (All-tail IsInBounds m ms b) once.1 in
+    record { front = m ∷ rest.front; back = rest.back; is = ap (λ x. m ∷ x) rest.is; lines = λ i. once.0 i ∷ rest.lines i }
 
 pub texts_joined : (ls : List Line) → joined (map line_text ls) ≡ text ls
 texts_joined [] = refl
 texts_joined (l ∷ ls) = ap (λ t. line_text l ++ t) (texts_joined ls)
-
-pub texts_count : (ls : List Line) → length (map line_text ls) ≡ length ls
-texts_count [] = refl
-texts_count (l ∷ ls) = ap suc (texts_count ls)
 
 -- where a certificate has the line l after these, and the bytes ahead begin with it, no bad line follows
 pub not_bad : (c : Certificate) (few : List Line) (l : Line) (back : List Line) (ahead rest : List ℕ) → IsWellFormed c → lines_of c ≡ few ++ l ∷ back → ahead ≡ line_text l ++ rest → IsBadAfter (text few) ahead → ⊥
@@ -156,17 +145,18 @@ pub record Before (bytes : List ℕ) (k : ℕ) : Type 0 where
 
 pub before : (bytes : List ℕ) (k : ℕ) → IsFirstBadLine bytes k → Before bytes k
 before bytes k h =
-    let a = begun h.before h.lines h.begins in
+    let b = h.begins in
+    let a = begin_lines h.before (lines_of b.certificate) b.more h.lines b.form.lines (sym b.is) in
     let same : joined h.before ≡ text a.front = ap joined a.lines ∙ texts_joined a.front in
     record {
-      certificate = h.begins.certificate;
-      form = h.begins.form;
+      certificate = b.certificate;
+      form = b.form;
       front = a.front;
       back = a.back;
       is = a.is;
       ahead = h.ahead;
       bytes_are = h.is ∙ ap (λ t. t ++ h.ahead) same;
-      number = h.number ∙ ap (λ n. n + 1) (ap length a.lines ∙ texts_count a.front);
+      number = h.number ∙ ap (λ n. n + 1) (ap length a.lines ∙ length-map a.front line_text);
       bad = subst (λ (t : List ℕ). IsBadAfter t h.ahead) same h.bad;
     }
 
@@ -174,8 +164,8 @@ pub front_bounds : (bytes : List ℕ) (k : ℕ) (b : Before bytes k) → All IsI
 front_bounds bytes k b = all_front IsInBounds b.front b.back (subst (All IsInBounds) b.is b.form.lines)
 
 -- a bad line after fewer lines of the same bytes
-earlier : (few many back : List Line) (c : Certificate) (behind : List Line) (ahead rest : List ℕ) → IsWellFormed c → lines_of c ≡ many ++ behind → IsBadAfter (text few) ahead → many ≡ few ++ back → ahead ≡ text back ++ rest → length few ≡ length many
-earlier few many [] c behind ahead rest form is bad e a = sym (ap length (e ∙ append-nil few))
+earlier : (few many back : List Line) (c : Certificate) (behind : List Line) (ahead rest : List ℕ) → IsWellFormed c → lines_of c ≡ many ++ behind → IsBadAfter (text few) ahead → many ≡ few ++ back → ahead ≡ text back ++ rest → (few ≡ many) × (ahead ≡ rest)
+earlier few many [] c behind ahead rest form is bad e a = (sym (e ∙ append-nil few), a)
 earlier few many (l ∷ back) c behind ahead rest form is bad e a =
     absurd (not_bad c few l (back ++ behind) ahead (text back ++ rest) form (is ∙ ap (λ ls. ls ++ behind) e ∙ append_assoc few (l ∷ back) behind) (a ∙ append_assoc (line_text l) (text back) rest) bad)
 
@@ -183,11 +173,11 @@ pub one_bad_line : (bytes : List ℕ) (j k : ℕ) → IsFirstBadLine bytes j →
 one_bad_line bytes j k x y =
     let a = before bytes j x in
     let b = before bytes k y in
-    let counts : length a.front ≡ length b.front = elim (nested a.front b.front a.ahead b.ahead (front_bounds bytes j a) (front_bounds bytes k b) (sym a.bytes_are ∙ b.bytes_are)) [
-      | inl g ↦ earlier a.front b.front g.back b.certificate b.back a.ahead b.ahead b.form b.is a.bad g.is g.ahead_is
-      | inr g ↦ sym (earlier b.front a.front g.back a.certificate a.back b.ahead a.ahead a.form a.is b.bad g.is g.ahead_is)
+    let same : a.front ≡ b.front = elim (nested a.front b.front a.ahead b.ahead (front_bounds bytes j a) (front_bounds bytes k b) (sym a.bytes_are ∙ b.bytes_are)) [
+      | inl g ↦ (earlier a.front b.front g.back b.certificate b.back a.ahead b.ahead b.form b.is a.bad g.is g.ahead_is).0
+      | inr g ↦ sym (earlier b.front a.front g.back a.certificate a.back b.ahead a.ahead a.form a.is b.bad g.is g.ahead_is).0
     ] in
-    omega (arith, a.number, b.number)
+    omega (arith, a.number, b.number, ap length same)
 
 -- nothing follows: no line is bad
 nothing_bad : (c : Certificate) (ahead : List ℕ) → ahead ≡ [] → IsBadAfter (text_of c) ahead → ⊥
@@ -199,14 +189,11 @@ pub no_bad_line_in_text : (bytes : List ℕ) (c : Certificate) (k : ℕ) → IsT
 no_bad_line_in_text bytes c k t x =
     let b = before bytes k x in
     elim (nested b.front (lines_of c) b.ahead [] (front_bounds bytes k b) t.form.lines (sym b.bytes_are ∙ t.is ∙ sym (append-nil (text_of c)))) [
-      | inl g ↦ shorter b.front g.back b.ahead b.bad g.is g.ahead_is
+      | inl g ↦ (let same = earlier b.front (lines_of c) g.back c [] b.ahead [] t.form (sym (append-nil (lines_of c))) b.bad g.is g.ahead_is in
+          nothing_bad c b.ahead same.1 (subst (λ (ls : List Line). IsBadAfter (text ls) b.ahead) same.0 b.bad))
       | inr g ↦ longer b.front g.back b.back b.certificate b.ahead b.bad b.is g.is g.ahead_is
     ]
   where
-    shorter : (front back : List Line) (ahead : List ℕ) → IsBadAfter (text front) ahead → lines_of c ≡ front ++ back → ahead ≡ text back ++ [] → ⊥
-    shorter front [] ahead bad is a = nothing_bad c ahead a (subst (λ (ls : List Line). IsBadAfter (text ls) ahead) (sym (is ∙ append-nil front)) bad)
-    shorter front (l ∷ back) ahead bad is a = not_bad c front l back ahead (text back ++ []) t.form is (a ∙ append_assoc (line_text l) (text back) []) bad
-
     longer : (front back behind : List Line) (d : Certificate) (ahead : List ℕ) → IsBadAfter (text front) ahead → lines_of d ≡ front ++ behind → front ≡ lines_of c ++ back → [] ≡ text back ++ ahead → ⊥
     longer front [] behind d ahead bad is e a = nothing_bad c ahead (sym a) (subst (λ (ls : List Line). IsBadAfter (text ls) ahead) (e ∙ append-nil (lines_of c)) bad)
     longer front (l ∷ back) behind d ahead bad is e a = lines_end c d l (back ++ behind) (is ∙ ap (λ ls. ls ++ behind) e ∙ append_assoc (lines_of c) (l ∷ back) behind)

@@ -19,11 +19,11 @@ use Rattle.staat_model.specs.declared.verdict.Verdict.{Verdict}
 use Rattle.staat_model.specs.declared.verdict.Verdict.TheVariants.{ValidPlan, ValidRefusal, Not}
 use Rattle.staat_model.specs.declared.verdict.Reason.{Reason}
 use Rattle.staat_model.specs.declared.verdict.Reason.TheVariants.{BadLeaves, BadSeparator, MissingSeparator, BadArc, BadTree, MissingDirection}
-use Rattle.staat_model.specs.Certificates.{WalledPlan, walled_leaf, walled_split, nodes_of, arc_cmp, IsAcross, IsWall, SplitsHold, AreAllLeaves, PlanHolds, IsStuckSet, IsWitness, IsBlocked, IsListed, RefusalHolds, IsValidPlan, IsValidRefusal}
+use Rattle.staat_model.specs.Certificates.{WalledPlan, walled_leaf, walled_split, nodes_of, arc_cmp, IsAcross, IsWall, SplitsHold, AreAllLeaves, PlanHolds, IsStuckSet, IsWitness, IsBlocked, IsListed, RefusalHolds}
 use Rattle.staat_model.specs.Certificates as certificates
 use Rattle.staat_vec.specs.Lists.{FailsFirst, IsFirst}
 use Rattle.staat_model.specs.Planes.{vertices}
-use Rattle.staat_model.specs.Reasons.{IsBadLeaf, HasMissingLeaf, IsLeafFault, bad_leaf, missing_leaf, IsSplitReason, zero_direction, bad_separator, missing_separator, EntryHolds, IsTreeReason, SplitEntry, splits_of, IsPlanReason, wrong_parts, bad_leaves, bad_split, IsNoStuckSet, IsRefusalReason, bad_stuck_set, bad_tree, bad_arc, missing_direction, IsReason, IsVerdict}
+use Rattle.staat_model.specs.Reasons.{IsBadLeaf, HasMissingLeaf, IsLeafFault, bad_leaf, missing_leaf, IsSplitReason, zero_direction, bad_separator, missing_separator, EntryHolds, IsTreeReason, SplitEntry, splits_of, IsPlanReason, wrong_parts, bad_leaves, bad_split, IsNoStuckSet, IsRefusalReason, bad_stuck_set, bad_tree, bad_arc, missing_direction, IsVerdict}
 use Rattle.staat_model.specs.Reasons as reasons
 use Rattle.staat_model.proofs.OneTable.{ArePlanes-unique}
 use Rattle.staat_model.proofs.Orders.{arc_total, arc_exact}
@@ -49,8 +49,6 @@ nodes_cancel (walled_leaf p) (walled_leaf q) xs ys e =
     let same : p ≡ q = cc in
     let rest : xs ≡ ys = cc in
     (ap walled_leaf same, rest)
-nodes_cancel (walled_leaf p) (walled_split d seps m r) xs ys e = cc
-nodes_cancel (walled_split d seps m r) (walled_leaf p) xs ys e = cc
 nodes_cancel (walled_split d seps m r) (walled_split d' seps' m' r') xs ys e =
     let ds : d ≡ d' = cc in
     let walls : seps ≡ seps' = cc in
@@ -58,6 +56,7 @@ nodes_cancel (walled_split d seps m r) (walled_split d' seps' m' r') xs ys e =
     let first = nodes_cancel m m' (nodes_of r ++ xs) (nodes_of r' ++ ys) (sym (append_assoc (nodes_of m) (nodes_of r) xs) ∙ behind ∙ append_assoc (nodes_of m') (nodes_of r') ys) in
     let second = nodes_cancel r r' xs ys first.1 in
     (λ i. walled_split (ds i) (walls i) (first.0 i) (second.0 i), second.1)
+nodes_cancel t u xs ys e = absurd cc
 
 pub one_tree : (t u : WalledPlan) → nodes_of t ≡ nodes_of u → t ≡ u
 one_tree t u e = (nodes_cancel t u [] [] (append-nil (nodes_of t) ∙ e ∙ sym (append-nil (nodes_of u)))).0
@@ -115,10 +114,6 @@ broken_at parts t before more x reason is hold reason_is =
       reason_is = subst (λ (s : SplitEntry). IsSplitReason parts s reason) (sym found.1) reason_is;
     }
 
-tree_reason_some : (parts : List Part) (t : WalledPlan) (x : Reason) → IsTreeReason parts t x → SplitsHold parts t → ⊥
-tree_reason_some parts t x f h =
-    FailsFirst-some (EntryHolds parts) (splits_of t 0 reasons.first_line) f.place f.first (entries_hold parts t 0 reasons.first_line h)
-
 tree_reason_unique : (parts : List Part) (t : WalledPlan) (x y : Reason) → IsTreeReason parts t x → IsTreeReason parts t y → x ≡ y
 tree_reason_unique parts t x y f g =
     let all = splits_of t 0 reasons.first_line in
@@ -132,7 +127,8 @@ plan_reason_some : (parts : List Part) (stated : ℕ) (nodes : List Node) (x : R
 plan_reason_some parts stated nodes x (wrong_parts ne e) h = ne h.count
 plan_reason_some parts stated nodes x (bad_leaves k count f e) h = leaf_fault_some (length parts) nodes k f h.leaves
 plan_reason_some parts stated nodes x (bad_split t count leaves is f) h =
-    tree_reason_some parts t x f (subst (SplitsHold parts) (sym (one_tree t h.tree (sym is ∙ h.tree_is))) h.splits)
+    let splits = subst (SplitsHold parts) (sym (one_tree t h.tree (sym is ∙ h.tree_is))) h.splits in
+    FailsFirst-some (EntryHolds parts) (splits_of t 0 reasons.first_line) f.place f.first (entries_hold parts t 0 reasons.first_line splits)
 
 plan_reason_unique : (parts : List Part) (stated : ℕ) (nodes : List Node) (x y : Reason) → IsPlanReason parts stated nodes x → IsPlanReason parts stated nodes y → x ≡ y
 plan_reason_unique parts stated nodes x y (wrong_parts ne e) (wrong_parts ne' e') = e ∙ sym e'
@@ -152,9 +148,6 @@ no_stuck_set : (parts : List Part) (w : PartSet) → IsNoStuckSet parts w → Is
 no_stuck_set parts w (inl few) h = absurd (omega (arith, few, h.two))
 no_stuck_set parts w (inr (p, has, high)) h = let low : p < length parts = (has-below (length parts) p).0 (h.within p has) in absurd (omega arith)
 
-none_missing : (version : ℕ) (dirs : List Dir) (vs : List V3) (d : V3) → IsFirst (λ v. IsListed version dirs v → ⊥) vs d → All (IsListed version dirs) vs → ⊥
-none_missing version dirs vs d first all = let at = IsFirst-in (λ v. IsListed version dirs v → ⊥) vs d first in at.1 (All-contains (IsListed version dirs) vs d all at.0)
-
 module _ (parts : List Part) (version stated : ℕ) (w : PartSet) (witnesses : List Witness) (dirs : List Dir) where
   refusal_reason_some : (x : Reason) → IsRefusalReason parts version stated w witnesses dirs x → RefusalHolds parts version stated w witnesses dirs → ⊥
   refusal_reason_some x (wrong_parts ne e) h = ne h.count
@@ -162,7 +155,9 @@ module _ (parts : List Part) (version stated : ℕ) (w : PartSet) (witnesses : L
   refusal_reason_some x (bad_tree k count set_is first e) h = FailsFirst-some (IsWitness parts w) witnesses k first h.trees
   refusal_reason_some x (bad_arc m count set_is trees first e) h = FailsFirst-some (IsBlocked parts witnesses) dirs m first h.blocked
   refusal_reason_some x (missing_direction planes d count set_is trees blocked planes_are first e) h =
-      none_missing version dirs (vertices h.planes) d (subst (λ (ps : List V3). IsFirst (λ v. IsListed version dirs v → ⊥) (vertices ps) d) (ArePlanes-unique parts w planes h.planes planes_are h.planes_are) first) h.all
+      let vs = vertices planes in
+      let at = IsFirst-in (λ v. IsListed version dirs v → ⊥) vs d first in
+      at.1 (All-contains (IsListed version dirs) vs d (subst (λ (ps : List V3). All (IsListed version dirs) (vertices ps)) (ArePlanes-unique parts w h.planes planes h.planes_are planes_are) h.all) at.0)
 
   refusal_reason_unique : (x y : Reason) → IsRefusalReason parts version stated w witnesses dirs x → IsRefusalReason parts version stated w witnesses dirs y → x ≡ y
   refusal_reason_unique x y (wrong_parts ne e) (wrong_parts ne' e') = e ∙ sym e'
@@ -194,26 +189,17 @@ module _ (parts : List Part) (version stated : ℕ) (w : PartSet) (witnesses : L
 
 -- ---- certificates
 
-body_unique : (parts : List Part) (version stated : ℕ) (b : Body) (x y : Reason) → reasons.IsBodyReason parts version stated b x → reasons.IsBodyReason parts version stated b y → x ≡ y
+pub body_unique : (parts : List Part) (version stated : ℕ) (b : Body) (x y : Reason) → reasons.IsBodyReason parts version stated b x → reasons.IsBodyReason parts version stated b y → x ≡ y
 body_unique parts version stated (body.Plan nodes) x y f g = plan_reason_unique parts stated nodes x y f g
 body_unique parts version stated (body.Stuck w witnesses dirs) x y f g = refusal_reason_unique parts version stated w witnesses dirs x y f g
 
-pub IsReason-unique : (parts : List Part) (c : Certificate) (x y : Reason) → IsReason parts c x → IsReason parts c y → x ≡ y
-IsReason-unique parts c x y f g = body_unique parts c.version c.parts c.body x y f g
-
-plan_body : (parts : List Part) (version stated : ℕ) (b : Body) (x : Reason) → reasons.IsBodyReason parts version stated b x → certificates.PlanBodyHolds parts stated b → ⊥
+pub plan_body : (parts : List Part) (version stated : ℕ) (b : Body) (x : Reason) → reasons.IsBodyReason parts version stated b x → certificates.PlanBodyHolds parts stated b → ⊥
 plan_body parts version stated (body.Plan nodes) x f h = plan_reason_some parts stated nodes x f h
 plan_body parts version stated (body.Stuck w witnesses dirs) x f h = h
 
-refusal_body : (parts : List Part) (version stated : ℕ) (b : Body) (x : Reason) → reasons.IsBodyReason parts version stated b x → certificates.RefusalBodyHolds parts version stated b → ⊥
+pub refusal_body : (parts : List Part) (version stated : ℕ) (b : Body) (x : Reason) → reasons.IsBodyReason parts version stated b x → certificates.RefusalBodyHolds parts version stated b → ⊥
 refusal_body parts version stated (body.Plan nodes) x f h = h
 refusal_body parts version stated (body.Stuck w witnesses dirs) x f h = refusal_reason_some parts version stated w witnesses dirs x f h
-
-pub no_reason_valid_plan : (parts : List Part) (c : Certificate) (x : Reason) → IsReason parts c x → IsValidPlan parts c → ⊥
-no_reason_valid_plan parts c x f h = plan_body parts c.version c.parts c.body x f h
-
-pub no_reason_valid_refusal : (parts : List Part) (c : Certificate) (x : Reason) → IsReason parts c x → IsValidRefusal parts c → ⊥
-no_reason_valid_refusal parts c x f h = refusal_body parts c.version c.parts c.body x f h
 
 -- ---- verdicts
 
@@ -224,10 +210,10 @@ not_both parts stated version (body.Stuck w witnesses dirs) plan refusal = plan
 pub IsVerdict-unique : (parts : List Part) (c : Certificate) (v u : Verdict) → IsVerdict parts c v → IsVerdict parts c u → v ≡ u
 IsVerdict-unique parts c ValidPlan ValidPlan f g = refl
 IsVerdict-unique parts c ValidPlan ValidRefusal f g = absurd (not_both parts c.parts c.version c.body f g)
-IsVerdict-unique parts c ValidPlan (Not y) f g = absurd (no_reason_valid_plan parts c y g f)
+IsVerdict-unique parts c ValidPlan (Not y) f g = absurd (plan_body parts c.version c.parts c.body y g f)
 IsVerdict-unique parts c ValidRefusal ValidPlan f g = absurd (not_both parts c.parts c.version c.body g f)
 IsVerdict-unique parts c ValidRefusal ValidRefusal f g = refl
-IsVerdict-unique parts c ValidRefusal (Not y) f g = absurd (no_reason_valid_refusal parts c y g f)
-IsVerdict-unique parts c (Not x) ValidPlan f g = absurd (no_reason_valid_plan parts c x f g)
-IsVerdict-unique parts c (Not x) ValidRefusal f g = absurd (no_reason_valid_refusal parts c x f g)
-IsVerdict-unique parts c (Not x) (Not y) f g = ap Not (IsReason-unique parts c x y f g)
+IsVerdict-unique parts c ValidRefusal (Not y) f g = absurd (refusal_body parts c.version c.parts c.body y g f)
+IsVerdict-unique parts c (Not x) ValidPlan f g = absurd (plan_body parts c.version c.parts c.body x f g)
+IsVerdict-unique parts c (Not x) ValidRefusal f g = absurd (refusal_body parts c.version c.parts c.body x f g)
+IsVerdict-unique parts c (Not x) (Not y) f g = ap Not (body_unique parts c.version c.parts c.body x y f g)

@@ -1,8 +1,8 @@
 -- From the laws on lists of vectors to those on pieces, whose differences they are.
-use Rattle.std.proofs.Common.{◌≡◌, ◌↔◌, ◌≤◌, ℕ, refl, sym, ap, subst, ◌∙◌, arith, pos, ◌≤ℤ◌, ◌<ℤ◌, List, [], ◌∷◌, All, Contains, length}
+use Rattle.std.proofs.Common.{◌↔◌, ◌≤◌, refl, sym, ap, subst, ◌∙◌, arith, pos, ◌≤ℤ◌, ◌<ℤ◌, List, [], ◌∷◌, All, Contains, length}
 use Rattle.std.proofs.lemmas.List.Elements.{All-contains}
 use Rattle.staat_vec.specs.declared.vector.V3.{V3}
-use Rattle.staat_vec.specs.Vectors.{dot, minus, plus, times, origin}
+use Rattle.staat_vec.specs.Vectors.{dot, minus, plus, origin}
 use Rattle.staat_vec.proofs.Ring.{at, num}
 use Rattle.staat_vec.proofs.VecRing.{originE, timesE, dot_comm, ring3}
 use Rattle.staat_model.specs.Pieces.{IsPiece}
@@ -75,13 +75,10 @@ meets_by_facets_lemma p q d is_p is_q =
 
 -- ---- without moving
 
-at_rest : (t : ℕ) → times t origin ≡ times 0 origin
-at_rest t = ring3 (pos t ∷ []) (timesE (at 0) originE) (timesE (num (pos 0)) originE) (tt, tt, tt)
-
 overlap_from_meets : (p q : List V3) → Meets p q origin → Overlap p q
 overlap_from_meets p q m =
     let r = m.meeting in
-    record { a = r.a; b = r.b; a_weights = r.a_weights; b_weights = r.b_weights; same_sum = r.same_sum; same_place = ap (plus (mix r.a p)) (sym (at_rest m.t)) ∙ r.same_place }
+    record { a = r.a; b = r.b; a_weights = r.a_weights; b_weights = r.b_weights; same_sum = r.same_sum; same_place = ap (plus (mix r.a p)) (ring3 (pos m.t ∷ []) (timesE (num (pos 0)) originE) (timesE (at 0) originE) (tt, tt, tt)) ∙ r.same_place }
 
 pub overlap_by_facets_lemma : (p q : List V3) → IsPiece p → IsPiece q → Overlap p q ↔ ((n : V3) → IsFacet p q n → ⊥)
 overlap_by_facets_lemma p q is_p is_q =

@@ -1,6 +1,6 @@
 -- A plan that keeps its rules is right: it takes all parts apart, and no interiors ever meet.
-use Rattle.std.proofs.Common.{◌≡◌, ℕ, zero, suc, ◌+◌, ◌<◌, refl, sym, ap, subst, ◌∙◌, arith, ◌⊎◌, inl, inr, ⊎_elim, List, [], ◌∷◌, ◌++◌, length}
-use Rattle.std.specs.Prelude.{Some, slice_get, option_map, unwrap_or, option_and_then}
+use Rattle.std.proofs.Common.{◌≡◌, ℕ, zero, suc, ◌+◌, ◌<◌, refl, sym, ap, subst, ◌∙◌, arith, inl, inr, ⊎_elim, List, ◌++◌, length}
+use Rattle.std.specs.Prelude.{Some, slice_get, option_map, unwrap_or}
 use Rattle.std.proofs.lemmas.Option.{option_and_then_some, same_Some, slice_get_within}
 use Rattle.std.proofs.lemmas.List.Elements.{All-contains}
 use Rattle.staat_vec.specs.declared.vector.V3.{V3}
@@ -11,11 +11,13 @@ use Rattle.staat_model.specs.declared.certificate.Node.{Node}
 use Rattle.staat_model.specs.declared.certificate.Node.TheVariants.{Leaf, Split}
 use Rattle.staat_model.specs.Sets.{Has, below}
 use Rattle.staat_model.specs.Walls.{IsShown}
-use Rattle.staat_model.specs.Assemblies.{IsAssembly, piece_at, piece_count}
+use Rattle.staat_model.specs.declared.certificate.Arc.{Arc}
+use Rattle.staat_model.specs.Assemblies.{HoldsAt, IsAssembly, piece_at, piece_count}
 use Rattle.staat_model.specs.Removal.{IsFree}
 use Rattle.staat_model.specs.Plans.{IsGood}
 use Rattle.staat_model.specs.Certificates.{WalledPlan, walled_leaf, walled_split, nodes_of, unwalled, walled_parts, IsWall, IsAcross, SplitHolds, SplitsHold, IsLeafAt, PlanHolds}
 use Rattle.staat_model.proofs.Differences.{from_map}
+use Rattle.staat_model.proofs.Places.{get_behind, place_cases}
 use Rattle.staat_model.proofs.SetBits.{has-below}
 use Rattle.staat_model.proofs.SetMembers.{has-single, has-union}
 use Rattle.staat_model.proofs.SetWords.{same_members}
@@ -23,19 +25,6 @@ use Rattle.staat_model.proofs.GraphLemmas.{piece_is}
 use Rattle.staat_model.proofs.WallLaws.{wall_keeps_apart}
 use Rattle.staat_vec.proofs.Naturals.{suc_same}
 use Rattle.staat_vec.proofs.ListLaws.{get_front}
-use Rattle.std.proofs.Common.{None, Option}
-
--- ---- places in a list that is put together
-
-get_behind : {X : Type 0} (xs ys : List X) (k m : ℕ) (x : X) → m ≡ length xs + k → slice_get ys k ≡ Some x → slice_get (xs ++ ys) m ≡ Some x
-get_behind [] ys k m x p e = subst (λ j. slice_get ys j ≡ Some x) (let same : k ≡ m = omega (arith, p) in same) e
-get_behind (y ∷ xs) ys k zero x p e = absurd (omega (arith, p))
-get_behind (y ∷ xs) ys k (suc m) x p e = get_behind xs ys k m x (omega (arith, p)) e
-
-pub place_cases : {X : Type 0} (xs ys : List X) (k : ℕ) (x : X) → slice_get (xs ++ ys) k ≡ Some x → (slice_get xs k ≡ Some x) ⊎ ((i : ℕ) × (k ≡ length xs + i) × (slice_get ys i ≡ Some x))
-place_cases [] ys k x e = inr (k, omega arith, e)
-place_cases (y ∷ xs) ys zero x e = inl e
-place_cases (y ∷ xs) ys (suc k) x e = ⊎_elim (λ h. inl h) (λ (i, n, h). inr (i, omega (arith, n), h)) (place_cases xs ys k x e)
 
 -- ---- the leaves of a plan
 
@@ -73,13 +62,15 @@ piece_within parts a i p e =
     option_and_then_some {P = i < piece_count parts a} (λ part. slice_get part.pieces i) (slice_get parts a) p e
     (λ part at inside. subst (λ o. i < unwrap_or (option_map (λ part. length part.pieces) o) 0) (sym at) (slice_get_within part.pieces i p inside))
 
+-- an arc whose pieces exist joins them
+pub held_across : {R : List V3 → List V3 → Type 0} (parts : List Part) (s r : PartSet) (arc : Arc) → Has s arc.a → Has r arc.b → HoldsAt parts arc R → IsAcross parts s r arc
+held_across parts s r arc a_in b_in h = record { a_in = a_in; b_in = b_in; i_in = piece_within parts arc.a arc.i h.p h.p_is; j_in = piece_within parts arc.b arc.j h.q h.q_is }
+
 split_free : (parts : List Part) (s r : PartSet) (d : V3) (seps : List Sep) → IsAssembly parts → SplitHolds parts s r d seps → IsFree parts s r d
 split_free parts s r d seps is split = record {
   moves = split.moves;
   clear = λ arc a_in b_in m.
-      let listed = split.arcs in
-      let across : IsAcross parts s r arc = record { a_in = a_in; b_in = b_in; i_in = piece_within parts arc.a arc.i m.p m.p_is; j_in = piece_within parts arc.b arc.j m.q m.q_is } in
-      let (sep, in_seps, same) = from_map (λ sep. sep.arc) seps arc (listed.all arc across) in
+      let (sep, in_seps, same) = from_map (λ sep. sep.arc) seps arc (split.arcs.all arc (held_across parts s r arc a_in b_in m)) in
       let wall = All-contains (IsWall parts s r d) seps sep split.walls in_seps in
       let shown = wall.shown in
       let same_p : shown.p ≡ m.p = same_Some shown.p m.p (sym shown.p_is ∙ ap (λ arc. piece_at parts arc.a arc.i) (sym same) ∙ m.p_is) in
@@ -122,11 +113,7 @@ plan_is_right_lemma parts stated nodes is holds =
     (t, holds.tree_is, subst (λ w. IsGood parts w (unwalled t)) whole good)
 
 pub part_at : (parts : List Part) (a i : ℕ) (p : List V3) → piece_at parts a i ≡ Some p → (part : Part) × (slice_get parts a ≡ Some part) × (slice_get part.pieces i ≡ Some p)
-part_at parts a i p e = go (slice_get parts a) refl e
-  where
-    go : (o : Option Part) → slice_get parts a ≡ o → option_and_then (λ part. slice_get part.pieces i) o ≡ Some p → (part : Part) × (slice_get parts a ≡ Some part) × (slice_get part.pieces i ≡ Some p)
-    go None q e = cc
-    go (Some part) q e = (part, q, e)
+part_at parts a i p e = option_and_then_some (λ part. slice_get part.pieces i) (slice_get parts a) p e (λ part at inside. (part, at, inside))
 
 pub part_within : (parts : List Part) (a i : ℕ) (p : List V3) → piece_at parts a i ≡ Some p → a < length parts
 part_within parts a i p e = let t = part_at parts a i p e in slice_get_within parts a t.0 t.1

@@ -1,5 +1,5 @@
 -- No two planes of a set of parts are parallel.
-use Rattle.std.proofs.Common.{◌≡◌, ◌≢◌, ℕ, zero, suc, refl, sym, ap, subst, ◌∙◌, arith, pos, negsuc, List, [], ◌∷◌, ◌++◌, All, Contains, ⊎_elim}
+use Rattle.std.proofs.Common.{◌≡◌, ◌≢◌, ℕ, zero, suc, refl, sym, ap, subst, ◌∙◌, arith, pos, negsuc, List, [], ◌∷◌, ◌++◌, All, Contains, ⊎_elim, drop}
 use Rattle.std.proofs.lemmas.Int.{ints}
 use Rattle.std.proofs.lemmas.List.Elements.{All-cons, All-contains, Contains-append_cases}
 use Rattle.std.proofs.lemmas.Map.Views.{All-after_first}
@@ -19,7 +19,6 @@ use Rattle.staat_vec.proofs.VectorOrder.{less_apart}
 use Rattle.staat_vec.proofs.VectorLists.{sorted_tail}
 use Rattle.staat_vec.proofs.Unique.{Contains-front}
 use Rattle.staat_vec.proofs.ListLaws.{Contains-there}
-use Rattle.std.proofs.Common.{drop}
 
 -- each later plane is not parallel to an earlier one
 abbrev pub NoneParallel : List V3 → Type 0
@@ -66,8 +65,7 @@ with_axes others normal none rest =
 
 wall_normal : (parts : List Part) (w : PartSet) (n : V3) → IsFacetPlane parts w n → IsNormal n
 wall_normal parts w n wall =
-    let h = wall.holds in
-    let f = h.holds in
+    let f = wall.holds.holds in
     subst IsNormal (sym wall.is) (record { primitive = IsPrimitive-canon wall.facet f.primitive; canonical = IsCanon-canon wall.facet (IsPrimitive-some wall.facet f.primitive) })
 
 pub planes_apart : (parts : List Part) (w : PartSet) (planes : List V3) → ArePlanes parts w planes → NoneParallel planes

@@ -1,5 +1,5 @@
 -- A refusal that keeps its rules is right: its set is stuck, and no plan takes all parts apart.
-use Rattle.std.proofs.Common.{◌⊎◌, ℕ, pos, ◌<ℤ◌, sym, subst, inl, inr, ⊎_elim, List, [], ◌∷◌, map, length, All, Contains}
+use Rattle.std.proofs.Common.{ℕ, pos, ◌<ℤ◌, sym, subst, inl, inr, ⊎_elim, List, [], ◌∷◌, map, length, All, Contains}
 use Rattle.std.specs.FinSet as set
 use Rattle.std.proofs.lemmas.List.Elements.{All-contains}
 use Rattle.staat_vec.specs.declared.vector.V3.{V3}
@@ -13,7 +13,7 @@ use Rattle.staat_model.specs.Sets.{Has, IsSide, single, below}
 use Rattle.staat_model.specs.Assemblies.{IsAssembly}
 use Rattle.staat_model.specs.Facets.{IsFacet}
 use Rattle.staat_model.specs.Meeting.{Meets}
-use Rattle.staat_model.specs.Removal.{IsFree, MeetsAlong}
+use Rattle.staat_model.specs.Removal.{IsFree}
 use Rattle.staat_model.specs.Plans.{Plan, IsGood, IsStuck}
 use Rattle.staat_model.specs.Planes.{vertices}
 use Rattle.staat_model.specs.Certificates.{RefusalHolds, IsWitness, IsArcWithin, IsBlocked, IsBlocking, HasLine, IsListed, ReachesAll, outward, inward}
@@ -41,39 +41,35 @@ reached_all w P step (arc ∷ arcs) pass reached known (from, to, new, rest) p h
 
 module _ (parts : List Part) (is : IsAssembly parts) (w s : PartSet) (v : V3) (side : IsSide w s) (free : IsFree parts s (set.difference w s) v) (witness : Witness) (holds : IsWitness parts w witness)
     (outs : All (IsBlocking parts v) witness.outs) (ins : All (IsBlocking parts v) witness.ins) where
-  meets : (arc : Arc) → IsBlocking parts v arc → MeetsAlong parts v arc
-  meets arc b = at_pieces parts arc (λ p q. (n : V3) → IsFacet p q n → pos 0 <ℤ dot n v) (λ p q. Meets p q v) is.each
-      (λ p q p_is q_is is_p is_q ahead. (meets_by_facets_lemma p q v is_p is_q).1 ahead) b
-
   -- no arc leads out of the side
   stays : (arc : Arc) → IsBlocking parts v arc → Has w arc.b → Has s arc.a → Has s arc.b
-  stays arc b in_w in_s = ⊎_elim (λ h. h) (λ n. absurd (free.clear arc in_s ((has-difference w s arc.b).1 (in_w, n)) (meets arc b))) (member_or s arc.b)
+  stays arc b in_w in_s =
+      let meets = at_pieces parts arc (λ p q. (n : V3) → IsFacet p q n → pos 0 <ℤ dot n v) (λ p q. Meets p q v) is.each (λ p q p_is q_is is_p is_q ahead. (meets_by_facets_lemma p q v is_p is_q).1 ahead) b in
+      ⊎_elim (λ h. h) (λ n. absurd (free.clear arc in_s ((has-difference w s arc.b).1 (in_w, n)) meets)) (member_or s arc.b)
 
   all_in : Has s holds.root → (p : ℕ) → Has w p → Has s p
   all_in at_root =
       reached_all w (Has s) outward witness.outs
-      (λ arc c from. let a = All-contains (IsArcWithin parts w) witness.outs arc holds.outs c in let across = a.across in stays arc (All-contains (IsBlocking parts v) witness.outs arc outs c) across.b_in from)
+      (λ arc c from. stays arc (All-contains (IsBlocking parts v) witness.outs arc outs c) (All-contains (IsArcWithin parts w) witness.outs arc holds.outs c).across.b_in from)
       (single holds.root) (λ p h. subst (Has s) (sym ((has-single holds.root p).0 h)) at_root) holds.outs_reach
 
   none_in : (Has s holds.root → ⊥) → (p : ℕ) → Has w p → Has s p → ⊥
   none_in off_root =
       reached_all w (λ p. Has s p → ⊥) inward witness.ins
-      (λ arc c out into. let a = All-contains (IsArcWithin parts w) witness.ins arc holds.ins c in let across = a.across in out (stays arc (All-contains (IsBlocking parts v) witness.ins arc ins c) across.b_in into))
+      (λ arc c out into. out (stays arc (All-contains (IsBlocking parts v) witness.ins arc ins c) (All-contains (IsArcWithin parts w) witness.ins arc holds.ins c).across.b_in into))
       (single holds.root) (λ p h in_s. off_root (subst (Has s) ((has-single holds.root p).0 h) in_s)) holds.ins_reach
 
   not_free : ⊥
-  not_free = go (member_or s holds.root)
-    where
-      go : Has s holds.root ⊎ (Has s holds.root → ⊥) → ⊥
-      go (inl h) = side.proper (same_members s w side.within (all_in h))
-      go (inr n) = let some = side.nonempty in none_in n some.0 (side.within some.0 some.1) some.1
+  not_free = elim (member_or s holds.root) [
+    | inl h ↦ side.proper (same_members s w side.within (all_in h))
+    | inr n ↦ (let some = side.nonempty in none_in n some.0 (side.within some.0 some.1) some.1)
+  ]
 
 -- ---- the refusal
 
 pub refusal_is_stuck : (parts : List Part) (version stated : ℕ) (w : PartSet) (witnesses : List Witness) (dirs : List Dir) → IsAssembly parts → RefusalHolds parts version stated w witnesses dirs → IsStuck parts w
 refusal_is_stuck parts version stated w witnesses dirs is valid =
-    let stuck_set = valid.stuck_set in
-    stuck_at_vertices_lemma parts w valid.planes is valid.planes_are stuck_set.two at_vertex
+    stuck_at_vertices_lemma parts w valid.planes is valid.planes_are valid.stuck_set.two at_vertex
   where
     -- the witness of a line keeps each side from being free along its direction
     at_line : (dir : Dir) (s : PartSet) → Contains dirs dir → IsSide w s → IsFree parts s (set.difference w s) dir.d → ⊥
@@ -94,5 +90,4 @@ pub refusal_is_right_lemma : (parts : List Part) (version stated : ℕ) (w : Par
     → IsStuck parts w × ((plan : Plan) → IsGood parts (below (length parts)) plan → ⊥)
 refusal_is_right_lemma parts version stated w witnesses dirs is valid =
     let stuck = refusal_is_stuck parts version stated w witnesses dirs is valid in
-    let stuck_set = valid.stuck_set in
-    (stuck, λ plan good. restrict_lemma parts w stuck plan (below (length parts)) stuck_set.within good)
+    (stuck, λ plan good. restrict_lemma parts w stuck plan (below (length parts)) valid.stuck_set.within good)

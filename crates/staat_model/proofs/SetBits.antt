@@ -1,7 +1,8 @@
 -- What the operations on words do to the sets that they stand for.
 use Rattle.std.proofs.Math.Nat.{mod-eq_of_lt, mod-one, pow-le-pow_right}
 use Rattle.std.proofs.Common.{one-mul, ◌≡◌, ℕ, zero, suc, ◌+◌, ◌<◌, ◌≤◌, ◌-◌, ◌*◌, ◌/◌, ◌%◌, ◌^◌, max, min, Bool, true, arith, ap, sym, subst, inl, inr, ◌∙◌}
-use Rattle.std.specs.Prelude.{bit_and, bit_or, if◌then◌else◌, nat_eq, nat_lt, ◌==◌, ◌&&◌, ◌||◌, ◌↔◌, false, refl}
+use Rattle.std.specs.Prelude.{bit_and, bit_or, if◌then◌else◌, nat_eq, nat_lt, ◌==◌, ◌&&◌, ◌||◌, ◌↔◌, false, not, refl}
+use Rattle.std.proofs.lemmas.Bool.{ltb-true}
 use Rattle.std.specs.Int.{bit_at, w32}
 use Rattle.std.proofs.lemmas.Bool.Decides.{nat_tests}
 use Rattle.std.proofs.lemmas.Nat.{and_mask, pow_below, pow_pos, mod-pow-add, ones_cat}
@@ -14,44 +15,39 @@ use Rattle.staat_model.specs.Bits.{members_below, set_of_word}
 use Rattle.staat_model.specs.SetFacts.{contains-members_below, contains-set_of_word}
 use Rattle.staat_model.specs.Sets.{Has, below, single}
 use Rattle.staat_vec.proofs.Naturals.{lt_or_le, same_or}
-use Rattle.staat_model.proofs.SetMembers.{bit_has, bit_has_low, has-difference, has-single, has_bit}
+use Rattle.staat_model.proofs.SetMembers.{bit_has, has-single, has_bit}
 use Rattle.staat_model.proofs.SetWords.{same_members}
 
-same : (s t : set.FinSet nat_cmp) → ((q : ℕ) → set.contains s q ≡ set.contains t q) → s ≡ t
-same s t each = set.same_set nat_cmp_total set.nat_cmp-IsAntisymmetric s t each
-
-either : (l : Bool) (a b : ℕ) → a < 2 → b < 2 → (l && (max a b == 1)) ≡ ((l && (a == 1)) || (l && (b == 1)))
-either l a b la lb = grind (arith, nat_tests)
+-- bits that are made of two words' bits as the members of a set are of the members of their sets
+module _ (on : ℕ → ℕ → ℕ) (join : Bool → Bool → Bool) (law : (a b : ℕ) → a < 2 → b < 2 → (on a b == 1) ≡ join (a == 1) (b == 1)) (none : join false false ≡ false) where
+  of_words : (r a b : ℕ) (s : set.FinSet nat_cmp) → ((q : ℕ) → q < 32 → bit_at r q ≡ on (bit_at a q) (bit_at b q))
+      → ((q : ℕ) → set.contains s q ≡ join (set.contains (set_of_word a) q) (set.contains (set_of_word b) q)) → set_of_word r ≡ s
+  of_words r a b s bits members =
+      set.same_set nat_cmp_total set.nat_cmp-IsAntisymmetric _ _
+      (λ q. contains-set_of_word r q ∙ at q (nat_lt q 32) refl ∙ sym (members q ∙ (λ i. join (contains-set_of_word a q i) (contains-set_of_word b q i))))
+    where
+      at : (q : ℕ) (l : Bool) → nat_lt q 32 ≡ l → (l && (bit_at r q == 1)) ≡ join (l && (bit_at a q == 1)) (l && (bit_at b q == 1))
+      at q true e = ap (λ t. t == 1) (bits q (ltb-true q 32 e)) ∙ law (bit_at a q) (bit_at b q) (bit_at-lt a q) (bit_at-lt b q)
+      at q false e = sym none
 
 pub set_of_word-or : (a b : ℕ) → set_of_word (bit_or a b) ≡ set.union (set_of_word a) (set_of_word b)
-set_of_word-or a b = same _ _ (λ q.
-    contains-set_of_word (bit_or a b) q
-    ∙ ap (λ t. nat_lt q 32 && (t == 1)) (bit_at_or a b q)
-    ∙ either (nat_lt q 32) (bit_at a q) (bit_at b q) (bit_at-lt a q) (bit_at-lt b q)
-    ∙ sym (set.contains-union nat_cmp_total (set_of_word a) (set_of_word b) q ∙ (λ i. contains-set_of_word a q i || contains-set_of_word b q i)))
+set_of_word-or a b =
+    of_words max (λ x y. x || y) (λ x y small less. grind (arith, nat_tests)) refl (bit_or a b) a b _ (λ q lt. bit_at_or a b q) (set.contains-union nat_cmp_total _ _)
+
+pub set_of_word-and : (a b : ℕ) → set_of_word (bit_and a b) ≡ set.intersection (set_of_word a) (set_of_word b)
+set_of_word-and a b =
+    of_words min (λ x y. x && y) (λ x y small less. grind (arith, nat_tests)) refl (bit_and a b) a b _ (λ q lt. bit_at_and a b q) (set.contains-intersection nat_cmp_total _ _)
+
+pub set_of_word-without : (a b : ℕ) → b < 2 ^ 32 → set_of_word (bit_and a (4294967295 - b)) ≡ set.difference (set_of_word a) (set_of_word b)
+set_of_word-without a b small =
+    of_words (λ x y. min x (1 - y)) (λ x y. x && not y) (λ x y small less. grind (arith, nat_tests)) refl (bit_and a (4294967295 - b)) a b _
+    (λ q lt. bit_at_and a (4294967295 - b) q ∙ ap (min (bit_at a q)) (bit_at_not w32 b q small lt)) (set.contains-difference nat_cmp_total _ _)
 
 pub contains-word : (bits p : ℕ) → p < 32 → nat_eq (bit_and (bits / 2 ^ p) 1) 1 ≡ set.contains (set_of_word bits) p
 contains-word bits p lt =
     let low : bit_and (bits / 2 ^ p) 1 ≡ bit_at bits p = and_mask (bits / 2 ^ p) 1 in
     let inside : nat_lt p 32 ≡ true = grind (arith, nat_tests) in
     ap (λ n. nat_eq n 1) low ∙ sym (contains-set_of_word bits p ∙ ap (λ t. t && (bit_at bits p == 1)) inside)
-
-pub set_of_word-without : (a b : ℕ) → b < 2 ^ 32 → set_of_word (bit_and a (4294967295 - b)) ≡ set.difference (set_of_word a) (set_of_word b)
-set_of_word-without a b small = same_members (set_of_word (bit_and a (4294967295 - b))) (set.difference (set_of_word a) (set_of_word b))
-    (λ q h.
-    let (lt, one) = has_bit (bit_and a (4294967295 - b)) q h in
-    let m = left q lt in
-    (has-difference (set_of_word a) (set_of_word b) q).1 (bit_has_low a q lt (omega (arith, m, one, bit_at-lt a q)), λ in_b. let other = (has_bit b q in_b).1 in omega (arith, m, one, other)))
-    (λ q h.
-    let t = (has-difference (set_of_word a) (set_of_word b) q).0 h in
-    let (lt, one) = has_bit a q t.0 in
-    bit_has_low (bit_and a (4294967295 - b)) q lt (elim (same_or (bit_at b q) 1) [
-      | inl in_b ↦ absurd (t.1 (bit_has_low b q lt in_b))
-      | inr out ↦ omega (arith, left q lt, one, out, bit_at-lt b q)
-    ]))
-  where
-    left : (q : ℕ) → q < 32 → bit_at (bit_and a (4294967295 - b)) q ≡ min (bit_at a q) (1 - bit_at b q)
-    left q lt = bit_at_and a (4294967295 - b) q ∙ ap (min (bit_at a q)) (bit_at_not w32 b q small lt)
 
 -- a power of two has one bit
 pub set_of_word-pow : (p : ℕ) → p < 32 → set_of_word (1 * 2 ^ p % 4294967296) ≡ single p
@@ -61,16 +57,6 @@ set_of_word-pow p lt =
     ap set_of_word is ∙ same_members (set_of_word (2 ^ p)) (single p)
     (λ q h. (has-single p q).1 (elim (same_or q p) [ inl e ↦ e | inr ne ↦ absurd (let z = bit_at-pow_other p q ne in let one = (has_bit (2 ^ p) q h).1 in omega (arith, z, one)) ]))
     (λ q h. subst (Has (set_of_word (2 ^ p))) (sym ((has-single p q).0 h)) (bit_has (2 ^ p) p below (bit_at-pow_same p)))
-
-both_bits : (l : Bool) (a b : ℕ) → a < 2 → b < 2 → (l && (min a b == 1)) ≡ ((l && (a == 1)) && (l && (b == 1)))
-both_bits l a b la lb = grind (arith, nat_tests)
-
-pub set_of_word-and : (a b : ℕ) → set_of_word (bit_and a b) ≡ set.intersection (set_of_word a) (set_of_word b)
-set_of_word-and a b = same _ _ (λ q.
-    contains-set_of_word (bit_and a b) q
-    ∙ ap (λ t. nat_lt q 32 && (t == 1)) (bit_at_and a b q)
-    ∙ both_bits (nat_lt q 32) (bit_at a q) (bit_at b q) (bit_at-lt a q) (bit_at-lt b q)
-    ∙ sym (set.contains-intersection nat_cmp_total (set_of_word a) (set_of_word b) q ∙ (λ i. contains-set_of_word a q i && contains-set_of_word b q i)))
 
 -- a number is below suc n where it is n or below n
 next_below : (q n : ℕ) → nat_lt q (suc n) ≡ (nat_eq q n || nat_lt q n)

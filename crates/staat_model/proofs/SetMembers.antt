@@ -1,5 +1,5 @@
 -- The members of a set and the bits of its word.
-use Rattle.std.proofs.Common.{◌≡◌, ℕ, ◌<◌, ◌^◌, Bool, true, false, arith, ap, sym, ◌∙◌, subst, refl, inl, inr, ◌⊎◌, true≢false, ⊎_elim, eq-eqb, eqb-true}
+use Rattle.std.proofs.Common.{◌≡◌, ℕ, ◌<◌, ◌^◌, Bool, true, arith, ap, sym, ◌∙◌, subst, inl, inr, ◌⊎◌, true≢false, ⊎_elim, eq-eqb, eqb-true}
 use Rattle.std.specs.Prelude.{nat_eq, nat_lt, ◌==◌, ◌&&◌, ◌||◌, not}
 use Rattle.std.specs.Int.{bit_at, w32, trailing_zeros}
 use Rattle.std.proofs.lemmas.Bool.Decides.{nat_tests}
@@ -13,7 +13,7 @@ use Rattle.staat_model.proofs.SetWords.{same_members}
 use Rattle.staat_model.specs.declared.set.PartSet.{PartSet}
 use Rattle.staat_model.specs.Sets.{Has, IsNonempty, IsLeastOf, single}
 use Rattle.staat_vec.proofs.Truth.{and_zero_is_one, and_split, not_true_clash}
-use Rattle.std.proofs.lemmas.Bool.{or_cases}
+use Rattle.std.proofs.lemmas.Bool.{false_from_ne_true, not_from_false, or_cases, or_left, or_right}
 use Rattle.staat_vec.proofs.Naturals.{lt_or_le}
 
 pub has_bit : (bits q : ℕ) → Has (set_of_word bits) q → (q < 32) × (bit_at bits q ≡ 1)
@@ -63,20 +63,14 @@ module _ (a : ℕ) (s : PartSet) (sa : set_of_word a ≡ s) (la : a < 2 ^ 32) (s
   pub least_small : trailing_zeros w32 a < 32
   least_small = (bit_at-trailing_zeros w32 a positive la).0
 
-either_or : (a b : Bool) → (a ≡ true) ⊎ (b ≡ true) → (a || b) ≡ true
-either_or true b h = refl
-either_or false b (inl h) = absurd (true≢false (sym h))
-either_or false b (inr h) = h
-
 pub has-union : (s t : PartSet) (q : ℕ) → (Has (set.union s t) q → Has s q ⊎ Has t q) × (Has s q ⊎ Has t q → Has (set.union s t) q)
 has-union s t q = (
   λ h. or_cases (set.contains s q) (set.contains t q) (sym (set.contains-union nat_cmp_total s t q) ∙ h),
-  λ h. set.contains-union nat_cmp_total s t q ∙ either_or (set.contains s q) (set.contains t q) h,
+  λ h. set.contains-union nat_cmp_total s t q ∙ ⊎_elim (or_left _ _) (or_right _ _) h,
 )
 
 pub not_from : (b : Bool) → (b ≡ true → ⊥) → not b ≡ true
-not_from true n = absurd (n refl)
-not_from false n = refl
+not_from b n = not_from_false b (false_from_ne_true b n)
 
 pub has-difference : (s t : PartSet) (q : ℕ) → (Has (set.difference s t) q → Has s q × (Has t q → ⊥)) × (Has s q × (Has t q → ⊥) → Has (set.difference s t) q)
 has-difference s t q =
@@ -95,7 +89,7 @@ pub has-insert : (s : PartSet) (p q : ℕ) → (Has (set.insert s p) q → (q �
 has-insert s p q =
     let e : set.contains (set.insert s p) q ≡ (nat_eq q p || set.contains s q) = set.contains-insert nat_cmp_total s p q ∙ ap (λ t. t || set.contains s q) (unsigned_tied q p) in (
       λ h. ⊎_elim (λ is. inl (eqb-true q p is)) (λ old. inr old) (or_cases (nat_eq q p) (set.contains s q) (sym e ∙ h)),
-      λ h. e ∙ either_or (nat_eq q p) (set.contains s q) (⊎_elim (λ is. inl (eq-eqb q p is)) (λ old. inr old) h),
+      λ h. e ∙ ⊎_elim (λ is. or_left _ _ (eq-eqb q p is)) (or_right _ _) h,
     )
 
 pub has-empty : (q : ℕ) → Has set.empty q → ⊥

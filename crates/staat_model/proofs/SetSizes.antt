@@ -1,5 +1,5 @@
 -- Sets with one member.
-use Rattle.std.proofs.Common.{◌≡◌, ◌≢◌, ℕ, zero, suc, ◌+◌, ◌-◌, ◌<◌, ◌≤◌, Bool, true, false, arith, ap, sym, ◌∙◌, subst, refl, ⊎_elim, eq-eqb, eqb-true}
+use Rattle.std.proofs.Common.{◌≡◌, ◌≢◌, ℕ, zero, suc, ◌+◌, ◌-◌, ◌<◌, ◌≤◌, arith, ap, sym, ◌∙◌, subst, ⊎_elim, eq-eqb, eqb-true}
 use Rattle.std.specs.Prelude.{nat_eq, not, ◌&&◌, cond}
 use Rattle.std.specs.FinSet as set
 use Rattle.std.specs.Ordering.{nat_cmp}
@@ -10,6 +10,7 @@ use Rattle.staat_model.proofs.SetMembers.{has-single, has-empty, not_from}
 use Rattle.staat_model.proofs.SetWords.{same_members}
 use Rattle.staat_vec.proofs.Naturals.{lt_or_le, same_or}
 use Rattle.staat_vec.proofs.Truth.{and_split, not_true_clash}
+use Rattle.std.proofs.lemmas.Bool.{cond-false, false_from_ne_true}
 
 has-remove : (s : PartSet) (p q : ℕ) → q ≢ p → Has s q → Has (set.remove s p) q
 has-remove s p q ne h =
@@ -41,19 +42,11 @@ len_below zero s small = let e : set.len s ≡ 0 = ap set.len (same_members s se
 len_below (suc n) s small =
     let rest : set.len (set.remove s n) ≤ n = len_below n (set.remove s n) (λ q h. let t = has-of-remove s n q h in let lt : q < suc n = small q t.1 in let ne : q ≢ n = t.0 in omega arith) in
     let e : set.len (set.remove s n) ≡ cond (set.contains s n) (set.len s - 1) (set.len s) = set.len-remove nat_cmp_total s n in
-    least_cond (set.contains s n) (set.len s) (set.len (set.remove s n)) n e rest
-  where
-    least_cond : (b : Bool) (m r n : ℕ) → r ≡ cond b (m - 1) m → r ≤ n → m ≤ suc n
-    least_cond true m r n e le = omega arith
-    least_cond false m r n e le = omega arith
+    grind (arith, e, rest)
 
 -- one more member
 pub len_more : (s : PartSet) (p : ℕ) → (Has s p → ⊥) → set.len (set.insert s p) ≡ set.len s + 1
-len_more s p fresh = set.len-insert nat_cmp_total s p ∙ go (set.contains s p) refl
-  where
-    go : (b : Bool) → set.contains s p ≡ b → cond b (set.len s) (set.len s + 1) ≡ set.len s + 1
-    go true e = absurd (fresh e)
-    go false e = refl
+len_more s p fresh = set.len-insert nat_cmp_total s p ∙ cond-false _ _ _ (false_from_ne_true (set.contains s p) fresh)
 
 pub len-single : (p : ℕ) → set.len (single p) ≡ 1
 len-single p = len_more set.empty p (has-empty p) ∙ ap (λ n. n + 1) (set.len-empty nat_cmp)

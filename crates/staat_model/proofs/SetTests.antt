@@ -1,6 +1,7 @@
 -- The tests on words for sets that lie within each other and for sets that meet.
-use Rattle.std.proofs.Common.{◌≡◌, ◌↔◌, ℕ, zero, suc, ◌<◌, ◌-◌, ◌^◌, arith, refl, sym, ◌∙◌, inl, inr, true≢false, eq-eqb, eqb-true}
+use Rattle.std.proofs.Common.{◌≡◌, ◌↔◌, ℕ, ◌<◌, ◌-◌, ◌^◌, arith, ◌∙◌, inl, inr, eq-eqb, eqb-true}
 use Rattle.std.specs.Prelude.{bit_and, nat_eq, not, IsTrue}
+use Rattle.std.proofs.lemmas.Bool.{ne_eqb, not_from_false}
 use Rattle.std.proofs.lemmas.Bool.Decides.{nat_tests}
 use Rattle.std.proofs.lemmas.Nat.{and_le_l}
 use Rattle.std.specs.FinSet as set
@@ -34,9 +35,5 @@ module _ (a b : ℕ) (s o : PartSet) (sa : set_of_word a ≡ s) (so : set_of_wor
       | inl one ↦ (let both = (has-intersection s o one.0).0 one.1 in (one.0, both.0, both.1))
       | inr none ↦ absurd (let z : bit_and a b ≡ 0 = none_zero _ (set.intersection s o) shared (omega (arith, and_le_l a b, la)) none in grind (arith, nat_tests))
     ],
-    λ h. by_zero (bit_and a b) (λ z. zero_none _ (set.intersection s o) shared z h.0 ((has-intersection s o h.0).1 (h.1, h.2))),
+    λ h. not_from_false _ (ne_eqb (bit_and a b) 0 (λ z. zero_none _ (set.intersection s o) shared z h.0 ((has-intersection s o h.0).1 (h.1, h.2)))),
   )
-    where
-      by_zero : (n : ℕ) → (n ≡ 0 → ⊥) → IsTrue (not (nat_eq n 0))
-      by_zero zero some = absurd (some refl)
-      by_zero (suc n) some = grind (arith, nat_tests)

@@ -1,6 +1,5 @@
 -- A plane between two pieces that a direction does not lead through, and pieces whose shadows lie apart.
-use Rattle.std.proofs.Common.{◌≡◌, ◌≢◌, ap, sym, ◌∙◌, arith, ℤ, pos, ◌-ℤ◌, ◌≤ℤ◌}
-use Rattle.std.proofs.Common.{◌⊎◌, inl, inr, List, All, Contains}
+use Rattle.std.proofs.Common.{◌≡◌, ◌≢◌, ap, sym, ◌∙◌, arith, ℤ, pos, ◌-ℤ◌, ◌≤ℤ◌, inl, inr, List, All, Contains}
 use Rattle.std.proofs.lemmas.Int.{ints}
 use Rattle.std.proofs.lemmas.List.Elements.{All-contains}
 use Rattle.staat_vec.specs.declared.vector.V3.{V3}
@@ -47,11 +46,10 @@ wall_parts_lemma p q d n solid some (inr (after, towards)) meets =
 
 pub shadows_part_lemma : (p q : List V3) (d n : V3) → IsSolid p → n ≢ origin → HaveShadowsApart n p q d
     → Meets p q d → ⊥
-shadows_part_lemma p q d n solid some are meets = go are.apart
-  where
-    go : IsBefore n p q ⊎ IsBefore n q p → ⊥
-    go (inl before) = wall_parts_lemma p q d n solid some (inl (before, zero_nonpositive (dot n d) are.across)) meets
-    go (inr after) = wall_parts_lemma p q d n solid some (inr (after, zero_nonneg (dot n d) are.across)) meets
+shadows_part_lemma p q d n solid some are = wall_parts_lemma p q d n solid some (elim are.apart [
+  | inl before ↦ inl (before, zero_nonpositive (dot n d) are.across)
+  | inr after ↦ inr (after, zero_nonneg (dot n d) are.across)
+])
 
 pub boxes_part_lemma : (p q : List V3) (d axis : V3) → IsSolid p → Contains axes axis → IsParted axis p q d
     → Meets p q d → ⊥

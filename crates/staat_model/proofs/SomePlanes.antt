@@ -21,7 +21,7 @@ use Rattle.staat_model.proofs.FreeSides.{member_or}
 use Rattle.staat_model.proofs.Listings.{Listing, listing_and, listing_as, listing_below, listing_image, listing_members, listing_none, listing_over, listing_sorted}
 use Rattle.staat_model.proofs.PieceFacets.{beyond_is_above, differences_are, facets_from_differences_lemma, from_cone_facet}
 use Rattle.staat_model.proofs.Places.{place_within}
-use Rattle.staat_model.proofs.PlanLemmas.{piece_within}
+use Rattle.staat_model.proofs.PlanLemmas.{held_across}
 
 pub vector_or : (a b : V3) → Decided (a ≡ b)
 vector_or = equal_or vector_cmp vector_total vector_exact
@@ -123,49 +123,16 @@ arcs_listing parts s r = listing_as
 
 -- ---- planes
 
-module _ (parts : List Part) (w : PartSet) where
-  abbrev Facet : Arc → V3 → Type 0
-  Facet arc f = HoldsAt parts arc (λ p q. IsFacet p q f)
-
-  abbrev Pair : Arc → Type 0
-  Pair arc = IsAcross parts w w arc × (arc.a ≢ arc.b)
-
-  abbrev Found : V3 → Type 0
-  Found n = (f : V3) × ((arc : Arc) × Pair arc × Facet arc f) × (n ≡ canon f)
-
-  pairs : Listing Pair
-  pairs = listing_and (λ arc. arc.a ≢ arc.b) (λ arc. not_or (nat_or arc.a arc.b)) (arcs_listing parts w w)
-
-  found : Listing Found
-  found = listing_image canon (listing_over Facet pairs (arc_facets parts))
-
-  to_plane : (n : V3) → Found n → IsFacetPlane parts w n
-  to_plane n (f, (arc, (across, different), holds), is) = record { arc = arc; facet = f; a_in = across.a_in; b_in = across.b_in; different = different; holds = holds; is = is }
-
-  from_plane : (n : V3) → IsFacetPlane parts w n → Found n
-  from_plane n h = (
-    h.facet,
-    (
-      h.arc,
-      (
-        record {
-          a_in = h.a_in;
-          b_in = h.b_in;
-          i_in = piece_within parts h.arc.a h.arc.i h.holds.p h.holds.p_is;
-          j_in = piece_within parts h.arc.b h.arc.j h.holds.q h.holds.q_is;
-        },
-        h.different,
-      ),
-      h.holds,
-    ),
-    h.is,
-  )
-
-  -- a set of parts has a table of planes
-  pub some_planes : (planes : List V3) × ArePlanes parts w planes
-  some_planes =
-      let planes : Listing (IsFacetPlane parts w) = listing_as to_plane from_plane found in
-      let others : Listing (λ n. IsFacetPlane parts w n × (Contains axes n → ⊥)) =
-      listing_and (λ n. Contains axes n → ⊥) (λ n. not_or (contains_or vector_cmp vector_total vector_exact axes n)) planes in
-      let (ns, are) = listing_sorted vector_cmp vector_total vector_exact others in
-      (axes ++ ns, record { others = ns; others_are = are; is = refl })
+-- a set of parts has a table of planes
+pub some_planes : (parts : List Part) (w : PartSet) → (planes : List V3) × ArePlanes parts w planes
+some_planes parts w =
+    let Facet : Arc → V3 → Type 0 = λ arc f. HoldsAt parts arc (λ p q. IsFacet p q f) in
+    let pairs : Listing (λ arc. IsAcross parts w w arc × (arc.a ≢ arc.b)) = listing_and (λ arc. arc.a ≢ arc.b) (λ arc. not_or (nat_or arc.a arc.b)) (arcs_listing parts w w) in
+    let planes : Listing (IsFacetPlane parts w) = listing_as
+    (λ n (f, (arc, (across, different), holds), is). record { arc = arc; facet = f; a_in = across.a_in; b_in = across.b_in; different = different; holds = holds; is = is })
+    (λ n h. (h.facet, (h.arc, (held_across parts w w h.arc h.a_in h.b_in h.holds, h.different), h.holds), h.is))
+    (listing_image canon (listing_over Facet pairs (arc_facets parts))) in
+    let others : Listing (λ n. IsFacetPlane parts w n × (Contains axes n → ⊥)) =
+    listing_and (λ n. Contains axes n → ⊥) (λ n. not_or (contains_or vector_cmp vector_total vector_exact axes n)) planes in
+    let (ns, are) = listing_sorted vector_cmp vector_total vector_exact others in
+    (axes ++ ns, record { others = ns; others_are = are; is = refl })

@@ -1,7 +1,7 @@
 -- A certificate that keeps its form has a verdict: the first rule that it breaks is found, or it is valid.
 use Rattle.std.proofs.Common.{◌≡◌, ◌≢◌, ◌⊎◌, ℕ, ◌+◌, ◌<◌, ◌≤◌, pos, ◌<ℤ◌, List, [], ◌∷◌, length, map, All, arith, sym, ◌∙◌, subst, refl, inl, inr}
 use Rattle.std.specs.Prelude.{Contains, Option, None, Some, slice_get, sum_by}
-use Rattle.std.proofs.lemmas.List.Elements.{All-contains, All-head, All-tail}
+use Rattle.std.proofs.lemmas.List.Elements.{All-contains}
 use Rattle.std.specs.FinSet as set
 use Rattle.staat_vec.specs.declared.vector.V3.{V3}
 use Rattle.staat_vec.specs.Vectors.{dot, negative, origin, vector_cmp}
@@ -19,20 +19,17 @@ use Rattle.staat_model.specs.declared.certificate.Body.{Body}
 use Rattle.staat_model.specs.declared.certificate.Body.TheVariants as body
 use Rattle.staat_model.specs.declared.certificate.Certificate.{Certificate}
 use Rattle.staat_limits.specs.declared.limits.TheConstants.{MOST_PARTS}
-use Rattle.staat_model.specs.declared.line.Line.{Line}
 use Rattle.staat_model.specs.declared.line.Line.TheVariants as line
 use Rattle.staat_model.specs.declared.verdict.Verdict.{Verdict}
 use Rattle.staat_model.specs.declared.verdict.Verdict.TheVariants.{ValidPlan, ValidRefusal, Not}
 use Rattle.staat_model.specs.declared.verdict.Reason.{Reason}
 use Rattle.staat_model.specs.declared.verdict.Reason.TheVariants.{WrongParts, BadLeaves, ZeroDirection, BadSeparator, MissingSeparator, BadStuckSet, BadArc, BadTree, MissingDirection}
-use Rattle.staat_model.specs.Certificates.{WalledPlan, nodes_of, arc_cmp, outward, inward, IsAcross, IsWall, SplitsHold, IsLeafAt, AreAllLeaves, PlanHolds}
-use Rattle.staat_model.specs.Certificates.{IsStuckSet, IsArcWithin, ReachesAll, IsWitness, IsBlocking, IsBlocked, HasLine, IsListed, RefusalHolds}
+use Rattle.staat_model.specs.Certificates.{WalledPlan, nodes_of, arc_cmp, outward, inward, IsAcross, IsWall, SplitsHold, IsLeafAt, AreAllLeaves, PlanHolds, IsStuckSet, IsArcWithin, ReachesAll, IsWitness, IsBlocking, IsBlocked, HasLine, IsListed, RefusalHolds}
 use Rattle.staat_model.specs.Assemblies.{piece_count}
 use Rattle.staat_model.specs.Facets.{IsFacet}
 use Rattle.staat_model.specs.Lines.{IsInBounds}
 use Rattle.staat_model.specs.Planes.{vertices}
-use Rattle.staat_model.specs.Reasons.{IsBadLeaf, HasMissingLeaf, IsLeafFault, bad_leaf, missing_leaf, IsSplitReason, zero_direction, bad_separator, missing_separator, EntryHolds, IsTreeReason, SplitEntry, first_line, splits_of, IsPlanReason, bad_leaves, bad_split}
-use Rattle.staat_model.specs.Reasons.{IsRefusalReason, bad_stuck_set, bad_tree, bad_arc, missing_direction, witness_size, IsBodyReason, IsVerdict}
+use Rattle.staat_model.specs.Reasons.{IsBadLeaf, HasMissingLeaf, IsLeafFault, bad_leaf, missing_leaf, IsSplitReason, zero_direction, bad_separator, missing_separator, EntryHolds, IsTreeReason, SplitEntry, first_line, splits_of, IsPlanReason, bad_leaves, bad_split, IsRefusalReason, bad_stuck_set, bad_tree, bad_arc, missing_direction, witness_size, IsBodyReason, IsVerdict}
 use Rattle.staat_model.specs.Reasons as reasons
 use Rattle.staat_model.specs.Certificates as certificates
 use Rattle.staat_model.specs.Sets.{Has, IsLeastOf, IsSubset, below, single}
@@ -72,15 +69,12 @@ is_leaf_or nodes k p = elim (leaf_or nodes k) [
   | inr none ↦ inr (none p)
 ]
 
-at_least_or : (a b : ℕ) → Decided (a ≤ b)
-at_least_or a b = grind arith
-
 bad_or : (n : ℕ) (nodes : List Node) (k : ℕ) → Decided (IsBadLeaf n nodes k)
 bad_or n nodes k = elim (leaf_or nodes k) [
   | inr none ↦ inr (λ bad. none bad.part bad.leaf_is)
   | inl at ↦ carried (λ bad. record { part = at.0; leaf_is = at.1; bad = bad })
       (λ h. subst (λ p. (n ≤ p) ⊎ ((m : ℕ) × (m < k) × IsLeafAt nodes m p)) (same_leaf h.part at.0 (sym h.leaf_is ∙ at.1)) h.bad)
-      (either_or (at_least_or n at.0) (some_below (λ m. IsLeafAt nodes m at.0) (λ m. is_leaf_or nodes m at.0) k))
+      (either_or {P = n ≤ at.0} (grind arith) (some_below (λ m. IsLeafAt nodes m at.0) (λ m. is_leaf_or nodes m at.0) k))
 ]
 
 leaf_of : (nodes : List Node) (p : ℕ) → ((k : ℕ) × IsLeafAt nodes k p) ⊎ ((k : ℕ) → IsLeafAt nodes k p → ⊥)
@@ -101,11 +95,8 @@ leaves_or n nodes = elim (below_or (IsBadLeaf n nodes) (bad_or n nodes) (length 
   | inr none ↦ with_good (λ k bad. none k (place_within nodes k (Leaf bad.part) bad.leaf_is) bad)
 ]
   where
-    no_leaf_or : (p : ℕ) → Decided ((k : ℕ) → IsLeafAt nodes k p → ⊥)
-    no_leaf_or p = elim (leaf_of nodes p) [ inl t ↦ inr (λ none. none t.0 t.1) | inr none ↦ inl none ]
-
     with_good : ((k : ℕ) → IsBadLeaf n nodes k → ⊥) → AreAllLeaves n nodes ⊎ ((k : ℕ) × IsLeafFault n nodes k)
-    with_good good = elim (below_or (λ p. (k : ℕ) → IsLeafAt nodes k p → ⊥) no_leaf_or n) [
+    with_good good = elim (below_or (λ p. (k : ℕ) → IsLeafAt nodes k p → ⊥) (λ p. elim (leaf_of nodes p) [ inl t ↦ inr (λ none. none t.0 t.1) | inr none ↦ inl none ]) n) [
       | inl t ↦ inr (length nodes, missing_leaf good (record { part = t.0; exists = t.1; missing = t.2 }) refl)
       | inr none ↦ inl (record {
         each = λ k p at. elim (lt_or p n) [ inl low ↦ low | inr high ↦ absurd (good k (record { part = p; leaf_is = at; bad = inl (omega (arith, high)) })) ];
@@ -141,7 +132,7 @@ split_or parts split ascending = elim (vector_or split.d origin) [
   | inl rests ↦ inr (ZeroDirection split.node, zero_direction rests refl)
   | inr moves ↦ (elim (all_or (IsWall parts split.moved split.rest split.d) (wall_or parts split.moved split.rest split.d) split.seps) [
     | inr t ↦ inr (BadSeparator (split.line + 1 + t.0), bad_separator t.0 moves t.1 refl)
-    | inl walls ↦ with_walls moves walls (least_or arc_cmp arc_total arc_exact Fresh fresh_or across.xs)
+    | inl walls ↦ with_walls moves walls (least_or arc_cmp arc_total arc_exact Fresh (λ other. not_or (contains_or arc_cmp arc_total arc_exact arcs other)) across.xs)
   ])
 ]
   where
@@ -150,9 +141,6 @@ split_or parts split ascending = elim (vector_or split.d origin) [
 
     Fresh : Arc → Type 0
     Fresh other = Contains arcs other → ⊥
-
-    fresh_or : (other : Arc) → Decided (Fresh other)
-    fresh_or other = not_or (contains_or arc_cmp arc_total arc_exact arcs other)
 
     across : Listing (IsAcross parts split.moved split.rest)
     across = arcs_listing parts split.moved split.rest
@@ -212,7 +200,7 @@ plan_or parts stated nodes form = elim (nat_or stated (length parts)) [
 set_or : (parts : List Part) (w : PartSet) → IsSubset w (below MOST_PARTS) → IsStuckSet parts w ⊎ reasons.IsNoStuckSet parts w
 set_or parts w small = elim (lt_or (set.len w) 2) [
   | inl few ↦ inr (inl few)
-  | inr many ↦ (elim (below_or (λ p. Has w p × (length parts ≤ p)) (λ p. both_or (member_or w p) (at_least_or (length parts) p)) MOST_PARTS) [
+  | inr many ↦ (elim (below_or (λ p. Has w p × (length parts ≤ p)) (λ p. both_or {Q = length parts ≤ p} (member_or w p) (grind arith)) MOST_PARTS) [
     | inl t ↦ inr (inr (t.0, t.2.0, t.2.1))
     | inr none ↦ inl (record {
       two = omega (arith, many);
@@ -319,16 +307,12 @@ module _ (parts : List Part) (version stated : ℕ) (w : PartSet) (witnesses : L
 
 -- ---- certificates
 
-third : (a b l : Line) (rest : List Line) → All IsInBounds (a ∷ b ∷ l ∷ rest) → IsInBounds l
-third a b l rest all = All-head IsInBounds l rest (All-tail IsInBounds b (l ∷ rest) (All-tail IsInBounds a (b ∷ l ∷ rest) all))
-
 by_body : (parts : List Part) (version stated : ℕ) (b : Body) → IsBodyInOrder version stated b
     → All IsInBounds (lines_of (record { version = version; parts = stated; body = b }))
     → (v : Verdict) × IsVerdict parts (record { version = version; parts = stated; body = b }) v
 by_body parts version stated (body.Plan nodes) form lines = elim (plan_or parts stated nodes form) [ inl holds ↦ (ValidPlan, holds) | inr t ↦ (Not t.0, t.1) ]
 by_body parts version stated (body.Stuck w witnesses dirs) form lines =
-    let bounds = third (line.Head version) (line.Parts stated) (line.Stuck w) _ lines in
-    elim (refusal_or parts version stated w witnesses dirs bounds.1) [ inl holds ↦ (ValidRefusal, holds) | inr t ↦ (Not t.0, t.1) ]
+    elim (refusal_or parts version stated w witnesses dirs (lines 2 (line.Stuck w) (omega arith)).1) [ inl holds ↦ (ValidRefusal, holds) | inr t ↦ (Not t.0, t.1) ]
 
 pub some_verdict_lemma : (parts : List Part) (c : Certificate) → IsWellFormed c → (v : Verdict) × IsVerdict parts c v
 some_verdict_lemma parts c form = by_body parts c.version c.parts c.body form.body form.lines

@@ -1,6 +1,5 @@
 -- The list of the splits of a plan.
-use Rattle.std.proofs.Common.{◌≡◌, ℕ, zero, suc, ◌<◌, List, [], ◌∷◌, ◌++◌, length, All, arith, refl}
-use Rattle.std.specs.Prelude.{Some, slice_get}
+use Rattle.std.proofs.Common.{ℕ, List, ◌∷◌, ◌++◌, length, All, arith, inl, inr, refl}
 use Rattle.std.proofs.lemmas.List.Elements.{All-append, All-cons, All-contains, All-head, All-nil, All-tail}
 use Rattle.staat_vec.specs.Lists.{FailsFirst}
 use Rattle.staat_model.specs.declared.assembly.Part.{Part}
@@ -9,28 +8,21 @@ use Rattle.staat_model.specs.Certificates.{WalledPlan, walled_leaf, walled_split
 use Rattle.staat_model.specs.Reasons.{EntryHolds, SplitEntry, splits_of}
 use Rattle.staat_model.specs.Texts.{IsNodeInOrder}
 use Rattle.staat_model.proofs.Members.{all_back, all_front}
+use Rattle.staat_model.proofs.Places.{get_behind, place_cases}
 use Rattle.staat_vec.proofs.Unique.{from_place}
 
-module _ {X : Type 0} (P : X → Type 0) where
-  pub at_end : (before more : List X) (x : X) → slice_get (before ++ x ∷ more) (length before) ≡ Some x
-  at_end [] more x = refl
-  at_end (y ∷ before) more x = at_end before more x
-
-  pub in_front : (before more : List X) (m : ℕ) (y : X) → m < length before → slice_get (before ++ more) m ≡ Some y
-      → slice_get before m ≡ Some y
-  in_front [] more m y lt e = absurd (omega (arith, lt))
-  in_front (x ∷ before) more zero y lt e = e
-  in_front (x ∷ before) more (suc m) y lt e = in_front before more m y (omega (arith, lt)) e
-
-  -- all before x keep the rule, and x breaks it
-  abbrev pub fails_behind : (before more : List X) (x : X) → All P before → (P x → ⊥)
-      → FailsFirst P (before ++ x ∷ more) (length before)
-  fails_behind before more x all fails = record {
-    x = x;
-    at = at_end before more x;
-    fails = fails;
-    before = λ m y lt e. All-contains P before y all (from_place before m y (in_front before (x ∷ more) m y lt e));
-  }
+-- all before x keep the rule, and x breaks it
+abbrev pub fails_behind : {X : Type 0} (P : X → Type 0) (before more : List X) (x : X) → All P before → (P x → ⊥)
+    → FailsFirst P (before ++ x ∷ more) (length before)
+fails_behind P before more x all fails = record {
+  x = x;
+  at = get_behind before (x ∷ more) 0 (length before) x (omega arith) refl;
+  fails = fails;
+  before = λ m y lt e. elim (place_cases before (x ∷ more) m y e) [
+    | inl here' ↦ All-contains P before y all (from_place before m y here')
+    | inr (i, later, at) ↦ absurd (omega (arith, later, lt))
+  ];
+}
 
 -- where the splits of a plan hold, each that is listed does
 pub entries_hold : (parts : List Part) (t : WalledPlan) (node line : ℕ) → SplitsHold parts t

@@ -77,9 +77,6 @@ hit x u (v ∷ vs) up = hit_step x u v vs up (hit x u vs (rest_up x u v vs up))
 pub dot_pair : (a b : ℤ) (v x u : V3) → dot v (plus (scale a x) (scale b u)) ≡ a *ℤ dot v x +ℤ b *ℤ dot v u
 dot_pair a b v x u = ring (values (v ∷ x ∷ u ∷ []) (a ∷ b ∷ [])) (dotE v0 (plusE (timesE (at 9) v1) (timesE (at 10) v2))) (at 9 ⊗ dotE v0 v1 ⊕ at 10 ⊗ dotE v0 v2) tt
 
-drop_term : (a p b q : ℤ) → q ≡ pos 0 → a *ℤ p +ℤ b *ℤ q ≡ a *ℤ p
-drop_term a p b q e = ring_by (a ∷ p ∷ b ∷ q ∷ []) (at 0 ⊗ at 1 ⊕ at 2 ⊗ at 3) (at 0 ⊗ at 1) (at 2) (at 3) (num (pos 0)) e tt
-
 -- x turned towards u or away from it, until a member is hit that u is not at right angles to
 unfoldable pub Turned : List V3 → V3 → V3 → Type 0
 Turned vs x u = (r : V3) × IsAbove r vs × (w : V3) × Contains vs w × (dot w u ≢ pos 0) × (dot w r ≡ pos 0) × (a : ℤ) × (pos 0 <ℤ a) × ((z : V3) → dot z u ≡ pos 0 → dot z r ≡ a *ℤ dot z x)
@@ -97,22 +94,20 @@ from_hit vs x u k (a, b, pa, pb, w, in_vs, low, e, rest) =
       dot_pair a b w x s ∙ e,
       a,
       pa,
-      λ z q. dot_pair a b z x s ∙ drop_term a (dot z x) b (dot z s) (dot_scale k z u ∙ product_zero k (dot z u) q),
+      λ z q. dot_pair a b z x s
+          ∙ ring_by (a ∷ dot z x ∷ b ∷ dot z s ∷ []) (at 0 ⊗ at 1 ⊕ at 2 ⊗ at 3) (at 0 ⊗ at 1) (at 2) (at 3) (num (pos 0)) (dot_scale k z u ∙ product_zero k (dot z u) q) tt,
     )
 
 scale_one : (u : V3) → scale (pos 1) u ≡ u
 scale_one u = ring3 (values (u ∷ []) []) (timesE (num (pos 1)) v0) v0 (tt, tt, tt)
 
 pub turn : (vs : List V3) (x u : V3) → IsSpanning vs → IsAbove x vs → u ≢ origin → Turned vs x u
-turn vs x u spans up some = first (hit x (scale (pos 1) u) vs up)
-  where
-    second : IsAbove (scale (pos 1) u) vs → IsAbove (scale (negsuc 0) u) vs ⊎ Hit vs x (scale (negsuc 0) u) → Turned vs x u
-    second above (inr h) = from_hit vs x u (negsuc 0) h
-    second above (inl below) =
-        absurd (some (spans u (both (λ v. pos 0 ≤ℤ dot v (scale (pos 1) u)) (λ v. pos 0 ≤ℤ dot v (scale (negsuc 0) u)) (λ v. dot v u ≡ pos 0)
+turn vs x u spans up some = elim (hit x (scale (pos 1) u) vs up) [
+  | inr h ↦ from_hit vs x u (pos 1) h
+  | inl above ↦ elim (hit x (scale (negsuc 0) u) vs up) [
+    | inr h ↦ from_hit vs x u (negsuc 0) h
+    | inl below ↦ absurd (some (spans u (both (λ v. pos 0 ≤ℤ dot v (scale (pos 1) u)) (λ v. pos 0 ≤ℤ dot v (scale (negsuc 0) u)) (λ v. dot v u ≡ pos 0)
         (λ v p q. zero_between (dot v u) (subst (λ w. pos 0 ≤ℤ dot v w) (scale_one u) p) (nonneg_is (negsuc 0 *ℤ dot v u) (dot v (scale (negsuc 0) u)) (sym (dot_scale (negsuc 0) v u)) q))
         vs above below)))
-
-    first : IsAbove (scale (pos 1) u) vs ⊎ Hit vs x (scale (pos 1) u) → Turned vs x u
-    first (inr h) = from_hit vs x u (pos 1) h
-    first (inl above) = second above (hit x (scale (negsuc 0) u) vs up)
+  ]
+]

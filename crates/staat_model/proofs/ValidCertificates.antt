@@ -1,5 +1,5 @@
 -- The certificate of an outcome is valid.
-use Rattle.std.proofs.Common.{◌≡◌, ◌≢◌, pos, ◌<ℤ◌, ℕ, zero, suc, ◌<◌, arith, refl, sym, ap, subst, ⊎_elim, List, [], ◌∷◌, length, map, All, Contains}
+use Rattle.std.proofs.Common.{◌≡◌, ◌≢◌, pos, ◌<ℤ◌, ℕ, zero, suc, arith, refl, sym, ap, subst, ⊎_elim, List, [], ◌∷◌, length, map, All, Contains}
 use Rattle.std.specs.Prelude.{Some, slice_get}
 use Rattle.std.specs.FinSet as set
 use Rattle.std.proofs.lemmas.List.Elements.{All-cons, All-contains, All-head, All-nil, All-tail, All-weaker}
@@ -19,7 +19,7 @@ use Rattle.staat_model.specs.declared.certificate.Witness.{Witness}
 use Rattle.staat_model.specs.declared.certificate.Body.{Body}
 use Rattle.staat_model.specs.declared.certificate.Body.TheVariants as body
 use Rattle.staat_model.specs.declared.certificate.Certificate.{Certificate}
-use Rattle.staat_model.specs.Assemblies.{HoldsAt, IsAssembly}
+use Rattle.staat_model.specs.Assemblies.{IsAssembly}
 use Rattle.staat_model.specs.Facets.{IsFacet}
 use Rattle.staat_model.specs.Meeting.{Meets}
 use Rattle.staat_model.specs.Bridges.{IsTree}
@@ -35,8 +35,8 @@ use Rattle.staat_model.proofs.ListedVertices.{all_listed}
 use Rattle.staat_model.proofs.Members.{All-from_members}
 use Rattle.staat_model.proofs.Orders.{arc_exact, arc_total}
 use Rattle.staat_model.proofs.PieceFacets.{meets_by_facets_lemma}
-use Rattle.staat_model.proofs.Places.{one_at_place, place_within}
-use Rattle.staat_model.proofs.PlanLemmas.{has_leaf, leaf_has, no_leaf, piece_within, place_cases}
+use Rattle.staat_model.proofs.Places.{one_at_place, place_cases, place_within}
+use Rattle.staat_model.proofs.PlanLemmas.{has_leaf, held_across, leaf_has, no_leaf}
 use Rattle.staat_model.proofs.PlaneLemmas.{planes_apart}
 use Rattle.staat_model.proofs.SetBits.{has-below}
 use Rattle.staat_model.proofs.SetMembers.{has-insert, has-single}
@@ -53,11 +53,10 @@ split_holds parts s r d seps moves walls =
       moves = moves;
       walls = All-from_members (IsWall parts s r d) seps (λ sep c.
           let least = All-contains (λ (sep : Sep). Rattle.staat_vec.specs.Lists.IsLeast vector_cmp (IsFacetAway parts d sep.arc) sep.n) seps sep walls.least c in
-          let away = least.has in
-          let facet = away.facet in
+          let facet = least.has.facet in
           record {
             across = arcs.each sep.arc (Contains-map (λ (sep : Sep). sep.arc) seps sep c);
-            shown = record { p = facet.p; q = facet.q; p_is = facet.p_is; q_is = facet.q_is; holds = record { wall = IsPrimitive-some sep.n facet.holds.primitive; beyond = facet.holds.beyond; away = away.away } };
+            shown = record { p = facet.p; q = facet.q; p_is = facet.p_is; q_is = facet.q_is; holds = record { wall = IsPrimitive-some sep.n facet.holds.primitive; beyond = facet.holds.beyond; away = least.has.away } };
           });
       arcs = record { each = arcs.each; all = arcs.all; once = sorted_once arc_cmp arc_total arc_exact (map (λ sep. sep.arc) seps) arcs.ascending };
     }
@@ -65,8 +64,7 @@ split_holds parts s r d seps moves walls =
 splits_hold : (parts : List Part) (t : WalledPlan) (w : PartSet) → HasLeastWalls parts t → IsGood parts w (unwalled t) → SplitsHold parts t
 splits_hold parts (walled_leaf p) w walls good = tt
 splits_hold parts (walled_split d seps moved rest) w walls good =
-    let free = good.2 in
-    (split_holds parts (walled_parts moved) (walled_parts rest) d seps free.moves walls.0, splits_hold parts moved (walled_parts moved) walls.1 good.3, splits_hold parts rest (walled_parts rest) walls.2 good.4)
+    (split_holds parts (walled_parts moved) (walled_parts rest) d seps good.2.moves walls.0, splits_hold parts moved (walled_parts moved) walls.1 good.3, splits_hold parts rest (walled_parts rest) walls.2 good.4)
 
 leaves_once : (parts : List Part) (t : WalledPlan) (w : PartSet) → IsGood parts w (unwalled t) → (k m p : ℕ) → IsLeafAt (nodes_of t) k p → IsLeafAt (nodes_of t) m p → k ≡ m
 leaves_once parts (walled_leaf q) w good zero zero p a b = refl
@@ -102,15 +100,9 @@ plan_holds parts stated plan nodes e good are =
 
 -- ---- witnesses
 
-there_are : (parts : List Part) (d : V3) (arc : Arc) → MeetsAlong parts d arc → (arc.i < Rattle.staat_model.specs.Assemblies.piece_count parts arc.a) × (arc.j < Rattle.staat_model.specs.Assemblies.piece_count parts arc.b)
-there_are parts d arc m = (piece_within parts arc.a arc.i m.p m.p_is, piece_within parts arc.b arc.j m.q m.q_is)
-
 blocking : (parts : List Part) (d : V3) (arc : Arc) → IsAssembly parts → MeetsAlong parts d arc → IsBlocking parts d arc
 blocking parts d arc is m = at_pieces parts arc (λ p q. Meets p q d) (λ p q. (n : V3) → IsFacet p q n → pos 0 <ℤ dot n d) is.each
     (λ p q p_is q_is is_p is_q meets. (meets_by_facets_lemma p q d is_p is_q).0 meets) m
-
-more_within : (w reached : PartSet) (p : ℕ) → IsSubset reached w → Has w p → IsSubset (set.insert reached p) w
-more_within w reached p within in_w q h = ⊎_elim (λ e. subst (Has w) (sym e) in_w) (λ old. within q old) ((has-insert reached p q).0 h)
 
 module _ (parts : List Part) (w : PartSet) (d : V3) where
   -- the arcs of a tree join parts of the set
@@ -121,13 +113,10 @@ module _ (parts : List Part) (w : PartSet) (d : V3) where
       let bridge = tree.0.is in
       All-cons (IsArcWithin parts w) x arcs
       (joins x (within (step x).0 bridge.from_in) bridge.to_in (λ same. bridge.to_new (subst (Has reached) same bridge.from_in)) (All-head (IsLeastArc parts d) x arcs least).has.2)
-      (arcs_within R step joins (set.insert reached (step x).1) arcs (more_within w reached (step x).1 within bridge.to_in) tree.1 (All-tail (IsLeastArc parts d) x arcs least))
+      (arcs_within R step joins (set.insert reached (step x).1) arcs (λ q h. ⊎_elim (λ e. subst (Has w) (sym e) bridge.to_in) (within q) ((has-insert reached (step x).1 q).0 h)) tree.1 (All-tail (IsLeastArc parts d) x arcs least))
 
   arc_within : (x : Arc) → Has w x.a → Has w x.b → x.a ≢ x.b → MeetsAlong parts d x → IsArcWithin parts w x
-  arc_within x a_in b_in apart m = let pieces = there_are parts d x m in record {
-    across = record { a_in = a_in; b_in = b_in; i_in = pieces.0; j_in = pieces.1 };
-    different = apart;
-  }
+  arc_within x a_in b_in apart m = record { across = held_across parts w w x a_in b_in m; different = apart }
 
   tree_reaches : (R : ℕ → ℕ → Type 0) (reached : PartSet) (pairs : List (ℕ × ℕ)) → IsTree R w reached pairs → ReachesAll w reached pairs
   tree_reaches R reached [] tree = tree
@@ -168,8 +157,7 @@ refusal_holds parts version stated w witnesses dirs is e set_is are = record {
     tree : (witness : Witness) → Contains witnesses witness → IsWitness parts w witness
     tree witness c =
         let place = place_of witnesses witness c in
-        let numbers = are.by_first_use in
-        let used = from_map (λ (dir : Dir). dir.witness) dirs place.0 (numbers.used place.0 (place_within witnesses place.0 witness place.1)) in
+        let used = from_map (λ (dir : Dir). dir.witness) dirs place.0 (are.by_first_use.used place.0 (place_within witnesses place.0 witness place.1)) in
         let named = All-contains (NamesWitness parts w witnesses) dirs used.0 are.each used.1 in
         let same : named.witness ≡ witness = one_at_place witnesses place.0 named.witness witness (subst (λ k. slice_get witnesses k ≡ Some named.witness) (sym used.2) named.witness_is) place.1 in
         subst (IsWitness parts w) same (witness_holds parts w used.0.d named.witness named.is)

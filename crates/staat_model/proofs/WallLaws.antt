@@ -1,5 +1,6 @@
 -- A wall keeps two pieces apart.
-use Rattle.std.proofs.Common.{◌≡◌, ℕ, ◌≤◌, ◌-ℤ◌, List, [], ◌∷◌, length, sum, arith}
+use Rattle.std.proofs.Common.{◌≡◌, ◌≤◌, ◌-ℤ◌, List, [], ◌∷◌, ap, sum, arith}
+use Rattle.std.proofs.lemmas.List.{nil_from_length}
 use Rattle.staat_vec.specs.declared.vector.V3.{V3}
 use Rattle.staat_vec.specs.Vectors.{minus, dot}
 use Rattle.staat_model.specs.Cones.{differences}
@@ -22,11 +23,8 @@ none_met : (p : List V3) (d : V3) → IsSolid p → Meets p [] d → ⊥
 none_met p d solid meets =
     let r = meets.meeting in
     let some : 1 ≤ sum r.a = some_sum r.a (omega (arith, solid.a_in.1, r.a_weights.one_each)) r.a_weights.positive in
-    nothing r.b r.b_weights.one_each (omega (arith, some, r.same_sum))
-  where
-    nothing : (b : List ℕ) → length b ≡ 0 → 1 ≤ sum b → ⊥
-    nothing [] e h = omega (arith, h)
-    nothing (x ∷ b) e h = absurd (omega arith)
+    let none : sum r.b ≡ 0 = ap sum (nil_from_length r.b r.b_weights.one_each) in
+    omega (arith, some, r.same_sum, none)
 
 -- A wall keeps two pieces apart, whatever the time.
 pub wall_keeps_apart : (p q : List V3) (d n : V3) → IsSolid p → IsShown p q d n → Meets p q d → ⊥

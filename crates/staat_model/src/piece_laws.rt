@@ -38,6 +38,7 @@ pub fn opposite_facets()
 {}
 
 /// A piece meets another along the negative of d exactly where the other meets it along d.
+#[tactic(auto, using(crate::proofs::Reversed::meets_opposite_lemma))]
 pub fn opposite_meeting()
     ensures { (p q : List Vector) (d : Vector) → Meets p q (negative d) ↔ Meets q p d }
 {}

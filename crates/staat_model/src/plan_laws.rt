@@ -31,6 +31,7 @@ pub fn restrict()
 {}
 
 /// The blocking graph at the opposite direction is the reversed graph.
+#[tactic(auto, using(crate::proofs::GraphLemmas::opposite_blocks_lemma))]
 pub fn opposite_graph()
     ensures { (parts : List PartValue) (d : Vector) (a b : ℕ)
         → Blocks parts (negative d) a b ↔ Blocks parts d b a }

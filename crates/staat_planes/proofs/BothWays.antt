@@ -27,12 +27,17 @@ turned n d =
       opposite_negative_back (dot n (negative d)) (dot n d) e,
     )
 
+pub behind_turned : (ns : List V3) (d : V3) → All (λ n. dot n d <ℤ pos 0) ns ↔ All (λ n. pos 0 <ℤ dot n (negative d)) ns
+behind_turned ns d = (
+  All-weaker (λ n. dot n d <ℤ pos 0) (λ n. pos 0 <ℤ dot n (negative d)) (λ n. (turned n d).0) ns,
+  All-weaker (λ n. pos 0 <ℤ dot n (negative d)) (λ n. dot n d <ℤ pos 0) (λ n. (turned n d).1) ns,
+)
+
 pub behind_reversed : (ns : List V3) (d : V3) → All (λ n. dot n d <ℤ pos 0) ns ↔ All (λ n. pos 0 <ℤ dot n d) (reversed_facets ns)
-behind_reversed ns d =
-    let law = ahead_reversed ns d in (
-      λ all. law.0 (All-weaker (λ n. dot n d <ℤ pos 0) (λ n. pos 0 <ℤ dot n (negative d)) (λ n. (turned n d).0) ns all),
-      λ all. All-weaker (λ n. pos 0 <ℤ dot n (negative d)) (λ n. dot n d <ℤ pos 0) (λ n. (turned n d).1) ns (law.1 all),
-    )
+behind_reversed ns d = (
+  λ all. (ahead_reversed ns d).0 ((behind_turned ns d).0 all),
+  λ all. (behind_turned ns d).1 ((ahead_reversed ns d).1 all),
+)
 
 -- ---- the pieces of two parts, as far as they were looked at
 

@@ -1,18 +1,12 @@
 -- How a direction leads past facets, by the first of them and the others.
 use Rattle.std.proofs.Common.{◌≡◌, ◌↔◌, ◌∷◌, ◌∙◌, ℤ, pos, ◌<ℤ◌, Bool, FitsSigned, arith, subst, sym, List, All, of_z, to_z}
-use Rattle.std.specs.Prelude.{IsTrue, false, true}
+use Rattle.std.specs.Prelude.{IsTrue, false}
 use Rattle.std.specs.Int.{Width}
-use Rattle.std.specs.Int.Signed.{le_z, lt_z}
+use Rattle.std.specs.Int.Signed.{lt_z}
 use Rattle.std.proofs.lemmas.Bool.{false≢true}
 use Rattle.std.proofs.lemmas.Int.{ints, to_z-of_z}
 use Rattle.std.proofs.lemmas.List.Elements.{All-cons, All-head, All-rest, All-same}
 use Rattle.staat_vec.proofs.Integers.{is_less}
-
-below : (z : ℤ) → le_z (pos 0) z ≡ false → z <ℤ pos 0
-below z h = grind (arith, ints, h)
-
-not_below : (z : ℤ) → le_z (pos 0) z ≡ true → z <ℤ pos 0 → ⊥
-not_below z h k = grind (arith, ints, h, k)
 
 pub not_both : (z : ℤ) → pos 0 <ℤ z → z <ℤ pos 0 → ⊥
 not_both z h k = grind (arith, ints, h, k)
@@ -21,12 +15,6 @@ not_both z h k = grind (arith, ints, h, k)
 module _ (w : Width) (r x : ℤ) (fits : FitsSigned w r) (e : r ≡ x) where
   read : to_z w (of_z w r) ≡ x
   read = to_z-of_z w r fits ∙ e
-
-  pub is_behind : le_z (pos 0) (to_z w (of_z w r)) ≡ false → x <ℤ pos 0
-  is_behind h = below x (subst (λ z. le_z (pos 0) z ≡ false) read h)
-
-  pub not_behind : le_z (pos 0) (to_z w (of_z w r)) ≡ true → x <ℤ pos 0 → ⊥
-  not_behind h = not_below x (subst (λ z. le_z (pos 0) z ≡ true) read h)
 
   pub told_ahead : IsTrue (lt_z (pos 0) (to_z w (of_z w r))) ↔ (pos 0 <ℤ x)
   told_ahead = subst (λ z. IsTrue (lt_z (pos 0) z) ↔ (pos 0 <ℤ x)) (sym read) (is_less (pos 0) x)

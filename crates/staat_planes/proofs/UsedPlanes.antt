@@ -5,14 +5,15 @@ use Rattle.std.specs.Ordering.{nat_cmp}
 use Rattle.std.specs.List.Sorted.{IsStrictlySortedBy}
 use Rattle.std.proofs.lemmas.Bool.{cases_lt}
 use Rattle.std.proofs.lemmas.List.{get_or_append_left, get_or-append_right, get_or_default, get_or-map, length-map}
-use Rattle.std.proofs.lemmas.List.Elements.{All-contains, All-map, Contains-append_left, Contains-push, Contains-push_cases}
+use Rattle.std.proofs.lemmas.List.Elements.{All-contains, All-map}
 use Rattle.std.proofs.lemmas.Option.{get_or_from_slice_get, slice_get-get_or}
 use Rattle.staat_vec.specs.declared.vector.V3.{V3}
+use Rattle.staat_vec.specs.Lists.{Lists}
 use Rattle.staat_vec.specs.Vectors.{origin, vector_cmp}
-use Rattle.staat_vec.proofs.Naturals.{add_three_back, lt_one_more_cases}
-use Rattle.staat_vec.proofs.Comparisons.{head_less, tail_sorted, sorted_begins, sorted_push}
+use Rattle.staat_vec.proofs.Naturals.{add_three_back}
+use Rattle.staat_vec.proofs.Comparisons.{head_less, tail_sorted, sorted_begins}
 use Rattle.staat_vec.proofs.ListLaws.{Contains-map}
-use Rattle.staat_vec.proofs.Unique.{Contains-later, Contains-nothing, from_place}
+use Rattle.staat_vec.proofs.Unique.{Contains-later, from_place}
 use Rattle.staat_vec.proofs.VectorLists.{sorted_places, picked_sorted}
 use Rattle.staat_model.specs.declared.assembly.Part.{Part}
 use Rattle.staat_model.specs.declared.set.PartSet.{PartSet}
@@ -170,43 +171,16 @@ module _ (parts : List Part) (t : Table) (w : PartSet) (ks : List ℕ) (made : W
 
 -- ---- those that are marked
 
--- the numbers below j of marked planes
-pub record AreMarkedBelow (marks : List Bool) (j : ℕ) (ks : List ℕ) : Type 0 where
-  pub ascending : IsStrictlySortedBy nat_cmp ks
-  pub each : (k : ℕ) → Contains ks k ↔ ((k < j) × IsPlaneMarked marks k)
-
-pub none_below : (marks : List Bool) → AreMarkedBelow marks 0 []
-unfolding IsStrictlySortedBy
-none_below marks = record { ascending = tt; each = λ k. (λ c. absurd (Contains-nothing k c), λ h. absurd (let none = h.0 in omega (arith, none))) }
-
-pub one_below : (marks : List Bool) (j : ℕ) (ks : List ℕ) → AreMarkedBelow marks j ks → IsPlaneMarked marks j → AreMarkedBelow marks (j + 1) (ks ++ j ∷ [])
-one_below marks j ks below told = record {
-  ascending = sorted_push ks j below.ascending (λ k c. ((below.each k).0 c).0);
-  each = λ k. (
-    λ c. ⊎_elim {C = (k < j + 1) × IsPlaneMarked marks k} (λ h. let lt = ((below.each k).0 h).0 in (omega (arith, lt), ((below.each k).0 h).1)) (λ e. (omega (arith, e), subst (IsPlaneMarked marks) e told)) (Contains-push_cases ks j k c),
-    λ h. ⊎_elim {C = Contains (ks ++ j ∷ []) k} (λ lt. Contains-append_left ks (j ∷ []) k ((below.each k).1 (lt, h.1))) (λ e. subst (Contains (ks ++ j ∷ [])) (sym e) (Contains-push ks j)) (lt_one_more_cases k j h.0),
-  );
-}
-
-pub not_below : (marks : List Bool) (j : ℕ) (ks : List ℕ) → AreMarkedBelow marks j ks → (IsPlaneMarked marks j → ⊥) → AreMarkedBelow marks (j + 1) ks
-not_below marks j ks below none = record {
-  ascending = below.ascending;
-  each = λ k. (
-    λ c. let lt = ((below.each k).0 c).0 in (omega (arith, lt), ((below.each k).0 c).1),
-    λ h. ⊎_elim {C = Contains ks k} (λ lt. (below.each k).1 (lt, h.1)) (λ e. absurd (none (subst (IsPlaneMarked marks) e h.1))) (lt_one_more_cases k j h.0),
-  );
-}
-
 -- the numbers of all marked planes
-module _ (t : Table) (w : PartSet) (marks : List Bool) (ks : List ℕ) (are : AreUsedMarks t w marks) (below : AreMarkedBelow marks (length t.planes) ks) where
+module _ (t : Table) (w : PartSet) (marks : List Bool) (ks : List ℕ) (are : AreUsedMarks t w marks) (below : Lists nat_cmp (λ k. (k < length t.planes) × IsPlaneMarked marks k) ks) where
   pub marked_rise : AreRisingNumbers t.planes ks
-  marked_rise = record { ascending = below.ascending; small = λ k c. ((below.each k).0 c).0 }
+  marked_rise = record { ascending = below.ascending; small = λ k c. (below.each k c).0 }
 
   pub marked_planes : AreTablePlanes t.planes → IsSubset w t.of → length ks ≤ length t.planes → ArePlanesIn t w (planes_at t.planes ks)
   marked_planes rules within few = record {
     rules = numbered_rules t.planes rules ks marked_rise
-        (λ k lt. (below.each k).1 (let e = ap length rules.is in omega (arith, lt, e, length-append axes rules.others), are.axes k lt));
+        (λ k lt. below.all k (let e = ap length rules.is in omega (arith, lt, e, length-append axes rules.others), are.axes k lt));
     few = omega (arith, few, length-map ks (plane_at t.planes));
     are = λ parts made. numbered_planes parts t w ks made within marked_rise
-        (λ k n at. (λ c. (are.each parts k n made at).0 ((below.each k).0 c).1, λ p. (below.each k).1 (place_within t.planes k n at, (are.each parts k n made at).1 p)));
+        (λ k n at. (λ c. (are.each parts k n made at).0 (below.each k c).1, λ p. below.all k (place_within t.planes k n at, (are.each parts k n made at).1 p)));
   }

@@ -2,9 +2,9 @@
 ghost use Rattle.std.specs.Prelude.{◌≡◌, ◌⊎◌, ◌↔◌, All, IsTrue, pos, ◌<ℤ◌};
 ghost use Rattle.staat_vec.specs.declared.vector.TheConstants.{DIRECTION, NORMAL};
 ghost use Rattle.staat_vec.specs.declared.words.TheConstants.{SMALL};
-ghost use Rattle.staat_vec.specs.Vectors.{IsWithin, dot};
+ghost use Rattle.staat_vec.specs.Vectors.{IsWithin, dot, negative};
 
-use staat_vec::{DIRECTION, NORMAL, Normal, SMALL, V3, dot, is_within, small_dot};
+use staat_vec::{DIRECTION, NORMAL, Normal, SMALL, V3, dot, is_within, neg, small_dot};
 
 /// How a direction leads past facets: ahead of all, behind all, or neither. Of no facets both are so.
 #[derive(Clone, Copy)]
@@ -97,17 +97,24 @@ impl Heading {
         true
     }
 
+    // the opposite direction, led past the same facets
+    fn turned(&self) -> Heading
+        ensures is { result.d ≡ negative self.now.d }
+        ensures fair { result.fair ≡ self.now.fair }
+    {
+        Heading {
+            d: neg(self.d),
+            near: self.near,
+            fair: self.fair,
+        }
+    }
+
     // whether it leads behind all the facets
     fn is_behind(&self, facets: &[Normal]) -> bool
         requires { IsTrue self.now.fair → All (IsWithin SMALL) facets.now }
         ensures { IsTrue result ↔ All (λ n. dot n self.now.d <ℤ pos 0) facets.now }
     {
-        for n in facets {
-            if self.along(n) >= 0 {
-                return false;
-            }
-        }
-        true
+        self.turned().is_ahead(facets)
     }
 
     /// Whether it leads ahead of all the facets, and whether it leads behind all. Of the facets of two pieces it says

@@ -121,14 +121,6 @@ impl PlaneTable {
     }
 }
 
-// the place of the facet m, of so many, where they stand the other way round
-fn turned_place(count: u32, m: u32) -> u32
-    requires { m < count }
-    ensures { result ≡ count - 1 - m }
-{
-    count - 1 - m
-}
-
 // a member of the reversed list
 fn reversed_at(facets: &[Normal], m: usize) -> V3
     requires { m < length facets.now }
@@ -215,7 +207,9 @@ impl PlaneTable {
         if arc.a < arc.b {
             self.kept_number(arc, m)
         } else {
-            self.kept_number(back(arc), turned_place(self.kept_count(back(arc)), m))
+            // the facets stand there the other way round
+            let kept = back(arc);
+            self.kept_number(kept, self.kept_count(kept) - 1 - m)
         }
     }
 }

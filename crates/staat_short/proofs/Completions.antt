@@ -5,7 +5,7 @@ use Rattle.std.specs.List.Sorted.{IsStrictlySortedBy}
 use Rattle.std.specs.Ordering.{nat_cmp}
 use Rattle.std.proofs.lemmas.Bool.{le-leb}
 use Rattle.std.proofs.lemmas.List.Concat.{flat_map-cons}
-use Rattle.std.proofs.lemmas.List.Elements.{All-append, All-cons, All-head, All-nil, All-tail}
+use Rattle.std.proofs.lemmas.List.Elements.{All-cons, All-head, All-nil, All-tail}
 use Rattle.std.proofs.lemmas.Grind.{flat_map-append}
 use Rattle.staat_vec.specs.declared.vector.V3.{V3}
 use Rattle.staat_model.specs.declared.certificate.Arc.{Arc}
@@ -13,6 +13,7 @@ use Rattle.staat_model.specs.Certificates.{arc_cmp}
 use Rattle.staat_model.proofs.Members.{all_back, all_front}
 use Rattle.staat_holds.specs.declared.hold.Hold.{Hold}
 use Rattle.staat_cert.specs.Machine.{follows}
+use Rattle.staat_cert.proofs.Formats.{in_turn, onward}
 use Rattle.staat_cert.proofs.Lists.{all_one, length_one}
 use Rattle.staat_short.specs.declared.stage.PlanKind.{PlanKind}
 use Rattle.staat_short.specs.declared.stage.PlanKind.TheVariants as kind
@@ -25,21 +26,9 @@ use Rattle.staat_short.specs.declared.line.ShortLine.{ShortLine}
 use Rattle.staat_short.specs.declared.line.ShortLine.TheVariants as line
 use Rattle.staat_short.specs.ShortLines.{IsShortLine}
 use Rattle.staat_short.specs.ShortTexts.{GroupedPlan, part_alone, grouped, taken_apart, short_nodes_of, lines_of_hold, lines_of_short_node, short_lines, AreHoldsInOrder, IsAnswerInOrder, IsHoldInOrder, IsRestInOrder, IsShortInOrder, IsShortNodeInOrder, IsUngrouped}
-use Rattle.staat_short.specs.Fronts.{Place, whole_answer, in_plan, Front, untitled, titled, counting, planning, holding, complete, holds_in, grouped_in, short_answer, after_leaf, after_split, after_group, after_end, front_after, then_line, after_lines}
+use Rattle.staat_short.specs.Fronts.{Place, whole_answer, in_plan, Front, untitled, titled, counting, planning, holding, complete, holds_in, grouped_in, short_answer, after_leaf, after_split, after_group, after_end, front_after, after_lines}
 use Rattle.staat_short.proofs.FrontLines.{follows_in, lines_good}
 use Rattle.staat_vec.proofs.Options.{let_through}
-
-pub after_both : (xs ys : List ShortLine) (o : Option Front) → after_lines o (xs ++ ys) ≡ after_lines (after_lines o xs) ys
-after_both [] ys o = refl
-after_both (x ∷ xs) ys o = after_both xs ys (then_line o x)
-
--- a line, and then others
-onward : (s t : Front) (r : ShortLine) (rs : List ShortLine) → front_after s r ≡ Some t → after_lines (Some s) (r ∷ rs) ≡ after_lines (Some t) rs
-onward s t r rs e = ap (λ o. after_lines o rs) e
-
--- some lines, and then others
-in_turn : (s t u : Front) (xs ys : List ShortLine) → after_lines (Some s) xs ≡ Some t → after_lines (Some t) ys ≡ Some u → after_lines (Some s) (xs ++ ys) ≡ Some u
-in_turn s t u xs ys e f = after_both xs ys (Some s) ∙ ap (λ o. after_lines o ys) e ∙ f
 
 -- ---- holds
 
@@ -50,7 +39,7 @@ parts_run : (n : ℕ) (place : Place) (holds : List Hold) (nodes more : List ℕ
 parts_run n place holds nodes [] h = ap (λ l. Some (holding n place holds (Some (open_hold l [])))) (sym (append-nil nodes))
 parts_run n place holds nodes (p ∷ more) h =
     let regrouped : (nodes ++ p ∷ []) ++ more ≡ nodes ++ p ∷ more = append_assoc nodes (p ∷ []) more in
-    onward (holding n place holds (Some (open_hold nodes []))) (holding n place holds (Some (open_hold (nodes ++ p ∷ []) []))) (line.Part p) (map line.Part more) (let_through (follows nat_cmp nodes p) _ (follows_in nat_cmp nodes p more h))
+    onward front_after (holding n place holds (Some (open_hold nodes []))) (holding n place holds (Some (open_hold (nodes ++ p ∷ []) []))) (line.Part p) (map line.Part more) (let_through (follows nat_cmp nodes p) _ (follows_in nat_cmp nodes p more h))
     ∙ parts_run n place holds (nodes ++ p ∷ []) more (subst (IsStrictlySortedBy nat_cmp) (sym regrouped) h)
     ∙ ap (λ l. Some (holding n place holds (Some (open_hold l [])))) regrouped
 
@@ -58,15 +47,15 @@ pairs_run : (n : ℕ) (place : Place) (holds : List Hold) (nodes : List ℕ) (pa
 pairs_run n place holds nodes pairs [] h = ap (λ l. Some (holding n place holds (Some (open_hold nodes l)))) (sym (append-nil pairs))
 pairs_run n place holds nodes pairs (p ∷ more) h =
     let regrouped : (pairs ++ p ∷ []) ++ more ≡ pairs ++ p ∷ more = append_assoc pairs (p ∷ []) more in
-    onward (holding n place holds (Some (open_hold nodes pairs))) (holding n place holds (Some (open_hold nodes (pairs ++ p ∷ [])))) (line.Pair p) (map line.Pair more) (let_through (follows arc_cmp pairs p) _ (follows_in arc_cmp pairs p more h))
+    onward front_after (holding n place holds (Some (open_hold nodes pairs))) (holding n place holds (Some (open_hold nodes (pairs ++ p ∷ [])))) (line.Pair p) (map line.Pair more) (let_through (follows arc_cmp pairs p) _ (follows_in arc_cmp pairs p more h))
     ∙ pairs_run n place holds nodes (pairs ++ p ∷ []) more (subst (IsStrictlySortedBy arc_cmp) (sym regrouped) h)
     ∙ ap (λ l. Some (holding n place holds (Some (open_hold nodes l)))) regrouped
 
 hold_runs : (n : ℕ) (place : Place) (holds : List Hold) (last : Option Hold) (hold : Hold) → IsHoldInOrder hold → after_lines (Some (holding n place holds last)) (lines_of_hold hold) ≡ Some (holding n place (holds_in holds last) (Some hold))
 hold_runs n place holds last hold h =
     let all : List Hold = holds_in holds last in
-    onward (holding n place holds last) (holding n place all (Some (open_hold [] []))) line.Hold (map line.Part hold.nodes ++ map line.Pair hold.pairs) refl
-    ∙ in_turn (holding n place all (Some (open_hold [] []))) (holding n place all (Some (open_hold hold.nodes []))) (holding n place all (Some hold)) (map line.Part hold.nodes) (map line.Pair hold.pairs) (parts_run n place all [] hold.nodes h.nodes) (pairs_run n place all hold.nodes [] hold.pairs h.pairs)
+    onward front_after (holding n place holds last) (holding n place all (Some (open_hold [] []))) line.Hold (map line.Part hold.nodes ++ map line.Pair hold.pairs) refl
+    ∙ in_turn front_after (holding n place all (Some (open_hold [] []))) (holding n place all (Some (open_hold hold.nodes []))) (holding n place all (Some hold)) (map line.Part hold.nodes) (map line.Pair hold.pairs) (parts_run n place all [] hold.nodes h.nodes) (pairs_run n place all hold.nodes [] hold.pairs h.pairs)
 
 -- holds that lead to these ones
 record HoldsReach (n : ℕ) (place : Place) (s : Front) (ls : List ShortLine) (all : List Hold) : Type 0 where
@@ -89,7 +78,7 @@ holds_run n place (next ∷ more) holds last hold h =
       front = rest.front;
       hold = rest.hold;
       is = ap (after_lines (Some (holding n place holds last))) (flat_map-cons lines_of_hold hold (next ∷ more))
-          ∙ in_turn (holding n place holds last) (holding n place all (Some hold)) (holding n place rest.front (Some rest.hold)) (lines_of_hold hold) (flat_map lines_of_hold (next ∷ more)) (hold_runs n place holds last hold (All-head IsHoldInOrder hold (next ∷ more) h)) rest.is;
+          ∙ in_turn front_after (holding n place holds last) (holding n place all (Some hold)) (holding n place rest.front (Some rest.hold)) (lines_of_hold hold) (flat_map lines_of_hold (next ∷ more)) (hold_runs n place holds last hold (All-head IsHoldInOrder hold (next ∷ more) h)) rest.is;
       all_are = rest.all_are ∙ append_assoc all (hold ∷ []) (next ∷ more);
     }
 
@@ -127,7 +116,7 @@ group_reaches s n kind.Rest nodes wanted holds e h other =
     record {
       last = last;
       is = ap (after_lines (Some s)) (flat_map-cons lines_of_short_node (Group holds) [] ∙ append-nil (line.Group ∷ flat_map lines_of_hold holds))
-          ∙ onward s (holding n (in_plan nodes wanted) [] None) line.Group (flat_map lines_of_hold holds) (group_runs s n nodes wanted e)
+          ∙ onward front_after s (holding n (in_plan nodes wanted) [] None) line.Group (flat_map lines_of_hold holds) (group_runs s n nodes wanted e)
           ∙ all.is;
       grouped_is = ap (λ l. planning n kind.Rest (nodes ++ Group l ∷ []) wanted) all.all_are;
     }
@@ -135,7 +124,7 @@ group_reaches s n kind.Rest nodes wanted holds e h other =
 tree_runs : (t : GroupedPlan) (s : Front) (n : ℕ) (k : PlanKind) (nodes : List ShortNode) (wanted : ℕ) → grouped_in s ≡ planning n k nodes (suc wanted) → length nodes + length (short_nodes_of t) + wanted + 1 ≤ 2 * n → All IsShortNodeInOrder (short_nodes_of t) → (k ≡ kind.Plan → All IsUngrouped (short_nodes_of t)) → Reaches s (flat_map lines_of_short_node (short_nodes_of t)) (planning n k (nodes ++ short_nodes_of t) wanted)
 tree_runs (part_alone p) s n k nodes wanted e room h plain = record {
   last = planning n k (nodes ++ Leaf p ∷ []) wanted;
-  is = ap (after_lines (Some s)) (flat_map-cons lines_of_short_node (Leaf p) []) ∙ onward s (planning n k (nodes ++ Leaf p ∷ []) wanted) (line.Leaf p) [] (leaf_runs s n k nodes wanted p e);
+  is = ap (after_lines (Some s)) (flat_map-cons lines_of_short_node (Leaf p) []) ∙ onward front_after s (planning n k (nodes ++ Leaf p ∷ []) wanted) (line.Leaf p) [] (leaf_runs s n k nodes wanted p e);
   grouped_is = refl;
 }
 tree_runs (grouped holds) s n k nodes wanted e room h plain =
@@ -157,8 +146,8 @@ tree_runs (taken_apart d m r) s n k nodes wanted e room h plain =
     record {
       last = second.last;
       is = ap (after_lines (Some s)) ls
-          ∙ onward s split (line.Split d) (flat_map lines_of_short_node (short_nodes_of m) ++ flat_map lines_of_short_node (short_nodes_of r)) (split_runs s n k nodes wanted d e fits)
-          ∙ in_turn split first.last second.last (flat_map lines_of_short_node (short_nodes_of m)) (flat_map lines_of_short_node (short_nodes_of r)) first.is second.is;
+          ∙ onward front_after s split (line.Split d) (flat_map lines_of_short_node (short_nodes_of m) ++ flat_map lines_of_short_node (short_nodes_of r)) (split_runs s n k nodes wanted d e fits)
+          ∙ in_turn front_after split first.last second.last (flat_map lines_of_short_node (short_nodes_of m)) (flat_map lines_of_short_node (short_nodes_of r)) first.is second.is;
       grouped_is = second.grouped_is ∙ ap (λ l. planning n k l wanted) regrouped;
     }
 
@@ -172,13 +161,13 @@ plan_runs n k nodes h plain =
     let all : List ShortNode = short_nodes_of h.tree in
     let tree = tree_runs h.tree (planning n k [] 1) n k [] 0 refl (omega (arith, h.most, ap length h.is)) (subst (λ (l : List ShortNode). All IsShortNodeInOrder l) h.is h.each) (λ same. subst (λ (l : List ShortNode). All IsUngrouped l) h.is (plain same)) in
     ap (λ l. after_lines (Some (planning n k [] 1)) (flat_map lines_of_short_node l ++ line.End ∷ [])) h.is
-    ∙ in_turn (planning n k [] 1) tree.last (complete (record { parts = n; answer = short_answer k all })) (flat_map lines_of_short_node all) (line.End ∷ []) tree.is (onward tree.last (complete (record { parts = n; answer = short_answer k all })) line.End [] (end_runs tree.last n k all tree.grouped_is))
+    ∙ in_turn front_after (planning n k [] 1) tree.last (complete (record { parts = n; answer = short_answer k all })) (flat_map lines_of_short_node all) (line.End ∷ []) tree.is (onward front_after tree.last (complete (record { parts = n; answer = short_answer k all })) line.End [] (end_runs tree.last n k all tree.grouped_is))
     ∙ ap (λ l. Some (complete (record { parts = n; answer = short_answer k l }))) (sym h.is)
 
 stuck_runs : (n : ℕ) (holds : List Hold) → AreHoldsInOrder holds → after_lines (Some (holding n whole_answer [] None)) (flat_map lines_of_hold holds ++ line.End ∷ []) ≡ Some (complete (record { parts = n; answer = answer.Stuck holds }))
 stuck_runs n holds h =
     let all = all_holds_run n whole_answer holds h in
-    in_turn (holding n whole_answer [] None) (holding n whole_answer all.front (Some all.hold)) (complete (record { parts = n; answer = answer.Stuck holds })) (flat_map lines_of_hold holds) (line.End ∷ []) all.is (ap (λ l. Some (complete (record { parts = n; answer = answer.Stuck l }))) all.all_are)
+    in_turn front_after (holding n whole_answer [] None) (holding n whole_answer all.front (Some all.hold)) (complete (record { parts = n; answer = answer.Stuck holds })) (flat_map lines_of_hold holds) (line.End ∷ []) all.is (ap (λ l. Some (complete (record { parts = n; answer = answer.Stuck l }))) all.all_are)
 
 -- each certificate's lines may stand
 pub certificate_runs : (c : ShortCertificate) → IsShortInOrder c → after_lines (Some untitled) (short_lines c) ≡ Some (complete c)
@@ -191,11 +180,11 @@ certificate_runs c h = go c.parts c.answer h.answer
 
 -- ---- how a front is completed
 
-abbrev leaves : ℕ → List ShortLine
+abbrev pub leaves : ℕ → List ShortLine
 leaves zero = line.End ∷ []
 leaves (suc k) = line.Leaf 0 ∷ leaves k
 
-abbrev completion : Front → List ShortLine
+abbrev pub completion : Front → List ShortLine
 completion untitled = line.Title ∷ line.Parts 1 ∷ line.Plan ∷ leaves 1
 completion titled = line.Parts 1 ∷ line.Plan ∷ leaves 1
 completion (counting n) = line.Plan ∷ leaves 1
@@ -211,9 +200,9 @@ leaves_run zero s n k nodes e = (record { parts = n; answer = short_answer k nod
 leaves_run (suc wanted) s n k nodes e =
     let new : Front = planning n k (nodes ++ Leaf 0 ∷ []) wanted in
     let rest = leaves_run wanted new n k (nodes ++ Leaf 0 ∷ []) refl in
-    (rest.0, onward s new (line.Leaf 0) (leaves wanted) (leaf_runs s n k nodes wanted 0 e) ∙ rest.1)
+    (rest.0, onward front_after s new (line.Leaf 0) (leaves wanted) (leaf_runs s n k nodes wanted 0 e) ∙ rest.1)
 
-completes : (s : Front) → (c : ShortCertificate) × (after_lines (Some s) (completion s) ≡ Some (complete c))
+pub completes : (s : Front) → (c : ShortCertificate) × (after_lines (Some s) (completion s) ≡ Some (complete c))
 completes untitled = leaves_run 1 (planning 1 kind.Plan [] 1) 1 kind.Plan [] refl
 completes titled = leaves_run 1 (planning 1 kind.Plan [] 1) 1 kind.Plan [] refl
 completes (counting n) = leaves_run 1 (planning n kind.Plan [] 1) n kind.Plan [] refl
@@ -234,7 +223,7 @@ plan_form = All-cons IsShortLine line.Plan (leaves 1) tt (leaves_form 1)
 parts_form : All IsShortLine (line.Parts 1 ∷ line.Plan ∷ leaves 1)
 parts_form = All-cons IsShortLine (line.Parts 1) (line.Plan ∷ leaves 1) (omega arith, omega arith) plan_form
 
-completion_form : (s : Front) → All IsShortLine (completion s)
+pub completion_form : (s : Front) → All IsShortLine (completion s)
 completion_form untitled = All-cons IsShortLine line.Title (line.Parts 1 ∷ line.Plan ∷ leaves 1) tt parts_form
 completion_form titled = parts_form
 completion_form (counting n) = plan_form
@@ -244,22 +233,6 @@ completion_form (holding n whole_answer holds (Some hold)) = leaves_form 0
 completion_form (holding n (in_plan nodes wanted) holds None) = All-cons IsShortLine line.Hold (leaves wanted) tt (leaves_form wanted)
 completion_form (holding n (in_plan nodes wanted) holds (Some hold)) = leaves_form wanted
 completion_form (complete c) = All-nil IsShortLine
-
--- some certificate's lines begin with these
-pub record BeginsShortLines (ls : List ShortLine) : Type 0 where
-  pub certificate : ShortCertificate
-  pub form : IsShortInOrder certificate
-  pub more : List ShortLine
-  pub is : short_lines certificate ≡ ls ++ more
-
--- lines that may stand begin a certificate
-pub accepted_begins : (ls : List ShortLine) (s : Front) → All IsShortLine ls → after_lines (Some untitled) ls ≡ Some s → BeginsShortLines ls
-accepted_begins ls s f e =
-    let end = completes s in
-    let whole = in_turn untitled s (complete end.0) ls (completion s) e end.1 in
-    let forms = All-append IsShortLine ls (completion s) f (completion_form s) in
-    let good = lines_good (ls ++ completion s) untitled (complete end.0) forms tt whole in
-    record { certificate = end.0; form = record { lines = subst (λ (l : List ShortLine). All IsShortLine l) (sym good.1) forms; answer = good.0 }; more = completion s; is = good.1 }
 
 -- lines that lead to a whole certificate are its own
 pub complete_whole : (ls : List ShortLine) (c : ShortCertificate) → All IsShortLine ls → after_lines (Some untitled) ls ≡ Some (complete c) → IsShortInOrder c × (ls ≡ short_lines c)

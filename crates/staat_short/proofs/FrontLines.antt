@@ -1,6 +1,6 @@
 -- What may follow is the front of a certificate.
 use Rattle.std.proofs.Common.{◌≡◌, ◌++◌, ◌∷◌, ◌+◌, ◌*◌, ◌≤◌, ℕ, zero, suc, true, List, [], map, length, All, ap, sym, subst, refl, ◌∙◌, arith, append_assoc, append-nil}
-use Rattle.std.specs.Prelude.{Option, Some, None, ◌&&◌, ◌==◌, nat_le, flat_map}
+use Rattle.std.specs.Prelude.{Some, None, ◌&&◌, ◌==◌, nat_le, flat_map}
 use Rattle.std.specs.Cmp.{IsTotalOrder}
 use Rattle.std.specs.List.Sorted.{IsStrictlySortedBy}
 use Rattle.std.specs.Ordering.{nat_cmp}
@@ -8,7 +8,7 @@ use Rattle.std.specs.declared.cmp.Ordering.{Ordering}
 use Rattle.std.proofs.lemmas.Cmp.{nat_cmp_total}
 use Rattle.std.proofs.lemmas.Bool.{leb-true}
 use Rattle.std.proofs.lemmas.List.{map-append, map-id}
-use Rattle.std.proofs.lemmas.List.Elements.{All-head, All-nil, All-push, All-tail}
+use Rattle.std.proofs.lemmas.List.Elements.{All-head, All-nil, All-push}
 use Rattle.staat_vec.specs.declared.vector.V3.{V3}
 use Rattle.staat_model.specs.declared.certificate.Arc.{Arc}
 use Rattle.staat_model.specs.Certificates.{arc_cmp}
@@ -16,6 +16,7 @@ use Rattle.staat_model.proofs.Orders.{arc_total}
 use Rattle.staat_model.proofs.Members.{all_back, all_front}
 use Rattle.staat_holds.specs.declared.hold.Hold.{Hold}
 use Rattle.staat_cert.specs.Machine.{follows}
+use Rattle.staat_cert.proofs.Formats.{run_good}
 use Rattle.staat_cert.proofs.Lists.{ascending_one, flat_one, follows_there, length_one}
 use Rattle.staat_short.specs.declared.stage.PlanKind.{PlanKind}
 use Rattle.staat_short.specs.declared.stage.PlanKind.TheVariants as kind
@@ -137,24 +138,12 @@ closed_good n nodes wanted all holds h = record {
 }
 
 group_good : (s : Front) → IsGoodFront s → IsGoodFront (grouped_in s)
-group_good untitled h = h
-group_good titled h = h
-group_good (counting n) h = h
-group_good (planning n k nodes wanted) h = h
-group_good (holding n whole_answer holds last) h = h
-group_good (holding n (in_plan nodes wanted) holds None) h = h
 group_good (holding n (in_plan nodes wanted) holds (Some hold)) h = closed_good n nodes wanted (holds ++ hold ∷ []) (some_holds holds hold h.1) h.0
-group_good (complete c) h = h
+group_good s h = h
 
 group_lines : (s : Front) → lines_of_front (grouped_in s) ≡ lines_of_front s
-group_lines untitled = refl
-group_lines titled = refl
-group_lines (counting n) = refl
-group_lines (planning n k nodes wanted) = refl
-group_lines (holding n whole_answer holds last) = refl
-group_lines (holding n (in_plan nodes wanted) holds None) = refl
 group_lines (holding n (in_plan nodes wanted) holds (Some hold)) = ap (λ l. line.Title ∷ line.Parts n ∷ line.Rest ∷ l) (flat_one lines_of_short_node nodes (Group (holds ++ hold ∷ [])))
-group_lines (complete c) = refl
+group_lines s = refl
 
 behind_group : (s : Front) (r : ShortLine) (t : Front) → Follows (grouped_in s) r t → Follows s r t
 behind_group s r t h = record { good = h.good; lines = h.lines ∙ ap (λ l. l ++ r ∷ []) (group_lines s) }
@@ -163,41 +152,21 @@ behind_group s r t h = record { good = h.good; lines = h.lines ∙ ap (λ l. l +
 
 title_good : (s t : Front) → IsGoodFront s → after_title s ≡ Some t → Follows s line.Title t
 title_good untitled t h e = moved untitled line.Title titled t e (record { good = tt; lines = refl })
-title_good titled t h e = cc
-title_good (counting n) t h e = cc
-title_good (planning n k nodes wanted) t h e = cc
-title_good (holding n place holds last) t h e = cc
-title_good (complete c) t h e = cc
+title_good s t h e = cc
 
 parts_good : (s : Front) (n : ℕ) (t : Front) → 1 ≤ n → IsGoodFront s → after_parts s n ≡ Some t → Follows s (line.Parts n) t
-parts_good untitled n t f h e = cc
 parts_good titled n t f h e = moved titled (line.Parts n) (counting n) t e (record { good = f; lines = refl })
-parts_good (counting m) n t f h e = cc
-parts_good (planning m k nodes wanted) n t f h e = cc
-parts_good (holding m place holds last) n t f h e = cc
-parts_good (complete c) n t f h e = cc
+parts_good s n t f h e = cc
 
 kind_good : (k : PlanKind) (s t : Front) → IsGoodFront s → after_kind k s ≡ Some t → Follows s (kind_line k) t
-kind_good k untitled t h e = cc
-kind_good k titled t h e = cc
 kind_good k (counting n) t h e = moved (counting n) (kind_line k) (planning n k [] 1) t e (record { good = record { tree = no_more; room = omega (arith, h); each = All-nil IsShortNodeInOrder; ungrouped = λ same. All-nil IsUngrouped }; lines = refl })
-kind_good k (planning n j nodes wanted) t h e = cc
-kind_good k (holding n place holds last) t h e = cc
-kind_good k (complete c) t h e = cc
+kind_good k s t h e = cc
 
 stuck_good : (s t : Front) → IsGoodFront s → after_stuck s ≡ Some t → Follows s line.Stuck t
-stuck_good untitled t h e = cc
-stuck_good titled t h e = cc
 stuck_good (counting n) t h e = moved (counting n) line.Stuck (holding n whole_answer [] None) t e (record { good = (tt, All-nil IsHoldInOrder); lines = refl })
-stuck_good (planning n k nodes wanted) t h e = cc
-stuck_good (holding n place holds last) t h e = cc
-stuck_good (complete c) t h e = cc
+stuck_good s t h e = cc
 
 leaf_good : (s : Front) (p : ℕ) (t : Front) → IsGoodFront s → after_leaf s p ≡ Some t → Follows s (line.Leaf p) t
-leaf_good untitled p t h e = cc
-leaf_good titled p t h e = cc
-leaf_good (counting n) p t h e = cc
-leaf_good (planning n k nodes zero) p t h e = cc
 leaf_good (planning n k nodes (suc wanted)) p t h e = moved (planning n k nodes (suc wanted)) (line.Leaf p) (planning n k (nodes ++ Leaf p ∷ []) wanted) t e (record {
   good = record {
     tree = end_tree (part_alone p) (Leaf p) refl nodes wanted h.tree;
@@ -207,14 +176,9 @@ leaf_good (planning n k nodes (suc wanted)) p t h e = moved (planning n k nodes 
   };
   lines = ap (λ l. line.Title ∷ line.Parts n ∷ kind_line k ∷ l) (flat_one lines_of_short_node nodes (Leaf p));
 })
-leaf_good (holding n place holds last) p t h e = cc
-leaf_good (complete c) p t h e = cc
+leaf_good s p t h e = cc
 
 split_good : (s : Front) (d : V3) (t : Front) → IsGoodFront s → after_split s d ≡ Some t → Follows s (line.Split d) t
-split_good untitled d t h e = cc
-split_good titled d t h e = cc
-split_good (counting n) d t h e = cc
-split_good (planning n k nodes zero) d t h e = cc
 split_good (planning n k nodes (suc wanted)) d t h e =
     let new : Front = planning n k (nodes ++ Split d ∷ []) (suc (suc wanted)) in
     let test = cond_some (nat_le (length nodes + wanted + 4) (2 * n)) new t e in
@@ -228,19 +192,11 @@ split_good (planning n k nodes (suc wanted)) d t h e =
       };
       lines = ap (λ l. line.Title ∷ line.Parts n ∷ kind_line k ∷ l) (flat_one lines_of_short_node nodes (Split d));
     })
-split_good (holding n place holds last) d t h e = cc
-split_good (complete c) d t h e = cc
+split_good s d t h e = cc
 
 group_begins : (s t : Front) → IsGoodFront s → after_group s ≡ Some t → Follows s line.Group t
-group_begins untitled t h e = cc
-group_begins titled t h e = cc
-group_begins (counting n) t h e = cc
-group_begins (planning n kind.Plan nodes zero) t h e = cc
-group_begins (planning n kind.Plan nodes (suc wanted)) t h e = cc
-group_begins (planning n kind.Rest nodes zero) t h e = cc
 group_begins (planning n kind.Rest nodes (suc wanted)) t h e = moved (planning n kind.Rest nodes (suc wanted)) line.Group (holding n (in_plan nodes wanted) [] None) t e (record { good = (h, All-nil IsHoldInOrder); lines = refl })
-group_begins (holding n place holds last) t h e = cc
-group_begins (complete c) t h e = cc
+group_begins s t h e = cc
 
 -- the lines of holds, the last of which has one line more
 last_more : (n : ℕ) (place : Place) (holds : List Hold) (old new : Hold) (r : ShortLine) → lines_of_hold new ≡ lines_of_hold old ++ r ∷ [] → lines_of_front (holding n place holds (Some new)) ≡ lines_of_front (holding n place holds (Some old)) ++ r ∷ []
@@ -251,10 +207,6 @@ last_more n place holds old new r e =
     ap (place_lines n place) longer ∙ place_more n place (flat_map lines_of_hold (holds ++ old ∷ [])) (r ∷ [])
 
 hold_good : (s t : Front) → IsGoodFront s → after_hold s ≡ Some t → Follows s line.Hold t
-hold_good untitled t h e = cc
-hold_good titled t h e = cc
-hold_good (counting n) t h e = cc
-hold_good (planning n k nodes wanted) t h e = cc
 hold_good (holding n place holds last) t h e =
     let all : List Hold = holds_in holds last in
     let none : Hold = record { nodes = []; pairs = [] } in
@@ -262,18 +214,13 @@ hold_good (holding n place holds last) t h e =
       good = (h.0, All-push IsHoldInOrder all none h.1 (record { nodes = none_ascends nat_cmp; pairs = none_ascends arc_cmp }));
       lines = ap (place_lines n place) (flat_one lines_of_hold all none) ∙ place_more n place (flat_map lines_of_hold all) (line.Hold ∷ []);
     })
-hold_good (complete c) t h e = cc
+hold_good s t h e = cc
 
 -- the last hold, changed
 last_changed : (holds : List Hold) (old new : Hold) → All IsHoldInOrder (holds ++ old ∷ []) → (IsHoldInOrder old → IsHoldInOrder new) → All IsHoldInOrder (holds ++ new ∷ [])
 last_changed holds old new h f = All-push IsHoldInOrder holds new (all_front IsHoldInOrder holds (old ∷ []) h) (f (All-head IsHoldInOrder old [] (all_back IsHoldInOrder holds (old ∷ []) h)))
 
 part_good : (s : Front) (p : ℕ) (t : Front) → IsGoodFront s → after_part s p ≡ Some t → Follows s (line.Part p) t
-part_good untitled p t h e = cc
-part_good titled p t h e = cc
-part_good (counting n) p t h e = cc
-part_good (planning n k nodes wanted) p t h e = cc
-part_good (holding n place holds None) p t h e = cc
 part_good (holding n place holds (Some hold)) p t h e =
     let new : Hold = record { nodes = hold.nodes ++ p ∷ []; pairs = hold.pairs } in
     let test = cond_some ((length hold.pairs == 0) && follows nat_cmp hold.nodes p) (holding n place holds (Some new)) t e in
@@ -286,14 +233,9 @@ part_good (holding n place holds (Some hold)) p t h e =
       good = (h.0, last_changed holds hold new h.1 (λ f. record { nodes = ascends_more nat_cmp nat_cmp_total hold.nodes p f.nodes tests.1; pairs = f.pairs }));
       lines = last_more n place holds hold new (line.Part p) (ap (λ l. line.Hold ∷ l) added);
     })
-part_good (complete c) p t h e = cc
+part_good s p t h e = cc
 
 pair_good : (s : Front) (pair : Arc) (t : Front) → IsGoodFront s → after_pair s pair ≡ Some t → Follows s (line.Pair pair) t
-pair_good untitled pair t h e = cc
-pair_good titled pair t h e = cc
-pair_good (counting n) pair t h e = cc
-pair_good (planning n k nodes wanted) pair t h e = cc
-pair_good (holding n place holds None) pair t h e = cc
 pair_good (holding n place holds (Some hold)) pair t h e =
     let new : Hold = record { nodes = hold.nodes; pairs = hold.pairs ++ pair ∷ [] } in
     let test = cond_some (follows arc_cmp hold.pairs pair) (holding n place holds (Some new)) t e in
@@ -303,7 +245,7 @@ pair_good (holding n place holds (Some hold)) pair t h e =
       good = (h.0, last_changed holds hold new h.1 (λ f. record { nodes = f.nodes; pairs = ascends_more arc_cmp arc_total hold.pairs pair f.pairs test.0 }));
       lines = last_more n place holds hold new (line.Pair pair) (ap (λ l. line.Hold ∷ l) added);
     })
-pair_good (complete c) pair t h e = cc
+pair_good s pair t h e = cc
 
 plan_in_order : (n : ℕ) (k : PlanKind) (nodes : List ShortNode) → IsGoodPlan n k nodes 0 → IsAnswerInOrder n (short_answer k nodes)
 plan_in_order n kind.Plan nodes h =
@@ -318,16 +260,9 @@ plan_lines n kind.Plan nodes = refl
 plan_lines n kind.Rest nodes = refl
 
 end_good : (s t : Front) → IsGoodFront s → after_end s ≡ Some t → Follows s line.End t
-end_good untitled t h e = cc
-end_good titled t h e = cc
-end_good (counting n) t h e = cc
 end_good (planning n k nodes zero) t h e = moved (planning n k nodes zero) line.End (complete (record { parts = n; answer = short_answer k nodes })) t e (record { good = plan_in_order n k nodes h; lines = plan_lines n k nodes })
-end_good (planning n k nodes (suc wanted)) t h e = cc
-end_good (holding n whole_answer holds None) t h e = cc
 end_good (holding n whole_answer holds (Some hold)) t h e = moved (holding n whole_answer holds (Some hold)) line.End _ t e (record { good = some_holds holds hold h.1; lines = refl })
-end_good (holding n (in_plan nodes wanted) holds None) t h e = cc
-end_good (holding n (in_plan nodes wanted) holds (Some hold)) t h e = cc
-end_good (complete c) t h e = cc
+end_good s t h e = cc
 
 front_good : (s : Front) (r : ShortLine) (t : Front) → IsShortLine r → IsGoodFront s → front_after s r ≡ Some t → Follows s r t
 front_good s line.Title t f h e = title_good s t h e
@@ -343,18 +278,6 @@ front_good s (line.Part p) t f h e = part_good s p t h e
 front_good s (line.Pair pair) t f h e = pair_good s pair t h e
 front_good s line.End t f h e = behind_group s line.End t (end_good (grouped_in s) t (group_good s h) e)
 
-pub none_after : (rs : List ShortLine) → after_lines None rs ≡ None
-none_after [] = refl
-none_after (r ∷ rs) = none_after rs
-
-by_line : (r : ShortLine) (rs : List ShortLine) (s t : Front) → IsShortLine r → IsGoodFront s → ((u : Front) → IsGoodFront u → after_lines (Some u) rs ≡ Some t → IsGoodFront t × (lines_of_front t ≡ lines_of_front u ++ rs)) → (o : Option Front) → front_after s r ≡ o → after_lines o rs ≡ Some t → IsGoodFront t × (lines_of_front t ≡ lines_of_front s ++ r ∷ rs)
-by_line r rs s t f h rest None same k = let none = none_after rs in cc
-by_line r rs s t f h rest (Some u) same k =
-    let one = front_good s r u f h same in
-    let further = rest u one.good k in
-    (further.0, further.1 ∙ ap (λ l. l ++ rs) one.lines ∙ append_assoc (lines_of_front s) (r ∷ []) rs)
-
 -- what lines lead to is good, and has read these lines
 pub lines_good : (rs : List ShortLine) (s t : Front) → All IsShortLine rs → IsGoodFront s → after_lines (Some s) rs ≡ Some t → IsGoodFront t × (lines_of_front t ≡ lines_of_front s ++ rs)
-lines_good [] s t f h e = let same : s ≡ t = some_injective s t e in subst (λ (x : Front). IsGoodFront x × (lines_of_front x ≡ lines_of_front s ++ [])) same (h, sym (append-nil (lines_of_front s)))
-lines_good (r ∷ rs) s t f h e = by_line r rs s t (All-head IsShortLine r rs f) h (λ u g k. lines_good rs u t (All-tail IsShortLine r rs f) g k) (front_after s r) refl e
+lines_good = run_good front_after IsGoodFront lines_of_front IsShortLine (λ s r t f h e. let next = front_good s r t f h e in (next.good, next.lines))

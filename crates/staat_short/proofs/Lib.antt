@@ -2,7 +2,6 @@ pub mod ShortLineLemmas
 pub mod FrontLines
 pub mod Completions
 pub mod ShortReadings
-pub mod Standing
 pub mod AddLemmas
 pub mod PlanTrees
 pub mod PlanSizes

@@ -1,13 +1,11 @@
 -- How long the text of a plan for a product is at most.
-use Rattle.std.proofs.Common.{◌≡◌, ◌∙◌, ℕ, ◌+◌, ◌*◌, ◌^◌, ◌≤◌, arith, refl, ap, List, [], ◌∷◌, ◌++◌, length, length-append, All, ℤ, pos}
-use Rattle.std.specs.Prelude.{flat_map, unsigned_abs}
-use Rattle.std.specs.Fmt.{signed_decimal}
+use Rattle.std.proofs.Common.{◌≡◌, ◌∙◌, ◌+◌, ◌*◌, ◌≤◌, arith, refl, ap, List, [], ◌∷◌, length, length-append, All}
+use Rattle.std.specs.Prelude.{flat_map}
 use Rattle.std.proofs.lemmas.List.Concat.{flat_map-cons}
 use Rattle.std.proofs.lemmas.List.Elements.{All-head, All-tail}
 use Rattle.staat_limits.specs.declared.limits.TheConstants.{TEXT_LIMIT}
 use Rattle.staat_model.specs.declared.assembly.Part.{Part}
 use Rattle.staat_model.specs.Assemblies.{IsProduct}
-use Rattle.staat_model.specs.Lines.{spaced}
 use Rattle.staat_model.specs.Plans.{IsGood, Plan}
 use Rattle.staat_model.specs.Sets.{below}
 use Rattle.staat_holds.specs.Partials.{HasSmallDirections}
@@ -17,50 +15,16 @@ use Rattle.staat_short.specs.declared.short.ShortAnswer.TheVariants as answer
 use Rattle.staat_short.specs.declared.short.ShortNode.{ShortNode}
 use Rattle.staat_short.specs.declared.short.ShortNode.TheVariants.{Leaf, Split, Group}
 use Rattle.staat_short.specs.PlanNodes.{plan_nodes}
-use Rattle.staat_short.specs.ShortLines.{IsShortLine, short_line_text, short_word}
+use Rattle.staat_short.specs.ShortLines.{IsShortLine, short_line_text}
 use Rattle.staat_short.specs.ShortTexts.{IsUngrouped, lines_of_short_node, short_lines, short_text}
 use Rattle.staat_short.proofs.PlanTrees.{no_groups}
+use Rattle.staat_short.proofs.ShortLineLemmas.{short_line_length}
 use Rattle.staat_short.proofs.ShownOrders.{plan_ordered}
-use Rattle.staat_vec.proofs.Decimals.{signed_decimal_length}
-
--- ---- how long a line is
-
-abbrev AreNumbers : List ℤ → Type 0
-AreNumbers [] = Unit {0}
-AreNumbers (z ∷ zs) = (unsigned_abs z ≤ 2 ^ 81) × AreNumbers zs
-
-spaced_long : (zs : List ℤ) → AreNumbers zs → length (spaced zs) ≤ 27 * length zs + 1
-spaced_long [] small = omega arith
-spaced_long (z ∷ zs) small =
-    let one = signed_decimal_length z small.0 in
-    let rest = spaced_long zs small.1 in
-    omega (arith, one, rest, length-append (signed_decimal z) (spaced zs))
-
-row_long : (word : List ℕ) (zs : List ℤ) → length word ≤ 14 → length zs ≤ 4 → AreNumbers zs → length (word ++ spaced zs) ≤ 128
-row_long word zs few most small =
-    let numbers = spaced_long zs small in
-    omega (arith, few, most, numbers, length-append word (spaced zs))
-
-line_long : (l : ShortLine) → IsShortLine l → length (short_line_text l) ≤ 128
-line_long line.Title is = row_long (short_word line.Title) [] (omega arith) (omega arith) tt
-line_long (line.Parts n) is = row_long (short_word (line.Parts n)) (pos n ∷ []) (omega arith) (omega arith) (let small = is.1 in (omega (arith, small), tt))
-line_long line.Plan is = row_long (short_word line.Plan) [] (omega arith) (omega arith) tt
-line_long line.Stuck is = row_long (short_word line.Stuck) [] (omega arith) (omega arith) tt
-line_long line.Rest is = row_long (short_word line.Rest) [] (omega arith) (omega arith) tt
-line_long (line.Split d) is = row_long (short_word (line.Split d)) (d.x ∷ d.y ∷ d.z ∷ []) (omega arith) (omega arith)
-    (let x = is.x in let y = is.y in let z = is.z in (omega (arith, x), (omega (arith, y), (omega (arith, z), tt))))
-line_long (line.Leaf p) is = row_long (short_word (line.Leaf p)) (pos p ∷ []) (omega arith) (omega arith) (omega (arith, is), tt)
-line_long line.Group is = row_long (short_word line.Group) [] (omega arith) (omega arith) tt
-line_long line.Hold is = row_long (short_word line.Hold) [] (omega arith) (omega arith) tt
-line_long (line.Part p) is = row_long (short_word (line.Part p)) (pos p ∷ []) (omega arith) (omega arith) (omega (arith, is), tt)
-line_long (line.Pair pair) is = row_long (short_word (line.Pair pair)) (pos pair.a ∷ pos pair.i ∷ pos pair.b ∷ pos pair.j ∷ []) (omega arith) (omega arith)
-    (let a = is.below in let i = is.i in let b = is.b in let j = is.j in (omega (arith, a, b), (omega (arith, i), (omega (arith, b), (omega (arith, j), tt)))))
-line_long line.End is = row_long (short_word line.End) [] (omega arith) (omega arith) tt
 
 lines_long : (ls : List ShortLine) → All IsShortLine ls → length (flat_map short_line_text ls) ≤ 128 * length ls
 lines_long [] all = omega arith
 lines_long (l ∷ ls) all =
-    let one = line_long l (All-head IsShortLine l ls all) in
+    let one = short_line_length l (All-head IsShortLine l ls all) in
     let rest = lines_long ls (All-tail IsShortLine l ls all) in
     let both = ap length (flat_map-cons short_line_text l ls) ∙ length-append (short_line_text l) (flat_map short_line_text ls) in
     omega (arith, one, rest, both)

@@ -8,6 +8,7 @@ use Rattle.staat_model.specs.declared.certificate.Arc.{Arc}
 use Rattle.staat_model.specs.Certificates.{arc_cmp}
 use Rattle.staat_holds.specs.declared.hold.Hold.{Hold}
 use Rattle.staat_cert.specs.Machine.{follows}
+use Rattle.staat_cert.specs.TextLines.{run_by}
 use Rattle.staat_short.specs.declared.short.ShortNode.{ShortNode}
 use Rattle.staat_short.specs.declared.short.ShortNode.TheVariants.{Leaf, Split, Group}
 use Rattle.staat_short.specs.declared.short.ShortAnswer.{ShortAnswer}
@@ -119,11 +120,6 @@ front_after s (line.Part p) = after_part s p
 front_after s (line.Pair pair) = after_pair s pair
 front_after s line.End = after_end (grouped_in s)
 
-abbrev pub then_line : Option Front → ShortLine → Option Front
-then_line None l = None
-then_line (Some s) l = front_after s l
-
 -- the front after all lines
 abbrev pub after_lines : Option Front → List ShortLine → Option Front
-after_lines s [] = s
-after_lines s (l ∷ ls) = after_lines (then_line s l) ls
+after_lines = run_by front_after

@@ -1,6 +1,7 @@
 -- The stages of reading as fronts, and the lines that they have taken.
-use Rattle.std.specs.Prelude.{◌≡◌, ℕ, All, Bool, List, Option, Some, None, flat_map}
+use Rattle.std.specs.Prelude.{ℕ, Bool, List, Option, Some, None}
 use Rattle.staat_holds.specs.declared.hold.Hold.{Hold}
+use Rattle.staat_cert.specs.TextLines.{LeadsTo, MakesState}
 use Rattle.staat_short.specs.declared.stage.OpenHold.{OpenHold}
 use Rattle.staat_short.specs.declared.stage.Place.{Place as StagePlace}
 use Rattle.staat_short.specs.declared.stage.Place.TheVariants.{Whole, InPlan}
@@ -9,11 +10,9 @@ use Rattle.staat_short.specs.declared.stage.Holding.{Holding as StageHolding}
 use Rattle.staat_short.specs.declared.stage.PlanKind.{PlanKind}
 use Rattle.staat_short.specs.declared.stage.Stage.{Stage}
 use Rattle.staat_short.specs.declared.stage.Stage.TheVariants.{Untitled, Titled, Counting, Planning, Holding, Complete}
-use Rattle.staat_short.specs.declared.line.ShortLine.{ShortLine}
 use Rattle.staat_short.specs.ShortLines.{IsShortLine, short_line_text}
 use Rattle.staat_short.specs.Fronts.{Place, whole_answer, in_plan}
-use Rattle.staat_short.specs.Fronts.{Front, untitled, titled, counting, planning, holding, complete, after_lines}
-use Rattle.staat_short.specs.ShortStanding.{MakesFront}
+use Rattle.staat_short.specs.Fronts.{Front, untitled, titled, counting, planning, holding, complete, front_after}
 
 abbrev pub hold_of : OpenHold → Hold
 hold_of hold = record { nodes = hold.nodes.items; pairs = hold.pairs.items }
@@ -42,17 +41,14 @@ holding_of n h = holding n (place_in h.place) h.holds.items (last_hold h.last)
 abbrev pub PlanGoesOn : (Front → Option Front) → (old : Growth) → Bool → (new : Growth) → Type 0
 PlanGoesOn after old b new =
     (n : ℕ) (k : PlanKind) →
-    MakesFront (after (planning n k old.nodes.items old.wanted)) b (planning n k new.nodes.items new.wanted)
+    MakesState (after (planning n k old.nodes.items old.wanted)) b (planning n k new.nodes.items new.wanted)
 
 -- of all holds of which this is the last, the line made those of which that is the last or was not taken
 abbrev pub HoldGoesOn : (Front → Option Front) → (old : OpenHold) → Bool → (new : OpenHold) → Type 0
 HoldGoesOn after old b new =
     (n : ℕ) (place : Place) (holds : List Hold) →
-    MakesFront (after (holding n place holds (Some (hold_of old)))) b (holding n place holds (Some (hold_of new)))
+    MakesState (after (holding n place holds (Some (hold_of old)))) b (holding n place holds (Some (hold_of new)))
 
 -- the text is lines that lead to the stage
-pub record HasTakenShort (s : Stage) (text : List ℕ) : Type 0 where
-  pub lines : List ShortLine
-  pub is : text ≡ flat_map short_line_text lines
-  pub bounds : All IsShortLine lines
-  pub runs : after_lines (Some untitled) lines ≡ Some (front_of s)
+abbrev pub HasTakenShort : Stage → List ℕ → Type 0
+HasTakenShort s = LeadsTo short_line_text IsShortLine front_after untitled (front_of s)

@@ -3,31 +3,16 @@ ghost use Rattle.std.specs.Prelude.{◌≡◌, ◌++◌, ◌∷◌, [], ℕ, IfO
 ghost use Rattle.std.specs.Ordering.{is_lt, nat_cmp};
 ghost use Rattle.staat_model.specs.Certificates.{arc_cmp};
 ghost use Rattle.staat_cert.specs.Machine.{follows};
+ghost use Rattle.staat_cert.specs.TextLines.{MakesState};
 ghost use Rattle.staat_short.specs.Fronts.{after_hold, after_pair, after_part, holds_in};
-ghost use Rattle.staat_short.specs.ShortStanding.{MakesFront};
 ghost use Rattle.staat_short.specs.ShortViews.{HoldGoesOn, front_of, hold_of, holding_of, last_hold};
 
 use crate::stage::{Holding, OpenHold, Stage};
+use staat_cert::is_arc_below;
 use staat_holds::Hold;
 use staat_model::Arc;
 use staat_vec::Listed;
 use std::alloc::{AllocError, Global};
-
-// by the four numbers, in order
-fn is_pair_below(p: Arc, q: Arc) -> bool
-    ensures { result ≡ is_lt (arc_cmp p q) }
-{
-    if p.a != q.a {
-        return p.a < q.a;
-    }
-    if p.i != q.i {
-        return p.i < q.i;
-    }
-    if p.b != q.b {
-        return p.b < q.b;
-    }
-    p.j < q.j
-}
 
 fn is_part_below(p: u32, q: u32) -> bool
     ensures { result ≡ is_lt (nat_cmp p q) }
@@ -49,7 +34,7 @@ fn pair_follows(pairs: &[Arc], pair: Arc) -> bool
 {
     match pairs {
         [] => true,
-        [.., last] => is_pair_below(*last, pair),
+        [.., last] => is_arc_below(*last, pair),
     }
 }
 
@@ -81,7 +66,7 @@ pub fn close_hold(holding: &mut Holding) -> Result<(), AllocError>
 // A hold more.
 fn begin_hold(alloc: Global, holding: &mut Holding) -> Result<bool, AllocError>
     ensures { IfOk result (λ b. (n : ℕ) →
-        MakesFront (after_hold (holding_of n holding.old)) b (holding_of n holding.new)) }
+        MakesState (after_hold (holding_of n holding.old)) b (holding_of n holding.new)) }
 {
     close_hold(holding)?;
     holding.last = Some(OpenHold {
@@ -92,7 +77,7 @@ fn begin_hold(alloc: Global, holding: &mut Holding) -> Result<bool, AllocError>
 }
 
 pub fn hold(alloc: Global, stage: &mut Stage) -> Result<bool, AllocError>
-    ensures { IfOk result (λ b. MakesFront (after_hold (front_of stage.old)) b (front_of stage.new)) }
+    ensures { IfOk result (λ b. MakesState (after_hold (front_of stage.old)) b (front_of stage.new)) }
 {
     match stage {
         Stage::Holding { holding, .. } => begin_hold(alloc, holding),
@@ -123,7 +108,7 @@ fn take_pair(hold: &mut OpenHold, pair: Arc) -> Result<bool, AllocError>
 }
 
 pub fn part(stage: &mut Stage, p: u32) -> Result<bool, AllocError>
-    ensures { IfOk result (λ b. MakesFront (after_part (front_of stage.old) p) b (front_of stage.new)) }
+    ensures { IfOk result (λ b. MakesState (after_part (front_of stage.old) p) b (front_of stage.new)) }
 {
     match stage {
         Stage::Holding { holding, .. } => match &mut holding.last {
@@ -135,7 +120,7 @@ pub fn part(stage: &mut Stage, p: u32) -> Result<bool, AllocError>
 }
 
 pub fn pair(stage: &mut Stage, pair: Arc) -> Result<bool, AllocError>
-    ensures { IfOk result (λ b. MakesFront (after_pair (front_of stage.old) pair) b (front_of stage.new)) }
+    ensures { IfOk result (λ b. MakesState (after_pair (front_of stage.old) pair) b (front_of stage.new)) }
 {
     match stage {
         Stage::Holding { holding, .. } => match &mut holding.last {

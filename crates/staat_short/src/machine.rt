@@ -1,8 +1,9 @@
 // Whether the next line may stand there.
 ghost use Rattle.std.specs.Prelude.{◌≡◌, ℕ, IfOk, option_map};
+ghost use Rattle.staat_cert.specs.TextLines.{MakesState};
 ghost use Rattle.staat_short.specs.Fronts.{after_end, after_kind, after_parts, after_stuck, after_title, complete};
 ghost use Rattle.staat_short.specs.Fronts.{planning, short_answer};
-ghost use Rattle.staat_short.specs.ShortStanding.{EndsGroup, MakesFront, TakesShortLine};
+ghost use Rattle.staat_short.specs.ShortStanding.{EndsGroup, TakesShortLine};
 ghost use Rattle.staat_short.specs.ShortTexts.{IsShortTextOf};
 ghost use Rattle.staat_short.specs.ShortViews.{HasTakenShort, front_of, holding_of};
 
@@ -18,7 +19,7 @@ use std::alloc::{AllocError, Global};
 use std::mem;
 
 fn title(stage: &mut Stage) -> bool
-    ensures { MakesFront (after_title (front_of stage.old)) result (front_of stage.new) }
+    ensures { MakesState (after_title (front_of stage.old)) result (front_of stage.new) }
 {
     match stage {
         Stage::Untitled => {
@@ -30,7 +31,7 @@ fn title(stage: &mut Stage) -> bool
 }
 
 fn parts(stage: &mut Stage, n: u32) -> bool
-    ensures { MakesFront (after_parts (front_of stage.old) n) result (front_of stage.new) }
+    ensures { MakesState (after_parts (front_of stage.old) n) result (front_of stage.new) }
 {
     match stage {
         Stage::Titled => {
@@ -42,7 +43,7 @@ fn parts(stage: &mut Stage, n: u32) -> bool
 }
 
 fn plan(alloc: Global, kind: PlanKind, stage: &mut Stage) -> bool
-    ensures { MakesFront (after_kind kind (front_of stage.old)) result (front_of stage.new) }
+    ensures { MakesState (after_kind kind (front_of stage.old)) result (front_of stage.new) }
 {
     match stage {
         Stage::Counting(parts) => {
@@ -66,7 +67,7 @@ fn plan(alloc: Global, kind: PlanKind, stage: &mut Stage) -> bool
 }
 
 fn stuck(alloc: Global, stage: &mut Stage) -> bool
-    ensures { MakesFront (after_stuck (front_of stage.old)) result (front_of stage.new) }
+    ensures { MakesState (after_stuck (front_of stage.old)) result (front_of stage.new) }
 {
     match stage {
         Stage::Counting(parts) => {
@@ -140,7 +141,7 @@ fn ending(alloc: Global, stage: &mut Stage) -> Result<Option<ShortCertificate>, 
 }
 
 fn end(alloc: Global, stage: &mut Stage) -> Result<bool, AllocError>
-    ensures { IfOk result (λ b. MakesFront (after_end (front_of stage.old)) b (front_of stage.new)) }
+    ensures { IfOk result (λ b. MakesState (after_end (front_of stage.old)) b (front_of stage.new)) }
 {
     match ending(alloc, stage)? {
         Some(certificate) => {

@@ -1,9 +1,9 @@
 // The lines of plans, one by one.
 ghost use Rattle.std.specs.Prelude.{◌≡◌, ℕ, IfOk, MatchOption, None, Some};
+ghost use Rattle.staat_cert.specs.TextLines.{MakesState};
 ghost use Rattle.staat_short.specs.declared.stage.PlanKind.{PlanKind as Kind};
 ghost use Rattle.staat_short.specs.declared.stage.PlanKind.TheVariants.{Rest};
 ghost use Rattle.staat_short.specs.Fronts.{after_group, after_leaf, after_split, grouped_in, planning};
-ghost use Rattle.staat_short.specs.ShortStanding.{MakesFront};
 ghost use Rattle.staat_short.specs.ShortViews.{PlanGoesOn, front_of, holding_of};
 
 use crate::hold_lines::close_hold;
@@ -72,7 +72,7 @@ fn take_leaf(growth: &mut Growth, p: u32) -> Result<bool, AllocError>
 
 /// A leaf, where a tree is wanted.
 pub fn leaf(stage: &mut Stage, p: u32) -> Result<bool, AllocError>
-    ensures { IfOk result (λ b. MakesFront (after_leaf (front_of stage.old) p) b (front_of stage.new)) }
+    ensures { IfOk result (λ b. MakesState (after_leaf (front_of stage.old) p) b (front_of stage.new)) }
 {
     match stage {
         Stage::Planning { growth, .. } => take_leaf(growth, p),
@@ -83,7 +83,7 @@ pub fn leaf(stage: &mut Stage, p: u32) -> Result<bool, AllocError>
 // A split more, where a tree is wanted and so many parts have as many nodes.
 fn take_split(growth: &mut Growth, parts: u32, d: V3) -> Result<bool, AllocError>
     ensures { IfOk result (λ b. (k : Kind) →
-        MakesFront (after_split (planning parts k growth.old.nodes.items growth.old.wanted) d) b
+        MakesState (after_split (planning parts k growth.old.nodes.items growth.old.wanted) d) b
         (planning parts k growth.new.nodes.items growth.new.wanted)) }
 {
     if growth.wanted == 0 {
@@ -99,7 +99,7 @@ fn take_split(growth: &mut Growth, parts: u32, d: V3) -> Result<bool, AllocError
 
 /// A split, where a tree is wanted.
 pub fn split(stage: &mut Stage, d: V3) -> Result<bool, AllocError>
-    ensures { IfOk result (λ b. MakesFront (after_split (front_of stage.old) d) b (front_of stage.new)) }
+    ensures { IfOk result (λ b. MakesState (after_split (front_of stage.old) d) b (front_of stage.new)) }
 {
     match stage {
         Stage::Planning { parts, growth, .. } => take_split(growth, *parts, d),
@@ -128,7 +128,7 @@ fn begun_group(alloc: Global, growth: &mut Growth) -> Option<Holding>
 
 /// The beginning of a group, where a tree is wanted that may be one.
 pub fn group(alloc: Global, stage: &mut Stage) -> bool
-    ensures { MakesFront (after_group (front_of stage.old)) result (front_of stage.new) }
+    ensures { MakesState (after_group (front_of stage.old)) result (front_of stage.new) }
 {
     match stage {
         Stage::Planning {

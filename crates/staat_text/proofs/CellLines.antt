@@ -1,10 +1,10 @@
 -- The lines of cells, one more at a time; and cells have one text.
-use Rattle.std.proofs.Common.{◌≡◌, ◌∙◌, ℕ, ◌+◌, ◌<◌, ◌≤◌, refl, sym, ap, ap₂, subst, arith, true, false}
+use Rattle.std.proofs.Common.{◌≡◌, ◌∙◌, ◌↔◌, ℕ, ◌+◌, ◌<◌, ◌≤◌, refl, sym, ap, ap₂, subst, arith, Bool, cond}
 use Rattle.std.proofs.Common.{List, [], ◌∷◌, ◌++◌, length, map, take, get_or, append_assoc, All}
 use Rattle.std.specs.Fmt.{signed_decimal}
 use Rattle.std.proofs.lemmas.List.{append-nil, get_or-map, length-map, map-append, take_all, take_more}
 use Rattle.std.proofs.lemmas.List.Elements.{All-append, All-head, All-tail}
-use Rattle.std.proofs.lemmas.List.Sums.{count_by_more_no, count_by_more_yes}
+use Rattle.std.proofs.lemmas.List.Sums.{sum_by_more}
 use Rattle.staat_vec.specs.declared.vector.V3.{V3}
 use Rattle.staat_model.specs.declared.assembly.Part.{Part}
 use Rattle.staat_model.specs.declared.tree.Kind.{Kind}
@@ -12,9 +12,10 @@ use Rattle.staat_model.specs.declared.tree.Kind.TheVariants.{Edge, Open, Point}
 use Rattle.staat_model.specs.Cells.{AreCells, AreCellsOf, CellEntry, IsCell}
 use Rattle.staat_model.specs.Lines.{vector_numbers}
 use Rattle.staat_model.specs.Planes.{ArePlanes}
-use Rattle.staat_model.specs.Sets.{below}
+use Rattle.staat_model.specs.Sets.{Has, below}
 use Rattle.staat_model.proofs.OneTable.{AreCellsOf-unique, ArePlanes-unique}
 use Rattle.staat_graph.specs.Blocking.{ShowsBlocking}
+use Rattle.staat_graph.specs.Graphs.{HasArc}
 use Rattle.staat_pairs.specs.Tables.{IsTable, Table, WasMadeFrom}
 use Rattle.staat_cells.specs.CellGraphs.{IsCellGraph}
 use Rattle.staat_cells.specs.Compositions.{entry_of}
@@ -127,44 +128,28 @@ three_pushed d old a b new e f g =
 
 -- ---- counts
 
-pub counted : (kind : Kind) (cells : List Cell) (k : ℕ) (c : Cell) → k < length cells → c ≡ get_or cells k c → same_kind kind c.kind ≡ true
-    → kind_count kind (take (k + 1) (map entry_of cells)) ≡ kind_count kind (take k (map entry_of cells)) + 1
-counted kind cells k c lt at same =
-    count_by_more_yes (λ e. same_kind kind e.kind) (map entry_of cells) k (entry_of c) (let e = length-map cells entry_of in omega (arith, e, lt))
-    (ap (λ e. same_kind kind e.kind) (get_or-map entry_of cells k c (entry_of c) lt ∙ ap entry_of (sym at)) ∙ same)
-
-pub not_counted : (kind : Kind) (cells : List Cell) (k : ℕ) (c : Cell) → k < length cells → c ≡ get_or cells k c → same_kind kind c.kind ≡ false
-    → kind_count kind (take (k + 1) (map entry_of cells)) ≡ kind_count kind (take k (map entry_of cells))
-not_counted kind cells k c lt at other =
-    count_by_more_no (λ e. same_kind kind e.kind) (map entry_of cells) k (entry_of c) (let e = length-map cells entry_of in omega (arith, e, lt))
-    (ap (λ e. same_kind kind e.kind) (get_or-map entry_of cells k c (entry_of c) lt ∙ ap entry_of (sym at)) ∙ other)
+pub counted : (kind : Kind) (cells : List Cell) (k : ℕ) (c : Cell) (t : Bool) → k < length cells → c ≡ get_or cells k c → same_kind kind c.kind ≡ t
+    → kind_count kind (take (k + 1) (map entry_of cells)) ≡ kind_count kind (take k (map entry_of cells)) + cond t 1 0
+counted kind cells k c t lt at same =
+    sum_by_more (λ e. cond (same_kind kind e.kind) 1 0) (map entry_of cells) k (entry_of c) (let e = length-map cells entry_of in omega (arith, e, lt))
+    ∙ ap (λ b. kind_count kind (take k (map entry_of cells)) + cond b 1 0) (ap (λ e. same_kind kind e.kind) (get_or-map entry_of cells k c (entry_of c) lt ∙ ap entry_of (sym at)) ∙ same)
 
 pub count_all : (kind : Kind) (cells : List Cell) (k : ℕ) → length cells ≤ k → kind_count kind (take k (map entry_of cells)) ≡ kind_count kind (map entry_of cells)
 count_all kind cells k le = ap (kind_count kind) (take_all k (map entry_of cells) (let e = length-map cells entry_of in omega (arith, e, le)))
 
 -- ---- cells have one text
 
-same_line : (parts : List Part) (n : ℕ) (planes : List V3) (c : CellEntry) (rows others : List ℕ) → IsCell planes c.signs → IsGraphOfCell parts (below n) planes c rows
-    → IsGraphOfCell parts (below n) planes c others → cell_line n c rows ≡ cell_line n c others
-same_line parts n planes c rows others cell f g =
-    let shows = f cell.d cell.is in
-    let too = g cell.d cell.is in
-    ap (λ arcs. kind_word c.kind ++ numbers_before (vector_numbers c.d) (short_arcs arcs ++ 10 ∷ []))
-    (same_arcs n rows others (λ a b a_in b_in. (
-      λ h. (too a b a_in b_in).1 ((shows a b a_in b_in).0 h),
-      λ h. (shows a b a_in b_in).1 ((too a b a_in b_in).0 h),
-    )))
-
-same_lines : (parts : List Part) (n : ℕ) (planes : List V3) (cells : List CellEntry) (graphs others : List (List ℕ)) → All (λ c. IsCell planes c.signs) cells
-    → EachCell (IsGraphOfCell parts (below n) planes) cells graphs → EachCell (IsGraphOfCell parts (below n) planes) cells others
-    → cell_lines n cells graphs ≡ cell_lines n cells others
-same_lines parts n planes [] graphs others all f g = refl
-same_lines parts n planes (c ∷ cells) [] others all f g = absurd f
-same_lines parts n planes (c ∷ cells) (rows ∷ graphs) [] all f g = absurd g
-same_lines parts n planes (c ∷ cells) (rows ∷ graphs) (row ∷ others) all f g =
-    let P : CellEntry → Type 0 = λ c. IsCell planes c.signs in
-    ap₂ (λ x y. x ++ y) (same_line parts n planes c rows row (All-head P c cells all) f.0 g.0)
-    (same_lines parts n planes cells graphs others (All-tail P c cells all) f.1 g.1)
+-- Where the rows of each cell of which P holds have the same arcs, the lines are the same.
+same_lines : (n : ℕ) (P : CellEntry → Type 0) (R : CellEntry → List ℕ → Type 0)
+    → ((c : CellEntry) (rows others : List ℕ) → P c → R c rows → R c others → (a b : ℕ) → Has (below n) a → Has (below n) b → HasArc rows a b ↔ HasArc others a b)
+    → (cells : List CellEntry) (graphs others : List (List ℕ)) → All P cells → EachCell R cells graphs → EachCell R cells others → cell_lines n cells graphs ≡ cell_lines n cells others
+same_lines n P R same [] graphs others all f g = refl
+same_lines n P R same (c ∷ cells) [] others all f g = absurd f
+same_lines n P R same (c ∷ cells) (rows ∷ graphs) [] all f g = absurd g
+same_lines n P R same (c ∷ cells) (rows ∷ graphs) (row ∷ others) all f g =
+    ap₂ (λ x y. x ++ y)
+    (ap (λ arcs. kind_word c.kind ++ numbers_before (vector_numbers c.d) (short_arcs arcs ++ 10 ∷ [])) (same_arcs n rows row (λ a b a_in b_in. same c rows row (All-head P c cells all) f.0 g.0 a b a_in b_in)))
+    (same_lines n P R same cells graphs others (All-tail P c cells all) f.1 g.1)
 
 each_is_cell : (planes : List V3) (cells : List CellEntry) → AreCells planes cells → All (λ c. IsCell planes c.signs) cells
 each_is_cell planes cells are =
@@ -192,25 +177,20 @@ one_text parts n text other a b =
     subst (λ cs. EachCell (IsGraphOfCell parts (below n) b.planes) cs a.graphs) cells
     (subst (λ ps. EachCell (IsGraphOfCell parts (below n) ps) a.cells a.graphs) planes a.graphs_are) in
     a.is ∙ ap₂ (λ ps cs. cells_text (length ps) n cs a.graphs) planes cells
-    ∙ ap (λ l. totals_line (length b.planes) b.cells ++ l) (same_lines parts n b.planes b.cells a.graphs b.graphs (each_is_cell b.planes b.cells b.cells_are) graphs b.graphs_are)
+    ∙ ap (λ l. totals_line (length b.planes) b.cells ++ l)
+    (same_lines n (λ c. IsCell b.planes c.signs) (IsGraphOfCell parts (below n) b.planes) shown b.cells a.graphs b.graphs (each_is_cell b.planes b.cells b.cells_are) graphs b.graphs_are)
     ∙ sym b.is
+  where
+    shown : (c : CellEntry) (rows others : List ℕ) → IsCell b.planes c.signs → IsGraphOfCell parts (below n) b.planes c rows → IsGraphOfCell parts (below n) b.planes c others → (p q : ℕ)
+        → Has (below n) p → Has (below n) q → HasArc rows p q ↔ HasArc others p q
+    shown c rows others cell f g p q p_in q_in =
+        let x = f cell.d cell.is p q p_in q_in in
+        let y = g cell.d cell.is p q p_in q_in in (λ h. y.1 (x.0 h), λ h. x.1 (y.0 h))
 
 -- ---- any cells have one text
 
-line_by_signs : (t : Table) (n : ℕ) (c : CellEntry) (rows others : List ℕ) → IsCellGraph t c.signs rows → IsCellGraph t c.signs others
-    → cell_line n c rows ≡ cell_line n c others
-line_by_signs t n c rows others f g =
-    ap (λ arcs. kind_word c.kind ++ numbers_before (vector_numbers c.d) (short_arcs arcs ++ 10 ∷ []))
-    (same_arcs n rows others (λ a b a_in b_in. (λ h. (g a b).1 ((f a b).0 h), λ h. (f a b).1 ((g a b).0 h))))
-
-lines_by_signs : (t : Table) (n : ℕ) (cells : List CellEntry) (graphs others : List (List ℕ)) → EachCell (λ c rows. IsCellGraph t c.signs rows) cells graphs
-    → EachCell (λ c rows. IsCellGraph t c.signs rows) cells others → cell_lines n cells graphs ≡ cell_lines n cells others
-lines_by_signs t n [] graphs others f g = refl
-lines_by_signs t n (c ∷ cells) [] others f g = absurd f
-lines_by_signs t n (c ∷ cells) (rows ∷ graphs) [] f g = absurd g
-lines_by_signs t n (c ∷ cells) (rows ∷ graphs) (row ∷ others) f g =
-    ap₂ (λ x y. x ++ y) (line_by_signs t n c rows row f.0 g.0) (lines_by_signs t n cells graphs others f.1 g.1)
-
 pub one_text_by_signs : (t : Table) (n : ℕ) (cells : List CellEntry) (text other : List ℕ) → IsTextOfCells t n cells text → IsTextOfCells t n cells other → text ≡ other
 one_text_by_signs t n cells text other a b =
-    a.is ∙ ap (λ l. totals_line (length t.planes) cells ++ l) (lines_by_signs t n cells a.graphs b.graphs a.graphs_are b.graphs_are) ∙ sym b.is
+    a.is ∙ ap (λ l. totals_line (length t.planes) cells ++ l)
+    (same_lines n (λ c. Unit {0}) (λ c rows. IsCellGraph t c.signs rows) (λ c rows others known f g p q p_in q_in. (λ h. (g p q).1 ((f p q).0 h), λ h. (f p q).1 ((g p q).0 h)))
+    cells a.graphs b.graphs (λ k d lt. tt) a.graphs_are b.graphs_are) ∙ sym b.is

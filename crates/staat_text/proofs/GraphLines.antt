@@ -1,88 +1,66 @@
 -- The lines of a graph, one more at a time.
-use Rattle.std.proofs.Common.{◌≡◌, ◌∙◌, ℕ, suc, ◌+◌, ◌-◌, ◌<◌, Bool, true, false, List, [], ◌∷◌, ◌++◌, refl, sym, ap, arith, append_assoc, get_or, length, take}
+use Rattle.std.proofs.Common.{◌≡◌, ◌∙◌, ℕ, ◌+◌, ◌<◌, Bool, true, false, List, [], ◌∷◌, ◌++◌, refl, sym, ap, arith, append-nil, append_assoc, cond, get_or, length, take}
 use Rattle.std.specs.Prelude.{map, filter, flat_map}
 use Rattle.std.specs.List.{range_with_len}
-use Rattle.std.proofs.lemmas.Bool.Decides.{nat_tests}
+use Rattle.std.proofs.lemmas.Bool.{eq-eqb, eqb-true, false≢true}
+use Rattle.staat_vec.proofs.Truth.{same_truth}
 use Rattle.std.proofs.lemmas.Grind.{flat_map-append}
-use Rattle.std.proofs.lemmas.List.{flat_map_more, take_more}
-use Rattle.staat_model.specs.declared.set.PartSet.{PartSet}
-use Rattle.staat_model.specs.Lines.{members_from}
+use Rattle.std.proofs.lemmas.List.{flat_map_more, map-append, map-id, take_more}
+use Rattle.std.proofs.lemmas.List.Elements.{filter-append}
+use Rattle.std.proofs.lemmas.List.FromFn.{map-range_with_len_more}
 use Rattle.staat_graph.specs.Graphs.{HasArc}
 use Rattle.staat_text.specs.GraphTexts.{arcs_from, has_arc}
-
--- what is left from b on is b, if it is counted, and what is left from b + 1 on
-pub left : (b n : ℕ) → b < n → n - b ≡ suc (n - (b + 1))
-left b n lt = omega arith
 
 -- the text of one item more
 pub text_more : {X : Type 0} (text_of : X → List ℕ) (xs : List X) (i : ℕ) (d : X) (old text new : List ℕ) → i < length xs
     → text ≡ old ++ flat_map text_of (take i xs) → new ≡ text ++ text_of (get_or xs i d)
     → new ≡ old ++ flat_map text_of (take (i + 1) xs)
 text_more text_of xs i d old text new lt so_far is =
-    let front = flat_map text_of (take i xs) in
-    let item = text_of (get_or xs i d) in
-    is ∙ ap (λ t. t ++ item) so_far ∙ append_assoc old front item
-    ∙ ap (λ t. old ++ t) (flat_map_more text_of [] (take i xs) (get_or xs i d)
-    ∙ ap (flat_map text_of) (sym (take_more xs i d lt)))
+    is ∙ ap (λ t. t ++ text_of (get_or xs i d)) so_far ∙ flat_map_more text_of old (take i xs) (get_or xs i d)
+    ∙ ap (λ l. old ++ flat_map text_of l) (sym (take_more xs i d lt))
 
 -- ---- arcs
 
--- the arcs from a to the n parts from b on
-abbrev pub onward : List ℕ → ℕ → ℕ → ℕ → List (ℕ × ℕ)
-onward rows a b n = map (λ x. (a, x)) (filter (has_arc rows a) (range_with_len b n))
-
--- the arcs from the n parts from a on
-abbrev pub rows_onward : List ℕ → ℕ → ℕ → ℕ → List (ℕ × ℕ)
-rows_onward rows parts a n = flat_map (arcs_from rows parts) (range_with_len a n)
+one_more : (n : ℕ) → range_with_len 0 (n + 1) ≡ range_with_len 0 n ++ n ∷ []
+one_more n = sym (map-id (range_with_len 0 (n + 1))) ∙ map-range_with_len_more (λ x. x) 0 n n (omega arith) ∙ ap (λ l. l ++ n ∷ []) (map-id (range_with_len 0 n))
 
 arc_is : (rows : List ℕ) (a b : ℕ) → HasArc rows a b → has_arc rows a b ≡ true
-arc_is rows a b h = grind (arith, nat_tests)
+arc_is rows a b h = eq-eqb _ 1 h
 
 arc_is_not : (rows : List ℕ) (a b : ℕ) → (HasArc rows a b → ⊥) → has_arc rows a b ≡ false
-arc_is_not rows a b h = go (has_arc rows a b) refl
+arc_is_not rows a b h = same_truth (has_arc rows a b) false (λ e. absurd (h (eqb-true _ 1 e))) (λ e. absurd (false≢true e))
+
+abbrev arc_to : ℕ → ℕ → ℕ × ℕ
+arc_to a b = (a, b)
+
+-- the arcs from a to the parts before b + 1
+arcs_more : (rows : List ℕ) (a b : ℕ) (t : Bool) → has_arc rows a b ≡ t → arcs_from rows (b + 1) a ≡ arcs_from rows b a ++ cond t ((a, b) ∷ []) []
+arcs_more rows a b t e =
+    ap (λ l. map (arc_to a) (filter (has_arc rows a) l)) (one_more b)
+    ∙ ap (map (arc_to a)) (filter-append (has_arc rows a) (range_with_len 0 b) (b ∷ []))
+    ∙ map-append (arc_to a) (filter (has_arc rows a) (range_with_len 0 b)) (filter (has_arc rows a) (b ∷ []))
+    ∙ ap (λ l. arcs_from rows b a ++ l) (ap (λ u. map (arc_to a) (cond u (b ∷ []) [])) e ∙ either t)
   where
-    go : (t : Bool) → has_arc rows a b ≡ t → t ≡ false
-    go true e = let is : HasArc rows a b = grind (arith, nat_tests) in absurd (h is)
-    go false e = refl
+    either : (u : Bool) → map (arc_to a) (cond u (b ∷ []) []) ≡ cond u ((a, b) ∷ []) []
+    either true = refl
+    either false = refl
 
-onward_more : (rows : List ℕ) (a b n : ℕ) → has_arc rows a b ≡ true → onward rows a b (suc n) ≡ (a, b) ∷ onward rows a (b + 1) n
-onward_more rows a b n e = rw e refl
+module _ (line_of : ℕ × ℕ → List ℕ) (rows : List ℕ) (a b : ℕ) (old text new : List ℕ) (so_far : text ≡ old ++ flat_map line_of (arcs_from rows b a)) where
+  pub arc_written : HasArc rows a b → new ≡ text ++ line_of (a, b) → new ≡ old ++ flat_map line_of (arcs_from rows (b + 1) a)
+  arc_written arc is =
+      is ∙ ap (λ t. t ++ line_of (a, b)) so_far ∙ flat_map_more line_of old (arcs_from rows b a) (a, b)
+      ∙ ap (λ arcs. old ++ flat_map line_of arcs) (sym (arcs_more rows a b true (arc_is rows a b arc)))
 
-onward_same : (rows : List ℕ) (a b n : ℕ) → has_arc rows a b ≡ false → onward rows a b (suc n) ≡ onward rows a (b + 1) n
-onward_same rows a b n e = rw e refl
+  pub arc_absent : (HasArc rows a b → ⊥) → new ≡ text → new ≡ old ++ flat_map line_of (arcs_from rows (b + 1) a)
+  arc_absent none is =
+      is ∙ so_far ∙ ap (λ arcs. old ++ flat_map line_of arcs) (sym (arcs_more rows a b false (arc_is_not rows a b none) ∙ append-nil (arcs_from rows b a)))
 
--- what was written next is what stands first in what is left
-pub written : (text line new more whole : List ℕ) → new ≡ text ++ line → text ++ (line ++ more) ≡ whole → new ++ more ≡ whole
-written text line new more whole is e = ap (λ t. t ++ more) is ∙ append_assoc text line more ∙ e
-
--- nothing was written, and what is left is the same
-pub kept : (text new more less whole : List ℕ) → new ≡ text → more ≡ less → text ++ more ≡ whole → new ++ less ≡ whole
-kept text new more less whole is same e = ap (λ t. t ++ less) is ∙ sym (ap (λ t. text ++ t) same) ∙ e
-
-module _ (line_of : ℕ × ℕ → List ℕ) (rows : List ℕ) (a b parts : ℕ) (text new whole : List ℕ) (lt : b < parts) (so_far : text ++ flat_map line_of (onward rows a b (parts - b)) ≡ whole) where
-  abbrev pub rest : List (ℕ × ℕ)
-  rest = onward rows a (b + 1) (parts - (b + 1))
-
-  pub arc_written : (line : List ℕ) → HasArc rows a b → line ≡ line_of (a, b) → new ≡ text ++ line → new ++ flat_map line_of rest ≡ whole
-  arc_written line arc is more =
-      let all : onward rows a b (parts - b) ≡ (a, b) ∷ rest = ap (onward rows a b) (left b parts lt) ∙ onward_more rows a b (parts - (b + 1)) (arc_is rows a b arc) in
-      written text (line_of (a, b)) new (flat_map line_of rest) whole (more ∙ ap (λ l. text ++ l) is) (sym (ap (λ arcs. text ++ flat_map line_of arcs) all) ∙ so_far)
-
-  pub arc_absent : (HasArc rows a b → ⊥) → new ≡ text → new ++ flat_map line_of rest ≡ whole
-  arc_absent none same =
-      let all : onward rows a b (parts - b) ≡ rest = ap (onward rows a b) (left b parts lt) ∙ onward_same rows a b (parts - (b + 1)) (arc_is_not rows a b none) in
-      kept text new (flat_map line_of (onward rows a b (parts - b))) (flat_map line_of rest) whole same (ap (flat_map line_of) all) so_far
-
-pub row_written : (line_of : ℕ × ℕ → List ℕ) (rows : List ℕ) (a parts : ℕ) (text lines new whole : List ℕ) → a < parts → lines ≡ flat_map line_of (arcs_from rows parts a) → new ≡ text ++ lines
-    → text ++ flat_map line_of (rows_onward rows parts a (parts - a)) ≡ whole → new ++ flat_map line_of (rows_onward rows parts (a + 1) (parts - (a + 1))) ≡ whole
-row_written line_of rows a parts text lines new whole lt is more so_far =
+-- the arcs from the parts before a + 1
+pub row_written : (line_of : ℕ × ℕ → List ℕ) (rows : List ℕ) (a parts : ℕ) (old text new : List ℕ) → text ≡ old ++ flat_map line_of (flat_map (arcs_from rows parts) (range_with_len 0 a))
+    → new ≡ text ++ flat_map line_of (arcs_from rows parts a) → new ≡ old ++ flat_map line_of (flat_map (arcs_from rows parts) (range_with_len 0 (a + 1)))
+row_written line_of rows a parts old text new so_far is =
+    let before : List (ℕ × ℕ) = flat_map (arcs_from rows parts) (range_with_len 0 a) in
     let own : List (ℕ × ℕ) = arcs_from rows parts a in
-    let rest : List (ℕ × ℕ) = rows_onward rows parts (a + 1) (parts - (a + 1)) in
-    let all : rows_onward rows parts a (parts - a) ≡ own ++ rest = ap (rows_onward rows parts a) (left a parts lt) in
-    written text (flat_map line_of own) new (flat_map line_of rest) whole (more ∙ ap (λ l. text ++ l) is)
-    (ap (λ t. text ++ t) (sym (flat_map-append line_of own rest)) ∙ sym (ap (λ arcs. text ++ flat_map line_of arcs) all) ∙ so_far)
-
--- ---- members
-
-after : (group : PartSet) (p n : ℕ) → members_from (suc p) n group ≡ members_from (p + 1) n group
-after group p n = ap (λ q. members_from q n group) (omega arith)
+    is ∙ ap (λ t. t ++ flat_map line_of own) so_far ∙ append_assoc old (flat_map line_of before) (flat_map line_of own)
+    ∙ ap (λ l. old ++ l) (sym (flat_map-append line_of before own)
+    ∙ ap (flat_map line_of) (flat_map_more (arcs_from rows parts) [] (range_with_len 0 a) a ∙ ap (flat_map (arcs_from rows parts)) (sym (one_more a))))

@@ -2,7 +2,6 @@ pub mod PartLines
 pub mod GraphLines
 pub mod OneGraphText
 pub mod PartNumbers
-pub mod GroupLines
 pub mod PlanLines
 pub mod PlanSteps
 pub mod SameArcs

@@ -1,5 +1,5 @@
 -- The numbers of the parts in a set are the one ascending list of its members.
-use Rattle.std.proofs.Common.{◌≡◌, ◌∙◌, ◌⊎◌, ◌↔◌, inl, inr, ⊎_elim, ℕ, zero, suc, ◌+◌, ◌-◌, ◌<◌, ◌≤◌, Bool, true, false, List, [], ◌∷◌, ◌++◌, All, Contains, arith, refl, sym, ap, subst, true≢false, append_assoc, append-nil}
+use Rattle.std.proofs.Common.{◌≡◌, ◌∙◌, ◌⊎◌, ◌↔◌, inl, inr, ⊎_elim, ℕ, zero, suc, ◌+◌, ◌<◌, ◌≤◌, Bool, true, false, List, [], ◌∷◌, ◌++◌, All, Contains, arith, refl, sym, ap, subst, true≢false, cond}
 use Rattle.std.specs.Prelude.{if◌then◌else◌}
 use Rattle.std.specs.Cmp.{nat_cmp_is, nat_cmp_total}
 use Rattle.std.specs.FinMap.{nat_cmp-IsAntisymmetric}
@@ -16,9 +16,7 @@ use Rattle.staat_model.specs.SetLists.{set_of}
 use Rattle.staat_model.specs.Sets.{Has}
 use Rattle.staat_model.proofs.SetListings.{has-set_of}
 use Rattle.staat_text.specs.PlanTexts.{part_numbers}
-use Rattle.staat_text.proofs.GraphLines.{left}
 use Rattle.staat_vec.proofs.ListLaws.{Contains-there}
-use Rattle.staat_model.proofs.MemberLines.{members_more, members_same}
 
 -- ---- the members among the n numbers from s on
 
@@ -81,21 +79,20 @@ numbers_of_word w xs small is = is ∙ numbers_are w (members_from 0 32 w) (asce
 
 -- ---- one number more of a word
 
-module _ (w : PartSet) (p : ℕ) (numbers new : List ℕ) (lt : p < 32) (so_far : numbers ++ members_from p (32 - p) w ≡ members_from 0 32 w) where
-  abbrev behind : List ℕ
-  behind = members_from (p + 1) (32 - (p + 1)) w
+members_push : (n s : ℕ) (w : PartSet) → members_from s (suc n) w ≡ members_from s n w ++ cond (set.contains w (s + n)) ((s + n) ∷ []) []
+members_push zero s w = let same : s ≡ s + 0 = omega arith in ap (λ k. cond (set.contains w k) (k ∷ []) []) same
+members_push (suc n) s w =
+    let same : suc s + n ≡ s + suc n = omega arith in
+    go (set.contains w s) _ _ _ (members_push n (suc s) w ∙ ap (λ k. members_from (suc s) n w ++ cond (set.contains w k) (k ∷ []) []) same)
+  where
+    go : (b : Bool) (xs ys zs : List ℕ) → xs ≡ ys ++ zs → cond b (s ∷ xs) xs ≡ cond b (s ∷ ys) ys ++ zs
+    go true xs ys zs e = ap (λ l. s ∷ l) e
+    go false xs ys zs e = e
 
-  pub number_added : set.contains w p ≡ true → new ≡ numbers ++ p ∷ [] → new ++ behind ≡ members_from 0 32 w
-  number_added has is =
-      let all : members_from p (32 - p) w ≡ p ∷ behind = ap (λ n. members_from p n w) (left p 32 lt) ∙ members_more w p (32 - (p + 1)) has in
-      ap (λ l. l ++ behind) is ∙ append_assoc numbers (p ∷ []) behind ∙ ap (λ l. numbers ++ l) (sym all) ∙ so_far
-
-  pub number_passed : set.contains w p ≡ false → new ≡ numbers → new ++ behind ≡ members_from 0 32 w
-  number_passed none is =
-      let all : members_from p (32 - p) w ≡ behind = ap (λ n. members_from p n w) (left p 32 lt) ∙ members_same w p (32 - (p + 1)) none in
-      ap (λ l. l ++ behind) is ∙ ap (λ l. numbers ++ l) (sym all) ∙ so_far
-
-pub all_numbers : (w : PartSet) (p : ℕ) (numbers : List ℕ) → 32 ≤ p → numbers ++ members_from p (32 - p) w ≡ members_from 0 32 w → numbers ≡ members_from 0 32 w
-all_numbers w p numbers le e =
-    let none : 32 - p ≡ 0 = omega (arith, le) in
-    sym (append-nil numbers) ∙ ap (λ n. numbers ++ members_from p n w) (sym none) ∙ e
+-- the members before p + 1
+pub number_next : (w : PartSet) (p : ℕ) (t : Bool) → set.contains w p ≡ t → members_from 0 (p + 1) w ≡ members_from 0 p w ++ cond t (p ∷ []) []
+number_next w p t e =
+    let next : p + 1 ≡ suc p = omega arith in
+    let at : 0 + p ≡ p = omega arith in
+    ap (λ n. members_from 0 n w) next ∙ members_push p 0 w ∙ ap (λ k. members_from 0 p w ++ cond (set.contains w k) (k ∷ []) []) at
+    ∙ ap (λ u. members_from 0 p w ++ cond u (p ∷ []) []) e

@@ -12,6 +12,7 @@ use Rattle.staat_model.proofs.SetWords.{same_members}
 use Rattle.staat_graph.proofs.Finite.{len_fewer, len_subset}
 use Rattle.std.specs.Prelude.{Bool}
 use Rattle.staat_model.specs.declared.assembly.Part.{Part}
+use Rattle.staat_model.proofs.LeavingLemmas.{good_parts}
 use Rattle.staat_model.proofs.OneOutcome.{IsOutcome-unique}
 use Rattle.staat_text.specs.PlanTexts.{AreLeavesApart, HasLeaves, IsPlanText, plan_text, steps_of}
 use Rattle.staat_model.proofs.RestrictLemmas.{nonempty_or}
@@ -73,12 +74,12 @@ steps_small plan h =
 
 -- ---- at a split
 
-module _ (tree : Plan) (d : V3) (m r : Plan) (is : tree ≡ split d m r) where
-  pub moved_fewer : steps_of m < steps_of tree
-  moved_fewer = let e : steps_of tree ≡ 1 + steps_of m + steps_of r = ap steps_of is in omega (arith, e)
+module _ (tree : Plan) (d : V3) (m r : Plan) (is : tree ≡ split d m r) (side : Plan) where
+  pub moved_fewer : side ≡ m → steps_of side < steps_of tree
+  moved_fewer same = let e : steps_of tree ≡ 1 + steps_of m + steps_of r = ap steps_of is in let k = ap steps_of same in omega (arith, e, k)
 
-  pub rest_fewer : steps_of r < steps_of tree
-  rest_fewer = let e : steps_of tree ≡ 1 + steps_of m + steps_of r = ap steps_of is in omega (arith, e)
+  pub rest_fewer : side ≡ r → steps_of side < steps_of tree
+  rest_fewer same = let e : steps_of tree ≡ 1 + steps_of m + steps_of r = ap steps_of is in let k = ap steps_of same in omega (arith, e, k)
 
   moved_in : (p : ℕ) → Has (parts_of m) p → Has (parts_of tree) p
   moved_in p h = subst (λ (t : Plan). Has (parts_of t) p) (sym is) ((has-union (parts_of m) (parts_of r) p).1 (inl h))
@@ -86,14 +87,11 @@ module _ (tree : Plan) (d : V3) (m r : Plan) (is : tree ≡ split d m r) where
   rest_in : (p : ℕ) → Has (parts_of r) p → Has (parts_of tree) p
   rest_in p h = subst (λ (t : Plan). Has (parts_of t) p) (sym is) ((has-union (parts_of m) (parts_of r) p).1 (inr h))
 
-  pub moved_leaves : HasLeaves tree → HasLeaves m
-  moved_leaves h = record { small = λ p in_m. h.small p (moved_in p in_m); apart = (subst AreLeavesApart is h.apart).1 }
+  pub moved_leaves : side ≡ m → HasLeaves tree → HasLeaves side
+  moved_leaves same h = subst HasLeaves (sym same) (record { small = λ p in_m. h.small p (moved_in p in_m); apart = (subst AreLeavesApart is h.apart).1 })
 
-  pub rest_leaves : HasLeaves tree → HasLeaves r
-  rest_leaves h = record { small = λ p in_r. h.small p (rest_in p in_r); apart = (subst AreLeavesApart is h.apart).2 }
-
-  pub moved_steps : HasLeaves tree → steps_of m < 1024
-  moved_steps h = steps_small m (moved_leaves h)
+  pub rest_leaves : side ≡ r → HasLeaves tree → HasLeaves side
+  rest_leaves same h = subst HasLeaves (sym same) (record { small = λ p in_r. h.small p (rest_in p in_r); apart = (subst AreLeavesApart is h.apart).2 })
 
 -- ---- of what is planned
 
@@ -104,13 +102,9 @@ good_apart : (parts : List Part) (plan : Plan) (w : PartSet) → IsGood parts w 
 good_apart parts (leaf p) w good = tt
 good_apart parts (split d m r) w good = (good.1, good_apart parts m (parts_of m) good.3, good_apart parts r (parts_of r) good.4)
 
-good_parts : (parts : List Part) (plan : Plan) (w : PartSet) → IsGood parts w plan → w ≡ parts_of plan
-good_parts parts (leaf p) w good = good
-good_parts parts (split d m r) w good = good.0
-
 pub product_leaves : (parts : List Part) (plan : Plan) (w : PartSet) → ((p : ℕ) → Has w p → p < 1024) → IsGood parts w plan → HasLeaves plan
 product_leaves parts plan w small good = record {
-  small = λ p h. small p (subst (λ (u : PartSet). Has u p) (sym (good_parts parts plan w good)) h);
+  small = λ p h. small p (subst (λ (u : PartSet). Has u p) (sym (good_parts parts w plan good)) h);
   apart = good_apart parts plan w good;
 }
 

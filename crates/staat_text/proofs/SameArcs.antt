@@ -1,11 +1,11 @@
 -- Graphs with the same arcs among the parts have the same text.
-use Rattle.std.proofs.Common.{◌≡◌, ◌∙◌, ◌↔◌, refl, sym, ap, ap₂, arith, ℕ, zero, suc, ◌+◌, ◌<◌, Bool, true, false, List, ◌∷◌, ◌++◌, map, cond}
+use Rattle.std.proofs.Common.{◌≡◌, ◌∙◌, ◌↔◌, refl, sym, ap, ap₂, arith, ℕ, zero, suc, ◌+◌, ◌<◌, Bool, List, ◌∷◌, ◌++◌, map, cond}
 use Rattle.std.specs.Prelude.{◌==◌, filter, flat_map}
 use Rattle.std.specs.List.{range_with_len}
-use Rattle.std.proofs.Math.Decide.{ℕ_discrete}
-use Rattle.std.proofs.lemmas.Bool.Decides.{nat_tests}
+use Rattle.std.proofs.lemmas.Bool.{eq-eqb, eqb-true}
 use Rattle.std.proofs.lemmas.List.Concat.{flat_map-cons}
 use Rattle.staat_vec.specs.declared.vector.V3.{V3}
+use Rattle.staat_vec.proofs.Truth.{same_truth}
 use Rattle.staat_model.specs.declared.set.PartSet.{PartSet}
 use Rattle.staat_model.specs.Sets.{Has, below}
 use Rattle.staat_model.proofs.SetBits.{has-below}
@@ -53,20 +53,7 @@ range_flat f g a (suc n) same =
     flat_map-cons f a (range_with_len (a + 1) n) ∙ ap₂ (λ x y. x ++ y) (same a (omega arith)) (range_flat f g (a + 1) n (λ b lt. same b (omega (arith, lt)))) ∙ sym (flat_map-cons g a (range_with_len (a + 1) n))
 
 same_bit : (x y : ℕ) → ((x ≡ 1) ↔ (y ≡ 1)) → (x == 1) ≡ (y == 1)
-same_bit x y h = elim (ℕ_discrete x 1) [
-  | yes e ↦ ap (λ z. z == 1) (e ∙ sym (h.0 e))
-  | no ne ↦ elim (ℕ_discrete y 1) [
-    | yes e ↦ absurd (ne (h.1 e))
-    | no too ↦ not_one x ne ∙ sym (not_one y too)
-  ]
-]
-  where
-    not_one : (z : ℕ) → (z ≡ 1 → ⊥) → (z == 1) ≡ false
-    not_one z ne = by_test (z == 1) refl
-      where
-        by_test : (t : Bool) → (z == 1) ≡ t → (z == 1) ≡ false
-        by_test true e = let one : z ≡ 1 = grind (arith, nat_tests, e) in absurd (ne one)
-        by_test false e = e
+same_bit x y h = same_truth (x == 1) (y == 1) (λ e. eq-eqb y 1 (h.0 (eqb-true x 1 e))) (λ e. eq-eqb x 1 (h.1 (eqb-true y 1 e)))
 
 pub same_arcs : (n : ℕ) (rows others : List ℕ) → ((a b : ℕ) → Has (below n) a → Has (below n) b → HasArc rows a b ↔ HasArc others a b) → arcs_of rows n ≡ arcs_of others n
 same_arcs n rows others same =

@@ -16,7 +16,9 @@ use Rattle.staat_model.specs.Sets.{below}
 use Rattle.staat_graph.specs.Blocking.{ShowsBlocking}
 use Rattle.staat_pairs.specs.Tables.{Table}
 use Rattle.staat_cells.specs.CellGraphs.{IsCellGraph}
-use Rattle.staat_text.specs.GraphTexts.{arcs_of}
+use Rattle.staat_text.specs.declared.arcs.ArcForm.{ArcForm}
+use Rattle.staat_text.specs.declared.arcs.ArcForm.TheVariants.{Line, Short}
+use Rattle.staat_text.specs.GraphTexts.{arc_line, arcs_of}
 use Rattle.staat_text.specs.PlanTexts.{numbers_before}
 
 -- the word for a kind of cell
@@ -28,6 +30,11 @@ kind_word Open = codes "open"
 -- ` A>B`
 abbrev pub short_arc : ℕ × ℕ → List ℕ
 short_arc arc = codes " " ++ decimal arc.0 ++ codes ">" ++ decimal arc.1
+
+-- the arc in one form or the other
+abbrev pub arc_in : ArcForm → ℕ × ℕ → List ℕ
+arc_in Line arc = arc_line arc
+arc_in Short arc = short_arc arc
 
 -- the arcs, or ` -` where there is none
 abbrev pub short_arcs : List (ℕ × ℕ) → List ℕ

@@ -1,6 +1,6 @@
 // The text of all cells of directions, each with its blocking graph.
 ghost use Rattle.std.specs.Prelude.{◌≡◌, ◌++◌, ◌<◌, ◌≤◌, ◌^◌, [], IfOk, List};
-ghost use Rattle.std.specs.Prelude.{codes, decimal, flat_map, length, map, string_bytes};
+ghost use Rattle.std.specs.Prelude.{codes, length, map, string_bytes};
 ghost use Rattle.std.specs.Fmt.{signed_decimal};
 ghost use Rattle.staat_model.specs.declared.assembly.Part.{Part as PartValue};
 ghost use Rattle.staat_model.specs.Cells.{AreCells};
@@ -10,11 +10,12 @@ ghost use Rattle.staat_pairs.specs.Tables.{Table, WasMadeFrom};
 ghost use Rattle.staat_cells.specs.CellGraphs.{HasArcsOf};
 ghost use Rattle.staat_cells.specs.Compositions.{entry_of};
 ghost use Rattle.staat_text.specs.CellTexts.{IsAnswer, IsCellsAnswer, IsTextOfCells, count_line, line_with};
-ghost use Rattle.staat_text.specs.CellTexts.{kind_count, kind_word, same_kind, short_arc, short_arcs, totals_line};
-ghost use Rattle.staat_text.specs.GraphTexts.{arcs_from, arcs_of};
+ghost use Rattle.staat_text.specs.CellTexts.{kind_count, kind_word, same_kind, short_arcs, totals_line};
+ghost use Rattle.staat_text.specs.GraphTexts.{arcs_of};
 ghost use Rattle.staat_text.specs.Holding.{HoldsCells};
 ghost use Rattle.staat_text.specs.PlanTexts.{numbers_before};
 
+use crate::arcs::{ArcForm, push_arcs_among};
 use crate::holding::{HeldText, hold};
 use staat_cells::{Cell, CellGraphs, Cells};
 use staat_graph::Graph;
@@ -56,76 +57,13 @@ fn push_vector(line: &mut Vec<u8>, d: V3) -> Result<(), AllocError>
     push_spaced(line, d.z)
 }
 
-// Adds a digit.
-#[tactic(auto, using(crate::proofs::Digits::one_digit))]
-fn push_digit(line: &mut Vec<u8>, d: u32) -> Result<(), AllocError>
-    requires { d < 10 }
-    ensures { IfOk result (λ _. line.new.items ≡ line.old.items ++ decimal d) }
-{
-    line.push(b'0' + (d % 10) as u8)?;
-    Ok(())
-}
-
-// Adds the number of a part, which has one digit or two.
-#[tactic(auto, using(crate::proofs::Digits::one_digit_more))]
-fn push_part(line: &mut Vec<u8>, a: u32) -> Result<(), AllocError>
-    requires { a < MOST_PARTS }
-    ensures { IfOk result (λ _. line.new.items ≡ line.old.items ++ decimal a) }
-{
-    if a < 10 {
-        return push_digit(line, a);
-    }
-    push_digit(line, a / 10)?;
-    line.push(b'0' + (a % 10) as u8)?;
-    Ok(())
-}
-
-// Adds the arc from a to b.
-fn push_arc(line: &mut Vec<u8>, a: u32, b: u32) -> Result<(), AllocError>
-    requires a { a < MOST_PARTS }
-    requires b { b < MOST_PARTS }
-    ensures { IfOk result (λ _. line.new.items ≡ line.old.items ++ short_arc (a, b)) }
-{
-    line.push(b' ')?;
-    push_part(line, a)?;
-    line.push(b'>')?;
-    push_part(line, b)
-}
-
-// Adds the arcs from the part a to parts below `parts`.
-fn push_arcs_from(line: &mut Vec<u8>, g: &Graph, parts: u32, a: u32) -> Result<(), AllocError>
-    requires parts { parts ≤ MOST_PARTS }
-    requires from { a < MOST_PARTS }
-    ensures { IfOk result (λ _. line.new.items
-        ≡ line.old.items ++ flat_map short_arc (arcs_from g.now.rows parts a)) }
-{
-    let targets = g.arcs_from(a);
-    for b in 0..parts {
-        if targets.has(b) {
-            push_arc(line, a, b)?;
-        }
-    }
-    Ok(())
-}
-
-// Adds the arcs among the parts below `parts`.
-fn push_arcs(line: &mut Vec<u8>, g: &Graph, parts: u32) -> Result<(), AllocError>
-    requires { parts ≤ MOST_PARTS }
-    ensures { IfOk result (λ _. line.new.items ≡ line.old.items ++ flat_map short_arc (arcs_of g.now.rows parts)) }
-{
-    for a in 0..parts {
-        push_arcs_from(line, g, parts, a)?;
-    }
-    Ok(())
-}
-
 // Adds the arcs, or a dash where there is none.
 fn push_arcs_or_dash(line: &mut Vec<u8>, g: &Graph, parts: u32) -> Result<(), AllocError>
     requires { parts ≤ MOST_PARTS }
     ensures { IfOk result (λ _. line.new.items ≡ line.old.items ++ short_arcs (arcs_of g.now.rows parts)) }
 {
     let before = line.len();
-    push_arcs(line, g, parts)?;
+    push_arcs_among(line, g, parts, ArcForm::Short)?;
     if line.len() == before {
         line.extend_from_slice(b" -")?;
     }

@@ -13,6 +13,7 @@ use staat_vec::{Bytes, OutOfMemory};
 use std::alloc::{AllocError, Global};
 
 // Adds a number between two words.
+#[tactic(auto, using(std::proofs::Common::append_assoc))]
 fn push_counted(text: &mut Vec<u8>, before: &[u8], n: u64, behind: &[u8]) -> Result<(), AllocError>
     ensures { IfOk result (λ _. text.new.items ≡ text.old.items ++ (before.now ++ decimal n ++ behind.now)) }
 {

@@ -1,10 +1,11 @@
 // The text of the graph of which parts block which along a direction.
-ghost use Rattle.std.specs.Prelude.{◌≡◌, ◌<◌, ◌≤◌, ◌++◌, IfOk};
+ghost use Rattle.std.specs.Prelude.{◌≡◌, ◌≤◌, ◌++◌, IfOk};
 ghost use Rattle.std.specs.Prelude.{flat_map, string_bytes};
-ghost use Rattle.staat_text.specs.GraphTexts.{IsGraphText, along_line, arc_line, arcs_from, arcs_of, group_line};
+ghost use Rattle.staat_text.specs.GraphTexts.{IsGraphText, along_line, group_line};
 
+use crate::arcs::{ArcForm, push_arcs_among};
 use crate::numbers::numbers_of;
-use crate::rows::{push_arc, push_group};
+use crate::rows::push_group;
 use staat_graph::{Graph, strong_parts};
 use staat_limits::MOST_PARTS;
 use staat_model::PartSet;
@@ -17,33 +18,6 @@ pub(crate) fn along_line(alloc: Global, d: V3) -> Result<String, AllocError>
 {
     let V3 { x, y, z } = d;
     format!(in alloc; "along {x} {y} {z}\n")
-}
-
-// Adds the lines of the arcs from the part a to parts below `parts`.
-fn push_arcs_from(text: &mut Vec<u8>, g: &Graph, parts: u32, a: u32) -> Result<(), AllocError>
-    requires parts { parts ≤ MOST_PARTS }
-    requires from { a < MOST_PARTS }
-    ensures { IfOk result (λ _. text.new.items
-        ≡ text.old.items ++ flat_map arc_line (arcs_from g.now.rows parts a)) }
-{
-    let targets = g.arcs_from(a);
-    for b in 0..parts {
-        if targets.has(b) {
-            push_arc(text, a, b)?;
-        }
-    }
-    Ok(())
-}
-
-// Adds the lines of the arcs among the parts below `parts`.
-fn push_arcs(text: &mut Vec<u8>, g: &Graph, parts: u32) -> Result<(), AllocError>
-    requires { parts ≤ MOST_PARTS }
-    ensures { IfOk result (λ _. text.new.items ≡ text.old.items ++ flat_map arc_line (arcs_of g.now.rows parts)) }
-{
-    for a in 0..parts {
-        push_arcs_from(text, g, parts, a)?;
-    }
-    Ok(())
 }
 
 // Adds the line of a group.
@@ -75,7 +49,7 @@ pub fn graph_text(alloc: Global, parts: u32, d: V3, g: &Graph) -> Result<Bytes, 
 {
     let groups = strong_parts(g, PartSet::first(parts));
     let mut text = along_line(alloc, d)?.into_bytes();
-    push_arcs(&mut text, g, parts)?;
+    push_arcs_among(&mut text, g, parts, ArcForm::Line)?;
     push_groups(alloc, &mut text, &groups.of[..groups.count as usize])?;
     Ok(Bytes::from_vec(text))
 }

@@ -34,6 +34,7 @@ pub fn one_plan_text()
 {}
 
 /// A plan that takes parts of an assembly apart can be shown.
+#[tactic(auto, using(crate::proofs::PlanSteps::good_leaves))]
 pub fn good_plan_is_shown()
     ensures { (parts : List PartValue) (w : PartSetValue) (plan : Plan)
         → ((p : ℕ) → Has w p → p < MOST_PARTS) → IsGood parts w plan → HasLeaves plan }

@@ -1,6 +1,7 @@
 //! The texts that the program prints.
 #![tactic(auto)]
 
+mod arcs;
 mod cells;
 mod drills;
 mod graphs;

@@ -92,6 +92,7 @@ fn push_direction(alloc: Global, text: &mut Vec<u8>, d: V3) -> Result<(), AllocE
 }
 
 // Adds the line of a step.
+#[tactic(auto, using(std::proofs::Common::append_assoc))]
 fn push_move(
     alloc: Global,
     text: &mut Vec<u8>,

@@ -24,6 +24,7 @@ fn has_arc(rows: &[Row], a: usize, b: usize) -> bool
 }
 
 // Adds the line of the arc from a to b.
+#[tactic(auto, using(std::proofs::Common::append_assoc))]
 pub(crate) fn push_arc(text: &mut Vec<u8>, a: u32, b: u32) -> Result<(), AllocError>
     ensures { IfOk result (λ _. text.new.items ≡ text.old.items ++ arc_line (a, b)) }
 {
@@ -65,6 +66,7 @@ fn push_arcs(text: &mut Vec<u8>, rows: &[Row]) -> Result<(), AllocError>
 }
 
 // Adds the line of a group.
+#[tactic(auto, using(std::proofs::Common::append_assoc))]
 pub(crate) fn push_group(text: &mut Vec<u8>, group: &[u32]) -> Result<(), AllocError>
     ensures { IfOk result (λ _. text.new.items ≡
         text.old.items ++ (codes "group" ++ numbers_text group.now ++ codes "\n")) }

@@ -16,16 +16,14 @@ negative-negative v = same_vector (negative (negative v)) v (neg-neg v.x) (neg-n
 
 or_next-neg : (a b : ℤ) → or_next (neg_ℤ a) (neg_ℤ b) ≡ neg_ℤ (or_next a b)
 or_next-neg (pos zero) b = refl
-or_next-neg (pos (suc n)) b = refl
-or_next-neg (negsuc n) b = refl
+or_next-neg a b = refl
 
 pub first_nonzero-negative : (v : V3) → first_nonzero (negative v) ≡ neg_ℤ (first_nonzero v)
 first_nonzero-negative v = ap (λ b. or_next (neg_ℤ v.x) b) (or_next-neg v.y v.z) ∙ or_next-neg v.x (or_next v.y v.z)
 
 or_next-zero : (a b : ℤ) → or_next a b ≡ pos 0 → (a ≡ pos 0) × (b ≡ pos 0)
 or_next-zero (pos zero) b e = (refl, e)
-or_next-zero (pos (suc n)) b e = cc
-or_next-zero (negsuc n) b e = cc
+or_next-zero a b e = cc
 
 -- only the origin has no component other than 0
 pub first_nonzero-zero : (v : V3) → first_nonzero v ≡ pos 0 → v ≡ origin
@@ -36,14 +34,10 @@ first_nonzero-zero v e =
 
 or_next-sign : (a b c d : ℤ) → sign a ≡ sign c → sign b ≡ sign d → sign (or_next a b) ≡ sign (or_next c d)
 or_next-sign (pos zero) b (pos zero) d e f = f
-or_next-sign (pos zero) b (pos (suc n)) d e f = cc
-or_next-sign (pos zero) b (negsuc n) d e f = cc
-or_next-sign (pos (suc m)) b (pos zero) d e f = cc
 or_next-sign (pos (suc m)) b (pos (suc n)) d e f = refl
-or_next-sign (pos (suc m)) b (negsuc n) d e f = cc
-or_next-sign (negsuc m) b (pos zero) d e f = cc
-or_next-sign (negsuc m) b (pos (suc n)) d e f = cc
 or_next-sign (negsuc m) b (negsuc n) d e f = refl
+or_next-sign (negsuc m) b (pos zero) d e f = cc
+or_next-sign a b c d e f = cc
 
 -- the first component that is not 0 has the same sign in a vector and in the primitive one on its ray
 pub first_nonzero-sign : (v p : V3) → IsPrimitiveOf v p → sign (first_nonzero v) ≡ sign (first_nonzero p)
@@ -65,16 +59,13 @@ positive_test a h = grind (arith, ints)
 negative_test : (a : ℤ) → pos 0 <ℤ neg_ℤ a → int_lt (pos 0) a ≡ false
 negative_test a h = grind (arith, ints)
 
-IsCanon-negative : (v : V3) → IsCanon (negative v) → pos 0 <ℤ neg_ℤ (first_nonzero v)
-IsCanon-negative v h = subst (λ a. pos 0 <ℤ a) (first_nonzero-negative v) h
-
 pub canon-same : (v : V3) → IsCanon v → canon v ≡ v
 unfolding canon
 canon-same v h = ap (λ b. if b then v else negative v) (positive_test (first_nonzero v) h)
 
 pub canon-opposite : (v : V3) → IsCanon (negative v) → canon v ≡ negative v
 unfolding canon
-canon-opposite v h = ap (λ b. if b then v else negative v) (negative_test (first_nonzero v) (IsCanon-negative v h))
+canon-opposite v h = ap (λ b. if b then v else negative v) (negative_test (first_nonzero v) (subst (λ a. pos 0 <ℤ a) (first_nonzero-negative v) h))
 
 -- the origin is its own negative
 canon-origin : canon origin ≡ origin
@@ -111,14 +102,9 @@ canon-only v c h (inl e) = e ∙ sym (canon-same v (subst (λ w. IsCanon w) e h)
 canon-only v c h (inr e) = e ∙ sym (canon-opposite v (subst (λ w. IsCanon w) e h))
 
 pub canon-negative : (v : V3) → v ≢ origin → canon (negative v) ≡ canon v
-canon-negative v some = canon-only v (canon (negative v)) (IsCanon-canon (negative v) other) (by (canon-either (negative v)))
-  where
-    other : negative v ≢ origin
-    other e = some (sym (negative-negative v) ∙ ap negative e)
-
-    by : (canon (negative v) ≡ negative v) ⊎ (canon (negative v) ≡ negative (negative v)) → (canon (negative v) ≡ v) ⊎ (canon (negative v) ≡ negative v)
-    by (inl e) = inr e
-    by (inr e) = inl (e ∙ negative-negative v)
+canon-negative v some =
+    canon-only v (canon (negative v)) (IsCanon-canon (negative v) (λ e. some (sym (negative-negative v) ∙ ap negative e)))
+    (elim (canon-either (negative v)) [ inl e ↦ inr e | inr e ↦ inl (e ∙ negative-negative v) ])
 
 pub IsPrimitive-canon : (v : V3) → IsPrimitive v → IsPrimitive (canon v)
 IsPrimitive-canon v prim = canon-has (λ w. IsPrimitive w) v prim (IsPrimitive-negative v prim)
@@ -128,8 +114,7 @@ IsWithin-canon bound v h = canon-has (IsWithin bound) v h (IsWithin-negative bou
 
 -- primitive vectors on one line have one canonical vector
 pub same_canon : (n m : V3) → IsPrimitive n → IsPrimitive m → cross n m ≡ origin → canon n ≡ canon m
-same_canon n m pn pm e = by (parallel_primitives n m pn pm e)
-  where
-    by : (n ≡ m) ⊎ (n ≡ negative m) → canon n ≡ canon m
-    by (inl same) = ap canon same
-    by (inr opposite) = ap canon opposite ∙ canon-negative m (IsPrimitive-some m pm)
+same_canon n m pn pm e = elim (parallel_primitives n m pn pm e) [
+  | inl same ↦ ap canon same
+  | inr opposite ↦ ap canon opposite ∙ canon-negative m (IsPrimitive-some m pm)
+]

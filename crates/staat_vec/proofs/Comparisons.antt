@@ -1,16 +1,16 @@
 -- Comparisons: numbers by `nat_cmp`, what comes of two comparisons one after the other, and ascending lists of numbers.
-use Rattle.std.specs.declared.cmp.Ordering.TheVariants.{Equal, Less, Greater}
-use Rattle.std.proofs.Common.{arith, ℕ, ◌≡◌, ◌<◌, sym, refl, true, ap, ◌∙◌, Contains, List, ◌∷◌, [], ⊎_elim, ◌++◌, suc, ◌+◌, ◌≤◌}
+use Rattle.std.specs.declared.cmp.Ordering.TheVariants.{Equal, Less}
+use Rattle.std.proofs.Common.{arith, ℕ, ◌≡◌, ◌<◌, sym, refl, true, ap, ◌∙◌, Contains, List, ◌∷◌, [], ⊎_elim, ◌++◌, ◌+◌, ◌≤◌}
 use Rattle.std.specs.Ordering.{nat_cmp, is_eq, ordering_then}
 use Rattle.std.proofs.lemmas.Bool.Decides.{nat_tests}
 use Rattle.std.proofs.lemmas.Cmp.{ranked}
 use Rattle.std.specs.declared.cmp.Ordering.{Ordering}
 use Rattle.std.proofs.lemmas.List.Elements.{All-contains, All-from_recursion}
 use Rattle.std.specs.List.Sorted.{IsStrictlySortedBy}
+use Rattle.std.proofs.lemmas.Map.Keys.{sorted_head, sorted_tail}
 use Rattle.std.specs.List.{AllByRecursion}
 use Rattle.staat_vec.proofs.Unique.{Contains-cases, Contains-nothing, Contains-front}
 use Rattle.staat_vec.proofs.ListLaws.{Contains-there, push_each}
-use Rattle.std.specs.Cmp.{nat_cmp_is}
 
 -- ---- two numbers
 
@@ -26,14 +26,12 @@ less_number m n e = ranked m n Less (sym e)
 -- ---- one comparison after another
 
 pub from_is_eq : (o : Ordering) → is_eq o ≡ true → o ≡ Equal
-from_is_eq Less e = cc
 from_is_eq Equal e = refl
-from_is_eq Greater e = cc
+from_is_eq o e = cc
 
 pub then_both_equal : (r s : Ordering) → ordering_then r s ≡ Equal → (r ≡ Equal) × (s ≡ Equal)
-then_both_equal Less s e = absurd cc
 then_both_equal Equal s e = (refl, e)
-then_both_equal Greater s e = absurd cc
+then_both_equal r s e = absurd cc
 
 pub then_same : (m n : ℕ) (o : Ordering) → m ≡ n → ordering_then (nat_cmp m n) o ≡ o
 then_same m n o e = ap (λ c. ordering_then c o) (ap (nat_cmp m) (sym e) ∙ nat_cmp-same m)
@@ -43,20 +41,14 @@ then_less m n o lt = ap (λ c. ordering_then c o) (nat_cmp-less m n lt)
 
 -- ---- ascending numbers
 
+pub above_first : (x : ℕ) (xs : List ℕ) → AllByRecursion (λ z. nat_cmp x z ≡ Less) xs → (q : ℕ) → Contains xs q → x < q
+above_first x xs h q c = less_number x q (All-contains (λ z. nat_cmp x z ≡ Less) xs q (All-from_recursion (λ z. nat_cmp x z ≡ Less) xs h) c)
+
 pub head_less : (k : ℕ) (ks : List ℕ) (j : ℕ) → IsStrictlySortedBy nat_cmp (k ∷ ks) → Contains ks j → k < j
-unfolding IsStrictlySortedBy
-head_less k ks j s c = less_number k j (All-contains (λ z. nat_cmp k z ≡ Less) ks j (All-from_recursion (λ z. nat_cmp k z ≡ Less) ks s.0) c)
+head_less k ks j s = above_first k ks (sorted_head nat_cmp k ks s) j
 
 pub tail_sorted : (k : ℕ) (ks : List ℕ) → IsStrictlySortedBy nat_cmp (k ∷ ks) → IsStrictlySortedBy nat_cmp ks
-unfolding IsStrictlySortedBy
-tail_sorted k ks s = s.1
-
-pub above_first : (x : ℕ) (xs : List ℕ) → AllByRecursion (λ z. nat_cmp x z ≡ Less) xs → (q : ℕ) → Contains xs q → x < q
-above_first x [] h q c = absurd (Contains-nothing q c)
-above_first x (y ∷ ys) h q c = ⊎_elim {C = x < q}
-    (λ e. let lt : x < y = ranked x y Less (sym h.0) in omega (arith, lt, e))
-    (λ later. above_first x ys h.1 q later)
-    (Contains-cases y ys q c)
+tail_sorted = sorted_tail nat_cmp
 
 pub sorted_push_less : (xs : List ℕ) (x : ℕ) → IsStrictlySortedBy nat_cmp xs → ((y : ℕ) → Contains xs y → nat_cmp y x ≡ Less)
     → IsStrictlySortedBy nat_cmp (xs ++ x ∷ [])
@@ -66,10 +58,7 @@ sorted_push_less (y ∷ ys) x h f =
     (push_each (λ z. nat_cmp y z ≡ Less) ys x h.0 (f y (Contains-front y ys)), sorted_push_less ys x h.1 (λ z z_in. f z (Contains-there y z ys z_in)))
 
 pub sorted_push : (xs : List ℕ) (x : ℕ) → IsStrictlySortedBy nat_cmp xs → ((y : ℕ) → Contains xs y → y < x) → IsStrictlySortedBy nat_cmp (xs ++ x ∷ [])
-unfolding IsStrictlySortedBy
-sorted_push [] x h f = (tt, tt)
-sorted_push (y ∷ ys) x h f =
-    (push_each (λ z. nat_cmp y z ≡ Less) ys x h.0 (sym (nat_cmp_is y x Less (f y (0, omega arith, refl)))), sorted_push ys x h.1 (λ z (k, lt, e). f z (suc k, omega (arith, lt), e)))
+sorted_push xs x h f = sorted_push_less xs x h (λ y c. nat_cmp-less y x (f y c))
 
 -- an ascending list of numbers from n on that has n begins with it
 pub sorted_begins : (n : ℕ) (ks : List ℕ) → IsStrictlySortedBy nat_cmp ks → ((k : ℕ) → Contains ks k → n ≤ k) → Contains ks n → (rest : List ℕ) × (ks ≡ n ∷ rest) × IsStrictlySortedBy nat_cmp rest × ((k : ℕ) → Contains rest k → n + 1 ≤ k) × ((k : ℕ) → Contains ks k → n < k → Contains rest k)

@@ -133,13 +133,11 @@ content-le v bound some h = by (unsigned_abs v.x) (unsigned_abs v.y) (unsigned_a
 
 pub abs-neg : (a : ℤ) → unsigned_abs (neg_ℤ a) ≡ unsigned_abs a
 abs-neg (pos zero) = refl
-abs-neg (pos (suc n)) = refl
-abs-neg (negsuc n) = refl
+abs-neg a = refl
 
 pub neg-neg : (a : ℤ) → neg_ℤ (neg_ℤ a) ≡ a
 neg-neg (pos zero) = refl
-neg-neg (pos (suc n)) = refl
-neg-neg (negsuc n) = refl
+neg-neg a = refl
 
 pub int_div-neg : (a : ℤ) (g : ℕ) → int_div (neg_ℤ a) (pos g) ≡ neg_ℤ (int_div a (pos g))
 int_div-neg (pos zero) g = ap pos (zero-div g) ∙ ap (λ n. neg_ℤ (pos n)) (sym (zero-div g))

@@ -1,6 +1,5 @@
 -- Whole numbers: signs, opposites, products, and what follows of numbers that are 0.
-use Rattle.std.proofs.Common.{arith, inl, inr, negsuc, pos, refl, suc, zero, ℤ, ◌≡◌, ◌≢◌, ◌⊎◌, ◌≤ℤ◌, ◌<ℤ◌, ℕ, ◌≤◌, neg_ℤ, ◌-ℤ◌}
-use Rattle.std.proofs.Common.{◌*ℤ◌, ap, ◌∙◌, [], ◌∷◌, subst, ◌+ℤ◌, ◌+◌, List, sum, of_z, to_z, ◌<◌, ◌^◌}
+use Rattle.std.proofs.Common.{arith, inl, inr, negsuc, pos, refl, suc, zero, ℤ, ◌≡◌, ◌≢◌, ◌⊎◌, ◌≤ℤ◌, ◌<ℤ◌, ℕ, ◌≤◌, neg_ℤ, ◌-ℤ◌, ◌*ℤ◌, ap, ◌∙◌, [], ◌∷◌, subst, ◌+ℤ◌, ◌+◌, List, sum, of_z, to_z, ◌<◌, ◌^◌}
 use Rattle.std.proofs.lemmas.Int.{ints, fits_signed_from_abs, to_z-of_z}
 use Rattle.staat_vec.proofs.Ring.{at, num, ring, ◌⊖◌, ◌⊗◌}
 use Rattle.staat_vec.proofs.Order.{negative_mul, nonneg_mul, nonneg_pos}
@@ -18,8 +17,7 @@ is_less a b = (λ h. grind (arith, ints, h), λ h. grind (arith, ints, h))
 
 pub zero_or : (a : ℤ) → (a ≡ pos 0) ⊎ (a ≢ pos 0)
 zero_or (pos zero) = inl refl
-zero_or (pos (suc n)) = inr (λ e. omega (arith, ints))
-zero_or (negsuc n) = inr (λ e. omega (arith, ints))
+zero_or a = inr (λ e. omega (arith, ints))
 
 pub zero_nonneg : (a : ℤ) → a ≡ pos 0 → pos 0 ≤ℤ a
 zero_nonneg a e = omega (arith, ints)
@@ -38,14 +36,16 @@ positive_not_zero z h e = omega (arith, ints)
 
 pub positive_from_nonneg : (a : ℤ) → pos 0 ≤ℤ a → a ≢ pos 0 → pos 0 <ℤ a
 positive_from_nonneg (pos zero) h some = absurd (some refl)
-positive_from_nonneg (pos (suc n)) h some = omega (arith, ints)
-positive_from_nonneg (negsuc n) h some = absurd h.le
+positive_from_nonneg a h some = omega (arith, ints)
 
 pub negative_nonpositive : (a : ℤ) → a <ℤ pos 0 → a ≤ℤ pos 0
 negative_nonpositive a h = omega (arith, ints)
 
 pub negative_nonneg_clash : (a : ℤ) → a <ℤ pos 0 → pos 0 ≤ℤ a → ⊥
 negative_nonneg_clash a h g = omega (arith, ints)
+
+pub positive_nonpositive_clash : (a : ℤ) → pos 0 <ℤ a → a ≤ℤ pos 0 → ⊥
+positive_nonpositive_clash a h g = omega (arith, ints)
 
 pub zero_from_bounds : (a : ℤ) → pos 0 ≤ℤ a → a ≤ℤ pos 0 → a ≡ pos 0
 zero_from_bounds a h g = omega (arith, ints)
@@ -107,39 +107,23 @@ products_swapped a b = ring (a ∷ b ∷ []) (at 0 ⊗ at 1 ⊖ at 1 ⊗ at 0) (
 
 pub other_factor_zero : (a b : ℤ) → a ≢ pos 0 → a *ℤ b ≡ pos 0 → b ≡ pos 0
 other_factor_zero (pos zero) b n e = absurd (n refl)
-other_factor_zero (pos (suc a)) (pos b) n e = omega (arith, ints)
-other_factor_zero (pos (suc a)) (negsuc b) n e = absurd (omega (arith, ints))
-other_factor_zero (negsuc a) (pos zero) n e = refl
-other_factor_zero (negsuc a) (pos (suc b)) n e = absurd (omega (arith, ints))
-other_factor_zero (negsuc a) (negsuc b) n e = absurd (omega (arith, ints))
-
-pub cancel_positive_zero : (a b : ℤ) → pos 0 <ℤ a → a *ℤ b ≡ pos 0 → b ≡ pos 0
-cancel_positive_zero (pos zero) b h e = absurd h.lt
-cancel_positive_zero (pos (suc a)) (pos b) h e = omega (arith, ints)
-cancel_positive_zero (pos (suc a)) (negsuc b) h e = absurd (omega (arith, ints))
-cancel_positive_zero (negsuc a) b h e = absurd h.lt
+other_factor_zero a (pos zero) n e = refl
+other_factor_zero a b n e = absurd (omega (arith, ints))
 
 pub cancel_positive : (a t : ℤ) → pos 0 <ℤ a → pos 0 <ℤ (a *ℤ t) → pos 0 <ℤ t
-cancel_positive (pos zero) t h g = absurd h.lt
-cancel_positive (pos (suc a)) (pos zero) h g = absurd (omega (arith, ints))
 cancel_positive (pos (suc a)) (pos (suc t)) h g = omega (arith, ints)
-cancel_positive (pos (suc a)) (negsuc t) h g = absurd (omega (arith, ints))
-cancel_positive (negsuc a) t h g = absurd h.lt
+cancel_positive a t h g = absurd (omega (arith, ints))
 
 pub two_negatives : (a b : ℤ) → a <ℤ pos 0 → b <ℤ pos 0 → pos 0 <ℤ (a *ℤ b)
-two_negatives (pos n) b h k = absurd (omega (arith, ints))
-two_negatives (negsuc a) (pos n) h k = absurd (omega (arith, ints))
 two_negatives (negsuc a) (negsuc b) h k = omega (arith, ints)
+two_negatives a b h k = absurd (omega (arith, ints))
 
 pub mixed_product : (k p : ℤ) → k <ℤ pos 0 → pos 0 <ℤ p → (k *ℤ p) <ℤ pos 0
 mixed_product k p h g = subst (λ z. z <ℤ pos 0) (ring (p ∷ k ∷ []) (at 0 ⊗ at 1) (at 1 ⊗ at 0) tt) (negative_mul p k g h)
 
 pub positive_nonpositive_mul : (k x : ℤ) → pos 0 <ℤ k → x ≤ℤ pos 0 → (k *ℤ x) ≤ℤ pos 0
-positive_nonpositive_mul (pos zero) x h g = absurd h.lt
-positive_nonpositive_mul (pos (suc k)) (pos zero) h g = omega (arith, ints)
 positive_nonpositive_mul (pos (suc k)) (pos (suc x)) h g = absurd (omega (arith, ints))
-positive_nonpositive_mul (pos (suc k)) (negsuc x) h g = omega (arith, ints)
-positive_nonpositive_mul (negsuc k) x h g = absurd h.lt
+positive_nonpositive_mul k x h g = omega (arith, ints)
 
 pub pos-sum : (a b : ℕ) (m : ℤ) → pos (a + b) *ℤ m ≡ (pos a *ℤ m) +ℤ (pos b *ℤ m)
 pos-sum a b m = omega (arith, ints)

@@ -1,13 +1,13 @@
 -- Lists: what stands at a place, members, and what a list that is mapped, cut, filled or filtered holds.
-use Rattle.std.proofs.Common.{List, ap, get_or, length, sym, ℕ, ◌<◌, ◌∙◌, ◌≡◌, Contains, [], arith, refl, suc, zero, ◌∷◌, ◌++◌, drop, ◌+◌, inl}
-use Rattle.std.proofs.Common.{inr, ⊎_elim, ◌⊎◌, set, map, subst, Bool, cond, false, true, take, ◌≤◌, ◌≢◌, sum, ◌&&◌}
+use Rattle.std.proofs.Common.{List, ap, get_or, length, sym, ℕ, ◌<◌, ◌∙◌, ◌≡◌, Contains, [], arith, refl, suc, zero, ◌∷◌, ◌++◌, drop, ◌+◌, inl, inr, ⊎_elim, ◌⊎◌, set, map, subst, Bool, cond, false, true, take, ◌≤◌, ◌≢◌, sum, ◌&&◌}
 use Rattle.std.specs.Prelude.{Some, slice_get, option_map, replicate, slice_index, All, flat_map, ◌==◌}
 use Rattle.std.proofs.lemmas.Option.{slice_get-get_or, get_or_from_slice_get, slice_get-map, slice_get_within}
-use Rattle.std.proofs.lemmas.List.{get_or-replicate, get_or_past, length-replicate, take_all, take_more, append-nil, drop_all}
+use Rattle.std.proofs.lemmas.List.{get_or-map, get_or-replicate, get_or-set_same, get_or_default, get_or_past, get_or_read, length-map, length-replicate, length-set, nil_from_length, take_all, take_more, append-nil, drop_all}
 use Rattle.staat_vec.proofs.Naturals.{lt_or_le, same_or}
 use Rattle.staat_vec.proofs.Unique.{Contains-cases, Contains-front, Contains-later, Contains-nothing, from_place}
 use Rattle.std.specs.List.{filter, AllByRecursion}
-use Rattle.std.proofs.lemmas.List.Elements.{All-cons, All-head, All-nil, All-tail, All-append, All-contains}
+use Rattle.std.proofs.lemmas.List.Elements.{All-head, All-nil, All-tail, All-append, All-contains, All-contains_itself, All-filter, All-from_recursion, All-map as mapped, All-push, All-weaker, recursion_from_All}
+use Rattle.staat_vec.proofs.Options.{option_map_found}
 use Rattle.std.proofs.lemmas.List.Concat.{flat_map-cons}
 use Rattle.staat_vec.specs.Lists.{IsFirst, FailsFirst}
 use Rattle.std.proofs.lemmas.Bool.{eqb-true}
@@ -22,12 +22,10 @@ pub place_of : {X : Type 0} (xs : List X) (x : X) → Contains xs x → (k : ℕ
 place_of xs x (k, lt, e) = (k, slice_get-get_or xs k x lt ∙ (λ i. Some (e i)))
 
 pub any_default : {X : Type 0} (xs : List X) (k : ℕ) (d e : X) → k < length xs → get_or xs k d ≡ get_or xs k e
-any_default [] k d e lt = absurd (omega arith)
-any_default (x ∷ xs) zero d e lt = refl
-any_default (x ∷ xs) (suc k) d e lt = any_default xs k d e (omega arith)
+any_default = get_or_default
 
 pub other_default : {X : Type 0} (xs : List X) (i : ℕ) (x d : X) → i < length xs → x ≡ get_or xs i x → x ≡ get_or xs i d
-other_default xs i x d lt is = sym (get_or_from_slice_get xs i x d (slice_get-get_or xs i x lt ∙ (λ j. Some (sym is j))))
+other_default xs i x d lt is = get_or_read xs i x lt is d
 
 pub get_front : {X : Type 0} (xs ys : List X) (k : ℕ) (x : X) → slice_get xs k ≡ Some x → slice_get (xs ++ ys) k ≡ Some x
 get_front [] ys k x e = cc
@@ -47,23 +45,17 @@ push_cases (z ∷ xs) y x zero e = inl e
 push_cases (z ∷ xs) y x (suc k) e = ⊎_elim (λ h. inl h) (λ h. inr (ap suc h.0, h.1)) (push_cases xs y x k e)
 
 pub push_front : {X : Type 0} (xs : List X) (y x : X) (k : ℕ) → slice_get xs k ≡ Some x → slice_get (xs ++ y ∷ []) k ≡ Some x
-push_front [] y x k e = absurd cc
-push_front (z ∷ xs) y x zero e = e
-push_front (z ∷ xs) y x (suc k) e = push_front xs y x k e
+push_front xs y x k e = get_front xs (y ∷ []) k x e
 
 pub push_end : {X : Type 0} (xs : List X) (y : X) → slice_get (xs ++ y ∷ []) (length xs) ≡ Some y
 push_end [] y = refl
 push_end (z ∷ xs) y = push_end xs y
 
 pub set_here : {X : Type 0} (xs : List X) (k : ℕ) (x : X) → k < length xs → slice_get (set xs k x) k ≡ Some x
-set_here [] k x lt = absurd (omega arith)
-set_here (y ∷ xs) zero x lt = refl
-set_here (y ∷ xs) (suc k) x lt = set_here xs k x (omega arith)
+set_here xs k x lt = slice_get-get_or (set xs k x) k x (omega (arith, length-set xs k x, lt)) ∙ ap Some (get_or-set_same xs k x x lt)
 
 pub place_in_map : {X Y : Type 0} (f : X → Y) (xs : List X) (k : ℕ) (y : Y) → slice_get (map f xs) k ≡ Some y → (x : X) × (slice_get xs k ≡ Some x) × (f x ≡ y)
-place_in_map f [] k y e = cc
-place_in_map f (x ∷ xs) zero y e = let same : f x ≡ y = cc in (x, refl, same)
-place_in_map f (x ∷ xs) (suc k) y e = place_in_map f xs k y e
+place_in_map f xs k y e = option_map_found f (slice_get xs k) y (sym (slice_get-map f xs k) ∙ e)
 
 pub map_at_place : {X Y : Type 0} (f : X → Y) (xs : List X) (k : ℕ) (x : X) → slice_get xs k ≡ Some x → slice_get (map f xs) k ≡ Some (f x)
 map_at_place f xs k x e = slice_get-map f xs k ∙ ap (option_map f) e
@@ -77,8 +69,7 @@ pub Contains-there : {X : Type 0} (y x : X) (xs : List X) → Contains xs x → 
 Contains-there y x xs (k, h, e) = (suc k, omega arith, e)
 
 pub only_one : {X : Type 0} (h x : X) → Contains (h ∷ []) x → x ≡ h
-only_one h x (zero, lt, e) = sym e
-only_one h x (suc k, lt, e) = absurd (omega arith)
+only_one h x c = ⊎_elim (λ e. e) (λ none. absurd (Contains-nothing x none)) (Contains-cases h [] x c)
 
 pub contains_or : (xs : List ℕ) (j : ℕ) → Contains xs j ⊎ (Contains xs j → ⊥)
 contains_or [] j = inr (λ c. Contains-nothing j c)
@@ -87,9 +78,7 @@ contains_or (x ∷ xs) j = ⊎_elim {C = Contains (x ∷ xs) j ⊎ (Contains (x 
     (same_or x j)
 
 pub Contains-map : {X Y : Type 0} (f : X → Y) (xs : List X) (x : X) → Contains xs x → Contains (map f xs) (f x)
-Contains-map f [] x (i, lt, e) = absurd (omega arith)
-Contains-map f (y ∷ xs) x (zero, lt, e) = (zero, omega arith, ap f e)
-Contains-map f (y ∷ xs) x (suc i, lt, e) = let r = Contains-map f xs x (i, omega arith, e) in (suc r.0, omega (arith, r.1), r.2)
+Contains-map f xs x (i, lt, e) = (i, omega (arith, lt, length-map xs f), get_or-map f xs i x (f x) lt ∙ ap f e)
 
 pub Contains-from_map : {X Y : Type 0} (f : X → Y) (xs : List X) (y : Y) → Contains (map f xs) y → (x : X) × Contains xs x × (f x ≡ y)
 Contains-from_map f [] y (i, lt, e) = absurd (omega arith)
@@ -97,13 +86,7 @@ Contains-from_map f (x ∷ xs) y (zero, lt, e) = (x, (zero, omega arith, refl), 
 Contains-from_map f (x ∷ xs) y (suc i, lt, e) = let r = Contains-from_map f xs y (i, omega arith, e) in (r.0, (suc r.1.0, omega (arith, r.1.1), r.1.2), r.2)
 
 pub filter_inside : (test : ℕ → Bool) (xs : List ℕ) (v : ℕ) → Contains (filter test xs) v → Contains xs v
-filter_inside test [] v c = c
-filter_inside test (x ∷ xs) v c = go (test x) (filter_inside test xs v) c
-  where
-    go : (b : Bool) → (Contains (filter test xs) v → Contains xs v) → Contains (cond b (x ∷ filter test xs) (filter test xs)) v → Contains (x ∷ xs) v
-    go false ih c = let r = ih c in (suc r.0, omega (arith, r.1), r.2)
-    go true ih (zero, lt, q) = (zero, omega arith, q)
-    go true ih (suc k, lt, q) = let r = ih (k, omega arith, q) in (suc r.0, omega (arith, r.1), r.2)
+filter_inside test xs v = All-contains (Contains xs) (filter test xs) v (All-filter test (Contains xs) xs (All-contains_itself xs))
 
 -- ---- all members
 
@@ -114,9 +97,7 @@ pub All-taken : {X : Type 0} (P : X → Type 0) (xs : List X) (k : ℕ) → leng
 All-taken P xs k le all = subst (All P) (take_all k xs le) all
 
 pub All-map : {X Y : Type 0} (f : X → Y) (P : Y → Type 0) (xs : List X) → All (λ x. P (f x)) xs → All P (map f xs)
-All-map f P [] h = All-nil P
-All-map f P (x ∷ xs) h =
-    All-cons P (f x) (map f xs) (All-head (λ y. P (f y)) x xs h) (All-map f P xs (All-tail (λ y. P (f y)) x xs h))
+All-map f P = mapped P f
 
 -- each element that a function makes of one of the list
 pub All-flat_map : {X Y : Type 0} (P : Y → Type 0) (f : X → List Y) (xs : List X) → ((x : X) → Contains xs x → All P (f x)) → All P (flat_map f xs)
@@ -124,12 +105,10 @@ All-flat_map P f [] h = All-nil P
 All-flat_map P f (x ∷ xs) h = subst (All P) (sym (flat_map-cons f x xs)) (All-append P (f x) (flat_map f xs) (h x (Contains-front x xs)) (All-flat_map P f xs (λ y c. h y (Contains-there x y xs c))))
 
 pub all_of : {X : Type 0} (P : X → Type 0) (xs : List X) → ((x : X) → Contains xs x → P x) → AllByRecursion P xs
-all_of P [] h = tt
-all_of P (x ∷ xs) h = (h x (Contains-front x xs), all_of P xs (λ y c. h y (Contains-later x xs y c)))
+all_of P xs h = recursion_from_All P xs (All-weaker (Contains xs) P h xs (All-contains_itself xs))
 
 pub push_each : (P : ℕ → Type 0) (xs : List ℕ) (x : ℕ) → AllByRecursion P xs → P x → AllByRecursion P (xs ++ x ∷ [])
-push_each P [] x h p = (p, tt)
-push_each P (y ∷ ys) x h p = (h.0, push_each P ys x h.1 p)
+push_each P xs x h p = recursion_from_All P (xs ++ x ∷ []) (All-push P xs x (All-from_recursion P xs h) p)
 
 -- ---- the first
 
@@ -150,16 +129,10 @@ FailsFirst-some P xs k f all = f.fails (All-contains P xs f.x all (from_place xs
 -- ---- lengths and ends
 
 pub append_nothing : {X : Type 0} (xs : List X) → xs ++ [] ≡ xs
-append_nothing [] = refl
-append_nothing (x ∷ xs) = ap (λ l. x ∷ l) (append_nothing xs)
+append_nothing = append-nil
 
 pub length_test_nil : {X : Type 0} (xs : List X) → (length xs == 0) ≡ true → xs ≡ []
-length_test_nil [] e = refl
-length_test_nil (x ∷ xs) e = absurd (let none : suc (length xs) ≡ 0 = eqb-true (suc (length xs)) 0 e in omega arith)
-
-pub push_not_nil : (rest : List ℕ) (b : ℕ) → rest ++ b ∷ [] ≢ []
-push_not_nil [] b e = cc
-push_not_nil (x ∷ rest) b e = cc
+length_test_nil xs e = nil_from_length xs (eqb-true (length xs) 0 e)
 
 pub append_not_nil : (a m : List ℕ) → a ≢ [] → a ++ m ≢ []
 append_not_nil [] m n e = n refl
@@ -170,17 +143,13 @@ long_not_nil [] rest n q = absurd (omega arith)
 long_not_nil (b ∷ line) rest n q = cc
 
 pub map_length : {X Y : Type 0} (f : X → Y) (xs : List X) → length (map f xs) ≡ length xs
-map_length f [] = refl
-map_length f (x ∷ xs) = ap suc (map_length f xs)
+map_length f xs = length-map xs f
 
 pub take_next : {X : Type 0} (xs : List X) (i : ℕ) (x : X) → slice_get xs i ≡ Some x → take (i + 1) xs ≡ take i xs ++ x ∷ []
 take_next xs i x e = take_more xs i x (slice_get_within xs i x e) ∙ ap (λ y. take i xs ++ y ∷ []) (get_or_from_slice_get xs i x x e)
 
 pub drop_end : {X : Type 0} (xs : List X) (k : ℕ) → length xs ≤ k → drop k xs ≡ []
-drop_end [] zero h = refl
-drop_end [] (suc k) h = refl
-drop_end (x ∷ xs) zero h = absurd (omega arith)
-drop_end (x ∷ xs) (suc k) h = drop_end xs k (omega arith)
+drop_end xs k = drop_all k xs
 
 pub written_back : {X : Type 0} (before after : List X) (len : ℕ) → length after ≡ length before → len ≡ length before → take len (after ++ drop (length after) before) ≡ after
 written_back before after len e f =

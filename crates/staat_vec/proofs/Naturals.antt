@@ -1,6 +1,5 @@
 -- Natural numbers: which of two comes first, what tests tell of them, and their parts by 64.
-use Rattle.std.proofs.Common.{arith, ℕ, ◌<◌, ◌≤◌, ◌⊎◌, ◌+◌, ◌≡◌, ◌≢◌, inl, inr, suc, ⊎_elim, true, eq-eqb, false, not, eqb, ◌-◌}
-use Rattle.std.proofs.Common.{◌*◌, ◌%◌, ◌/◌}
+use Rattle.std.proofs.Common.{arith, ℕ, ◌<◌, ◌≤◌, ◌⊎◌, ◌+◌, ◌≡◌, ◌≢◌, suc, ⊎_elim, true, eq-eqb, false, not, eqb, ◌-◌, ◌*◌, ◌%◌, ◌/◌}
 use Rattle.std.proofs.lemmas.Bool.{cases_lt}
 use Rattle.std.specs.Prelude.{◌==◌, nat_lt, nat_le, min}
 use Rattle.std.proofs.lemmas.Bool.Decides.{nat_tests}
@@ -30,7 +29,7 @@ pub apart_cases : (a b : ℕ) → a ≢ b → (a < b) ⊎ (b < a)
 apart_cases a b ne = grind arith
 
 pub lt_suc_cases : (j i : ℕ) → j < suc i → (j < i) ⊎ (j ≡ i)
-lt_suc_cases j i h = ⊎_elim {C = (j < i) ⊎ (j ≡ i)} (λ l. inl l) (λ r. ⊎_elim {C = (j < i) ⊎ (j ≡ i)} (λ e. inr e) (λ g. absurd (omega arith)) r) (trichotomy j i)
+lt_suc_cases j i h = grind arith
 
 pub lt_one_more_cases : (m k : ℕ) → m < k + 1 → (m < k) ⊎ (m ≡ k)
 lt_one_more_cases m k lt = grind arith

@@ -2,12 +2,11 @@
 use Rattle.std.proofs.Common.{◌≡◌, ◌⊎◌, inl, inr, ℕ, zero, suc, ◌+◌, ◌*◌, ◌-◌, ◌/◌, ◌%◌, ◌^◌, ◌<◌, ◌≤◌, sym, ap, subst, ◌∙◌, arith, min}
 use Prim.Native.Nat.{◌∣◌}
 use native.Mathlib.Nat.{dvd-add_iff_left, dvd-mul_left_of_dvd, dvd-mul_right_of_dvd, dvd-mul_right, dvd_trans, dvd_of_mul-dvd-mul_left, mul-dvd-mul_left, mod-eq-zero_of_dvd, dvd_of_mod-eq-zero, one-dvd, mul_comm, mul_assoc}
-use Rattle.std.proofs.Math.Nat.{pow-suc, mul-one}
+use Rattle.std.proofs.Math.Nat.{pow-suc, mul-one, min-eq_left, min-eq_right}
 use Rattle.std.proofs.lemmas.Bool.{cases_lt}
 use Rattle.std.specs.Int.{IsGcd, bit_at}
 use Rattle.std.proofs.lemmas.Nat.{shr-shr, pow-add}
 use Rattle.std.proofs.lemmas.Nat.Gcd.{IsGcd-swap, IsGcd-from_sub}
-use Rattle.std.proofs.Math.Nat.{min-eq_left, min-eq_right}
 
 -- ---- the odd part
 
@@ -24,14 +23,12 @@ multiple_from_bits (suc t) n h =
 
 -- ---- divisors of odd numbers
 
-halves_of : (d : ℕ) → d % 2 ≡ 1 → d ≡ 2 * (d / 2) + 1
-halves_of d odd = omega arith
-
 -- an odd divisor of the double divides the number
 odd_divides : (d y : ℕ) → d % 2 ≡ 1 → d ∣ 2 * y → d ∣ y
 odd_divides d y odd h =
     let e = d / 2 in
-    let sum : d * y ≡ y + e * (2 * y) = ap (λ k. k * y) (halves_of d odd) ∙ grind arith in
+    let halves : d ≡ 2 * e + 1 = omega arith in
+    let sum : d * y ≡ y + e * (2 * y) = ap (λ k. k * y) halves ∙ grind arith in
     (dvd-add_iff_left d {m = y} {n = e * (2 * y)} (dvd-mul_left_of_dvd d h e)).1 (subst (λ k. d ∣ k) sum (dvd-mul_right d y))
 
 double : (y k : ℕ) → y * 2 ^ suc k ≡ 2 * (y * 2 ^ k)
@@ -83,12 +80,10 @@ IsGcd-scaled : (k a b g : ℕ) → IsGcd a b g → IsGcd (a * 2 ^ k) (b * 2 ^ k)
 IsGcd-scaled zero a b g h = rw (mul-one a, mul-one b, mul-one g) h
 IsGcd-scaled (suc k) a b g h = rw (double a k, double b k, double g k) (IsGcd-double (a * 2 ^ k) (b * 2 ^ k) (g * 2 ^ k) (IsGcd-scaled k a b g h))
 
-power_apart : (n i j : ℕ) → i ≤ j → n * 2 ^ (j - i) * 2 ^ i ≡ n * 2 ^ j
-power_apart n i j le = mul_assoc n (2 ^ (j - i)) (2 ^ i) ∙ ap (λ k. n * k) (sym (pow-add 2 (j - i) i) ∙ ap (λ k. 2 ^ k) (omega arith))
-
 IsGcd-rise : (m n g i j : ℕ) → m % 2 ≡ 1 → i ≤ j → IsGcd m n g → IsGcd (m * 2 ^ i) (n * 2 ^ j) (g * 2 ^ i)
 IsGcd-rise m n g i j odd le h =
-    subst (λ b. IsGcd (m * 2 ^ i) b (g * 2 ^ i)) (power_apart n i j le) (IsGcd-scaled i m (n * 2 ^ (j - i)) g (IsGcd-odd m n g (j - i) odd h))
+    let apart : n * 2 ^ (j - i) * 2 ^ i ≡ n * 2 ^ j = mul_assoc n (2 ^ (j - i)) (2 ^ i) ∙ ap (λ k. n * k) (sym (pow-add 2 (j - i) i) ∙ ap (λ k. 2 ^ k) (omega arith)) in
+    subst (λ b. IsGcd (m * 2 ^ i) b (g * 2 ^ i)) apart (IsGcd-scaled i m (n * 2 ^ (j - i)) g (IsGcd-odd m n g (j - i) odd h))
 
 -- that of two numbers, by their odd parts
 pub IsGcd-by_odd_parts : (a b m n g i j t : ℕ) → a ≡ m * 2 ^ i → b ≡ n * 2 ^ j → t ≡ min i j → m % 2 ≡ 1 → n % 2 ≡ 1 → IsGcd m n g → IsGcd a b (g * 2 ^ t)

@@ -1,14 +1,16 @@
 -- Each vector but the origin is a positive multiple of exactly one primitive vector.
-use Rattle.std.proofs.Common.{◌≡◌, ◌≢◌, ◌⊎◌, inl, inr, ℕ, zero, suc, ◌*◌, ◌/◌, ◌≤◌, refl, sym, ap, subst, ◌∙◌, arith, ℤ, pos, negsuc, ◌*ℤ◌, ◌-ℤ◌, neg_ℤ, int_div, unsigned_abs, mul-one}
+use Rattle.std.proofs.Common.{◌≡◌, ◌≢◌, ◌⊎◌, inl, inr, ℕ, zero, suc, ◌*◌, ◌/◌, ◌≤◌, refl, sym, ap, subst, ◌∙◌, arith, ℤ, pos, negsuc, ◌*ℤ◌, ◌<ℤ◌, neg_ℤ, int_div, unsigned_abs, mul-one, [], ◌∷◌}
 use Prim.Native.Nat.{◌∣◌}
 use native.Mathlib.Nat.{dvd-zero, dvd-mul_right, dvd_of_mul-dvd-mul_left, eq-one_of_dvd-one, mul-div_cancel'}
-use Rattle.std.proofs.lemmas.Int.{ints, unsigned_abs-mul}
-use lib.IntN.{ℤ_discrete}
+use Rattle.std.proofs.lemmas.Int.{unsigned_abs-mul}
 use Rattle.staat_vec.specs.declared.vector.V3.{V3}
-use Rattle.staat_vec.specs.Vectors.{IsWithin, origin, negative, times, cross}
+use Rattle.staat_vec.specs.Vectors.{IsWithin, origin, negative, plus, times, cross, dot}
 use Rattle.staat_vec.specs.Primitives.{IsPrimitive, IsPrimitiveOf, content, primitive}
-use Rattle.staat_vec.proofs.Divisors.{content-is, content-only, content-positive, abs-neg, abs-int_div_le, int_div-neg, int_div-mul, mul-neg, mul-int_div, mul-divides}
-use Rattle.staat_vec.proofs.VecRing.{same_vector}
+use Rattle.staat_vec.proofs.Divisors.{content-is, content-only, content-positive, abs-neg, abs-int_div_le, int_div-neg, int_div-mul, mul-int_div, mul-divides}
+use Rattle.staat_vec.proofs.VecRing.{crossE, dotE, negativeE, originE, plusE, ring3, same_vector, scale, timesE, v0, v1, values}
+use Rattle.staat_vec.proofs.Order.{as_positive}
+use Rattle.staat_vec.proofs.Ring.{at, num, opp}
+use Rattle.staat_vec.proofs.VectorLaws.{some_square, unscaled}
 
 -- a primitive vector is not the origin, which 2 divides
 pub IsPrimitive-some : (v : V3) → IsPrimitive v → v ≢ origin
@@ -67,9 +69,6 @@ same_primitive a c n m one other e pn pm =
     let second : IsPrimitiveOf (times a n) m = record { factor = c; positive = other; multiple = e; primitive = pm } in
     primitive-only (times a n) n first ∙ sym (primitive-only (times a n) m second)
 
-one-mul_ℤ : (a : ℤ) → a ≡ pos 1 *ℤ a
-one-mul_ℤ a = omega (arith, ints)
-
 pub content-negative : (v : V3) → content (negative v) ≡ content v
 content-negative v =
     let is = content-is (negative v) in
@@ -97,58 +96,26 @@ IsWithin-primitive bound v h = record {
 
 -- ---- parallel primitive vectors are equal or opposite
 
-turned_same : (a c : ℕ) (x y : ℤ) → x *ℤ pos a ≡ pos c *ℤ y → pos a *ℤ x ≡ pos c *ℤ y
-turned_same a c x y e = omega (arith, ints)
-
-turned_both : (a c : ℕ) (x y : ℤ) → x *ℤ negsuc a ≡ negsuc c *ℤ y → pos (suc a) *ℤ x ≡ pos (suc c) *ℤ y
-turned_both a c x y e = omega (arith, ints)
-
-turned_first : (a c : ℕ) (x y : ℤ) → x *ℤ negsuc a ≡ pos c *ℤ y → pos (suc a) *ℤ x ≡ pos c *ℤ neg_ℤ y
-turned_first a c x y e = omega (arith, ints, mul-neg c y)
-
-turned_second : (a c : ℕ) (x y : ℤ) → x *ℤ pos a ≡ negsuc c *ℤ y → pos a *ℤ x ≡ pos (suc c) *ℤ neg_ℤ y
-turned_second a c x y e = omega (arith, ints, mul-neg (suc c) y)
-
-factor_zero : (x a y : ℤ) → a ≢ pos 0 → x *ℤ a ≡ pos 0 *ℤ y → x ≡ pos 0
-factor_zero x (pos zero) y some e = absurd (some refl)
-factor_zero (pos zero) (pos (suc a)) y some e = refl
-factor_zero (pos (suc n)) (pos (suc a)) y some e = absurd (omega (arith, ints))
-factor_zero (pos zero) (negsuc a) y some e = refl
-factor_zero (pos (suc n)) (negsuc a) y some e = absurd (omega (arith, ints))
-factor_zero (negsuc n) (pos (suc a)) y some e = absurd (omega (arith, ints))
-factor_zero (negsuc n) (negsuc a) y some e = absurd (omega (arith, ints))
-
 module _ (n m : V3) (pn : IsPrimitive n) (pm : IsPrimitive m) where
-  same_if : (a c : ℕ) → 1 ≤ a → 1 ≤ c → pos a *ℤ n.x ≡ pos c *ℤ m.x → pos a *ℤ n.y ≡ pos c *ℤ m.y → pos a *ℤ n.z ≡ pos c *ℤ m.z → (n ≡ m) ⊎ (n ≡ negative m)
-  same_if a c one other x y z = inl (same_primitive a c n m one other (same_vector (times a n) (times c m) x y z) pn pm)
+  -- a multiple of n is one of m, where they lie on one line
+  spread : cross n m ≡ origin → (k : ℤ) → dot n m ≡ k → scale (dot m m) n ≡ scale k m
+  spread e k q =
+      ring3 (values (n ∷ m ∷ []) []) (timesE (dotE v1 v1) v0) (plusE (timesE (dotE v0 v1) v1) (crossE v1 (crossE v0 v1))) (tt, tt, tt)
+      ∙ (λ i. plus (scale (q i) m) (cross m (e i)))
+      ∙ ring3 (values (m ∷ []) (k ∷ [])) (plusE (timesE (at 3) v0) (crossE v0 originE)) (timesE (at 3) v0) (tt, tt, tt)
 
-  opposite_if : (a c : ℕ) → 1 ≤ a → 1 ≤ c → pos a *ℤ n.x ≡ pos c *ℤ neg_ℤ m.x → pos a *ℤ n.y ≡ pos c *ℤ neg_ℤ m.y → pos a *ℤ n.z ≡ pos c *ℤ neg_ℤ m.z → (n ≡ m) ⊎ (n ≡ negative m)
-  opposite_if a c one other x y z = inr (same_primitive a c n (negative m) one other (same_vector (times a n) (times c (negative m)) x y z) pn (IsPrimitive-negative m pm))
+  square : pos 0 <ℤ dot m m
+  square = some_square m (IsPrimitive-some m pm)
 
-  -- a number other than 0 times n is another number times m
-  along : (a c : ℤ) → a ≢ pos 0 → n.x *ℤ a ≡ c *ℤ m.x → n.y *ℤ a ≡ c *ℤ m.y → n.z *ℤ a ≡ c *ℤ m.z → (n ≡ m) ⊎ (n ≡ negative m)
-  along a (pos zero) some x y z = absurd (IsPrimitive-some n pn (same_vector n origin (factor_zero n.x a m.x some x) (factor_zero n.y a m.y some y) (factor_zero n.z a m.z some z)))
-  along (pos zero) c some x y z = absurd (some refl)
-  along (pos (suc a)) (pos (suc c)) some x y z = same_if (suc a) (suc c) (omega arith) (omega arith) (turned_same (suc a) (suc c) n.x m.x x) (turned_same (suc a) (suc c) n.y m.y y) (turned_same (suc a) (suc c) n.z m.z z)
-  along (pos (suc a)) (negsuc c) some x y z = opposite_if (suc a) (suc c) (omega arith) (omega arith) (turned_second (suc a) c n.x m.x x) (turned_second (suc a) c n.y m.y y) (turned_second (suc a) c n.z m.z z)
-  along (negsuc a) (pos (suc c)) some x y z = opposite_if (suc a) (suc c) (omega arith) (omega arith) (turned_first a (suc c) n.x m.x x) (turned_first a (suc c) n.y m.y y) (turned_first a (suc c) n.z m.z z)
-  along (negsuc a) (negsuc c) some x y z = same_if (suc a) (suc c) (omega arith) (omega arith) (turned_both a c n.x m.x x) (turned_both a c n.y m.y y) (turned_both a c n.z m.z z)
+  only : (c : ℕ) (p : V3) → IsPrimitive p → scale (dot m m) n ≡ times (suc c) p → n ≡ p
+  only c p prim is = let a = as_positive (dot m m) square in same_primitive a.0 (suc c) n p a.1 (omega arith) (ap (λ k. scale k n) (sym a.2) ∙ is) pn prim
 
-  -- primitive vectors on one line are equal or opposite
+  by_product : cross n m ≡ origin → (k : ℤ) → dot n m ≡ k → (n ≡ m) ⊎ (n ≡ negative m)
+  by_product e (pos zero) q = absurd (IsPrimitive-some n pn (unscaled (dot m m) n square (spread e (pos 0) q ∙ ring3 (values (m ∷ []) []) (timesE (num (pos 0)) v0) originE (tt, tt, tt))))
+  by_product e (pos (suc c)) q = inl (only c m pm (spread e (pos (suc c)) q))
+  by_product e (negsuc c) q =
+      inr (only c (negative m) (IsPrimitive-negative m pm)
+      (spread e (negsuc c) q ∙ ring3 (values (m ∷ []) (pos (suc c) ∷ [])) (timesE (opp (at 3)) v0) (timesE (at 3) (negativeE v0)) (tt, tt, tt)))
+
   pub parallel_primitives : cross n m ≡ origin → (n ≡ m) ⊎ (n ≡ negative m)
-  parallel_primitives e = by (ℤ_discrete m.x (pos 0)) (ℤ_discrete m.y (pos 0)) (ℤ_discrete m.z (pos 0))
-    where
-      ex : n.y *ℤ m.z ≡ n.z *ℤ m.y
-      ex = let h : (n.y *ℤ m.z) -ℤ (n.z *ℤ m.y) ≡ pos 0 = ap (λ v. v.x) e in omega (arith, ints)
-
-      ey : n.z *ℤ m.x ≡ n.x *ℤ m.z
-      ey = let h : (n.z *ℤ m.x) -ℤ (n.x *ℤ m.z) ≡ pos 0 = ap (λ v. v.y) e in omega (arith, ints)
-
-      ez : n.x *ℤ m.y ≡ n.y *ℤ m.x
-      ez = let h : (n.x *ℤ m.y) -ℤ (n.y *ℤ m.x) ≡ pos 0 = ap (λ v. v.z) e in omega (arith, ints)
-
-      by : Dec (m.x ≡ pos 0) → Dec (m.y ≡ pos 0) → Dec (m.z ≡ pos 0) → (n ≡ m) ⊎ (n ≡ negative m)
-      by (no some) y z = along m.x n.x some refl (sym ez) ey
-      by (yes x) (no some) z = along m.y n.y some ez refl (sym ex)
-      by (yes x) (yes y) (no some) = along m.z n.z some (sym ey) ex refl
-      by (yes x) (yes y) (yes z) = absurd (IsPrimitive-some m pm (same_vector m origin x y z))
+  parallel_primitives e = by_product e (dot n m) refl

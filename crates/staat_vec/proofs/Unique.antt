@@ -1,7 +1,8 @@
 -- What is found is the only thing that can be found.
-use Rattle.std.proofs.Common.{◌≡◌, ◌⊎◌, ℕ, zero, suc, List, [], ◌∷◌, arith, ap, sym, ◌∙◌, subst, refl, inl, inr}
+use Rattle.std.proofs.Common.{◌≡◌, ◌⊎◌, ⊎_elim, ℕ, zero, suc, List, [], ◌∷◌, arith, ap, sym, ◌∙◌, subst, refl, inl, inr}
 use Rattle.std.specs.Prelude.{Contains, Some, slice_get}
 use Rattle.std.proofs.lemmas.Option.{get_or_from_slice_get, slice_get_within}
+use Rattle.std.proofs.lemmas.List.Elements.{All-contains, All-from_recursion}
 use Rattle.std.specs.List.{AllByRecursion}
 use Rattle.std.specs.List.Sorted.{IsStrictlySortedBy}
 use Rattle.std.specs.Cmp.{IsTotalOrder}
@@ -50,9 +51,10 @@ module _ {X : Type 0} (cmp : X → X → Ordering) (o : IsTotalOrder cmp) (exact
       absurd_less e = cc
 
   below_all : (x y : X) (ys : List X) → AllByRecursion (λ z. cmp x z ≡ Less) ys → Contains ys y → cmp x y ≡ Less
-  below_all x y [] all has = absurd (Contains-nothing y has)
-  below_all x y (z ∷ ys) all has =
-      elim (Contains-cases z ys y has) [ inl e ↦ subst (λ w. cmp x w ≡ Less) (sym e) all.0 | inr later ↦ below_all x y ys all.1 later ]
+  below_all x y ys all has = All-contains (λ z. cmp x z ≡ Less) ys y (All-from_recursion (λ z. cmp x z ≡ Less) ys all) has
+
+  not_behind : (x y : X) (ys : List X) → AllByRecursion (λ z. cmp x z ≡ Less) ys → Contains ys y → x ≡ y → ⊥
+  not_behind x y ys all has e = let less : cmp x x ≡ Less = subst (λ z. cmp x z ≡ Less) (sym e) (below_all x y ys all has) in one_way x x less less
 
   pub same_list : (xs ys : List X) → IsStrictlySortedBy cmp xs → IsStrictlySortedBy cmp ys → ((x : X) → Contains xs x → Contains ys x) → ((x : X) → Contains ys x → Contains xs x) → xs ≡ ys
   unfolding IsStrictlySortedBy
@@ -68,14 +70,8 @@ module _ {X : Type 0} (cmp : X → X → Ordering) (o : IsTotalOrder cmp) (exact
         ]
       ] in
       let rest : xs ≡ ys = same_list xs ys p.1 q.1
-      (λ z has. elim (Contains-cases y ys z (f z (Contains-later x xs z has))) [
-        | inl e ↦ absurd (one_way x x (subst (λ w. cmp x w ≡ Less) (e ∙ sym front) (below_all x z xs p.0 has)) (subst (λ w. cmp x w ≡ Less) (e ∙ sym front) (below_all x z xs p.0 has)))
-        | inr later ↦ later
-      ])
-      (λ z has. elim (Contains-cases x xs z (g z (Contains-later y ys z has))) [
-        | inl e ↦ absurd (one_way y y (subst (λ w. cmp y w ≡ Less) (e ∙ front) (below_all y z ys q.0 has)) (subst (λ w. cmp y w ≡ Less) (e ∙ front) (below_all y z ys q.0 has)))
-        | inr later ↦ later
-      ]) in
+      (λ z has. ⊎_elim (λ e. absurd (not_behind x z xs p.0 has (front ∙ sym e))) (λ later. later) (Contains-cases y ys z (f z (Contains-later x xs z has))))
+      (λ z has. ⊎_elim (λ e. absurd (not_behind y z ys q.0 has (sym front ∙ sym e))) (λ later. later) (Contains-cases x xs z (g z (Contains-later y ys z has)))) in
       λ i. front i ∷ rest i
 
   pub Lists-unique : (P : X → Type 0) (xs ys : List X) → Lists cmp P xs → Lists cmp P ys → xs ≡ ys
@@ -92,10 +88,6 @@ module _ {X : Type 0} (cmp : X → X → Ordering) (o : IsTotalOrder cmp) (exact
   unfolding IsStrictlySortedBy
   sorted_once [] sorted k m x a b = cc
   sorted_once (y ∷ ys) sorted zero zero x a b = refl
-  sorted_once (y ∷ ys) sorted zero (suc m) x a b =
-      let e : y ≡ x = cc in
-      absurd (one_way y y (subst (λ z. cmp y z ≡ Less) (sym e) (below_all y x ys sorted.0 (from_place ys m x b))) (subst (λ z. cmp y z ≡ Less) (sym e) (below_all y x ys sorted.0 (from_place ys m x b))))
-  sorted_once (y ∷ ys) sorted (suc k) zero x a b =
-      let e : y ≡ x = cc in
-      absurd (one_way y y (subst (λ z. cmp y z ≡ Less) (sym e) (below_all y x ys sorted.0 (from_place ys k x a))) (subst (λ z. cmp y z ≡ Less) (sym e) (below_all y x ys sorted.0 (from_place ys k x a))))
+  sorted_once (y ∷ ys) sorted zero (suc m) x a b = absurd (not_behind y x ys sorted.0 (from_place ys m x b) cc)
+  sorted_once (y ∷ ys) sorted (suc k) zero x a b = absurd (not_behind y x ys sorted.0 (from_place ys k x a) cc)
   sorted_once (y ∷ ys) sorted (suc k) (suc m) x a b = ap suc (sorted_once ys sorted.1 k m x a b)

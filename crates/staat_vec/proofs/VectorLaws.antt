@@ -1,13 +1,12 @@
 -- Equations of sums, products and multiples of vectors, and which of them are not the origin.
 use Rattle.staat_vec.specs.declared.vector.V3.{V3}
-use Rattle.std.proofs.Common.{arith, inl, inr, pos, ℤ, ◌*ℤ◌, ◌+ℤ◌, ◌<ℤ◌, ◌≡◌, ◌≢◌, ◌≤ℤ◌, ◌⊎◌, ap, [], ◌∷◌, ℕ}
-use Rattle.std.proofs.Common.{◌*◌, ◌+◌, ◌-ℤ◌, ◌∙◌}
+use Rattle.std.proofs.Common.{arith, inl, inr, pos, ℤ, ◌*ℤ◌, ◌+ℤ◌, ◌<ℤ◌, ◌≡◌, ◌≢◌, ◌≤ℤ◌, ◌⊎◌, ap, [], ◌∷◌, ℕ, ◌*◌, ◌+◌, ◌-ℤ◌, ◌∙◌}
 use Rattle.staat_vec.specs.Vectors.{dot, origin, negative, plus, times, minus, cross, det}
 use Rattle.std.proofs.lemmas.Int.{ints}
 use Rattle.staat_vec.proofs.Order.{square_nonneg, square_sign}
 use Rattle.staat_vec.proofs.VecRing.{plusE, ring3, v0, v1, values, same_vector, timesE, v2, scale, minusE, originE, dotE, crossE, cross_turned, detE}
 use Rattle.staat_vec.proofs.Ring.{at, ◌⊗◌, num, ◌⊕◌, ring, ◌⊖◌}
-use Rattle.staat_vec.proofs.Integers.{cancel_positive_zero, zero_from_opposite}
+use Rattle.staat_vec.proofs.Integers.{other_factor_zero, positive_not_zero, zero_from_opposite}
 
 -- ---- vectors that are not the origin
 
@@ -15,9 +14,7 @@ pub some_square : (v : V3) → v ≢ origin → pos 0 <ℤ dot v v
 some_square v some = go (square_sign v.x) (square_sign v.y) (square_sign v.z)
   where
     sum : (a b c : ℤ) → pos 0 ≤ℤ a → pos 0 ≤ℤ b → pos 0 ≤ℤ c → (pos 0 <ℤ a) ⊎ ((pos 0 <ℤ b) ⊎ (pos 0 <ℤ c)) → pos 0 <ℤ (a +ℤ b +ℤ c)
-    sum a b c p q r (inl h) = omega (arith, ints)
-    sum a b c p q r (inr (inl h)) = omega (arith, ints)
-    sum a b c p q r (inr (inr h)) = omega (arith, ints)
+    sum a b c p q r h = grind (arith, ints)
 
     go : (v.x ≡ pos 0) ⊎ (pos 0 <ℤ (v.x *ℤ v.x)) → (v.y ≡ pos 0) ⊎ (pos 0 <ℤ (v.y *ℤ v.y)) → (v.z ≡ pos 0) ⊎ (pos 0 <ℤ (v.z *ℤ v.z)) → pos 0 <ℤ dot v v
     go (inr a) y z = sum (v.x *ℤ v.x) (v.y *ℤ v.y) (v.z *ℤ v.z) (square_nonneg v.x) (square_nonneg v.y) (square_nonneg v.z) (inl a)
@@ -53,7 +50,8 @@ times_sum_plus x y v m n =
 
 pub unscaled : (s : ℤ) (v : V3) → pos 0 <ℤ s → scale s v ≡ origin → v ≡ origin
 unscaled s v h e =
-    same_vector v origin (cancel_positive_zero s v.x h (ap (λ (w : V3). w.x) e)) (cancel_positive_zero s v.y h (ap (λ (w : V3). w.y) e)) (cancel_positive_zero s v.z h (ap (λ (w : V3). w.z) e))
+    let some = positive_not_zero s h in
+    same_vector v origin (other_factor_zero s v.x some (ap (λ (w : V3). w.x) e)) (other_factor_zero s v.y some (ap (λ (w : V3). w.y) e)) (other_factor_zero s v.z some (ap (λ (w : V3). w.z) e))
 
 pub no_multiples : (u v : V3) → minus (scale (pos 0) u) (scale (pos 0) v) ≡ origin
 no_multiples u v = ring3 (values (u ∷ v ∷ []) []) (minusE (timesE (num (pos 0)) v0) (timesE (num (pos 0)) v1)) originE (tt, tt, tt)
@@ -105,8 +103,7 @@ pub parallel_cross : (d u v : V3) → d ≢ origin → cross d u ≡ origin → 
 parallel_cross d u v some e f =
     unscaled (dot d d) (cross u v) (some_square d some)
     (crossed_spread d u v
-    ∙ ap (λ (w : V3). plus (minus (scale (dot w v) d) (scale (dot d v) w)) (scale (dot d u) (cross d v))) e
-    ∙ ap (λ (w : V3). plus (minus (scale (dot origin v) d) (scale (dot d v) origin)) (scale (dot d u) w)) f
+    ∙ (λ i. plus (minus (scale (dot (e i) v) d) (scale (dot d v) (e i))) (scale (dot d u) (f i)))
     ∙ nothing_spread d u v)
 
 -- ---- determinants

@@ -1,14 +1,11 @@
 -- Lists of vectors that ascend: places, members and ends.
 use Rattle.std.specs.List.Sorted.{IsStrictlySortedBy, IsSortedBy, IsNonDecreasingBy, IsPartitionPoint}
 use Rattle.std.specs.declared.cmp.Ordering.TheVariants.{Less, Equal, Greater}
-use Rattle.std.proofs.Common.{List, [], arith, get_or, length, suc, zero, ℕ, ◌<◌, ◌∷◌, ◌≡◌, add-one, ap, ◌∙◌, Contains, ⊎_elim, subst, refl, ◌≤◌}
-use Rattle.std.proofs.Common.{inl, inr, ◌⊎◌, sym}
+use Rattle.std.proofs.Common.{List, [], arith, get_or, length, suc, ℕ, ◌<◌, ◌∷◌, ◌≡◌, add-one, ap, ◌∙◌, Contains, ⊎_elim, subst, refl, ◌≤◌, inl, inr, ◌⊎◌, sym}
 use Rattle.staat_vec.specs.declared.vector.V3.{V3}
 use Rattle.staat_vec.specs.Vectors.{vector_cmp, origin}
 use Rattle.std.specs.Ordering.{is_lt, ordering_reverse, ordering_index, nat_cmp, is_eq}
 use Rattle.staat_vec.proofs.VectorOrder.{vector_total, vector_exact, vector_cmp-same}
-use Rattle.std.proofs.lemmas.List.Elements.{All-contains, All-from_recursion}
-use Rattle.std.proofs.lemmas.List.{get_or_default}
 use Rattle.std.specs.Prelude.{Some, slice_get, map}
 use Rattle.std.proofs.lemmas.Option.{slice_get-get_or}
 use Rattle.std.proofs.lemmas.Bool.{cases_lt}
@@ -16,34 +13,21 @@ use Rattle.std.proofs.lemmas.List.Sorted.{searchable_from_sorted}
 use Rattle.staat_vec.proofs.Unique.{Contains-front, Contains-later, Contains-cases, Contains-nothing}
 use Rattle.staat_vec.proofs.ListLaws.{Contains-from_map, all_of}
 use Rattle.staat_vec.proofs.Comparisons.{head_less, tail_sorted, from_is_eq}
-use Rattle.std.proofs.lemmas.Map.Keys.{IsDistinct-from_sorted}
+use Rattle.std.proofs.lemmas.Map.Keys.{IsDistinct-from_sorted, Less-from_sorted, sorted_tail as tail}
 use Rattle.std.proofs.lemmas.Cmp.{eq_by_cmp_equiv}
 use Rattle.std.proofs.lemmas.Map.Made.{is_member-Decides, length-le_from_is_member}
 use Rattle.std.specs.Bool.{Decides}
 
-pub sorted_step : (vs : List V3) (k : ℕ) (d : V3) → IsStrictlySortedBy vector_cmp vs → suc k < length vs → vector_cmp (get_or vs k d) (get_or vs (suc k) d) ≡ Less
-unfolding IsStrictlySortedBy
-sorted_step [] k d sorted lt = absurd (omega (arith, lt))
-sorted_step (v ∷ []) k d sorted lt = absurd (omega (arith, lt))
-sorted_step (v ∷ w ∷ vs) zero d sorted lt = sorted.0.0
-sorted_step (v ∷ w ∷ vs) (suc k) d sorted lt = sorted_step (w ∷ vs) k d sorted.1 (omega (arith, lt))
-
 pub sorted_by : (vs : List V3) → IsStrictlySortedBy vector_cmp vs → IsSortedBy (λ a b. is_lt (vector_cmp a b)) vs
 sorted_by vs sorted = λ k d low high.
-    let up : vector_cmp (get_or vs k d) (get_or vs (suc k) d) ≡ Less = sorted_step vs k d sorted (omega arith) in
+    let up : vector_cmp (get_or vs k d) (get_or vs (suc k) d) ≡ Less = Less-from_sorted vector_cmp vs k (suc k) d sorted (omega arith) (omega arith) in
     rw add-one (ap is_lt (vector_total.antisymm (get_or vs (suc k) d) (get_or vs k d) ∙ ap ordering_reverse up))
 
 pub sorted_tail : (g : V3) (gs : List V3) → IsStrictlySortedBy vector_cmp (g ∷ gs) → IsStrictlySortedBy vector_cmp gs
-unfolding IsStrictlySortedBy
-sorted_tail g gs s = s.1
+sorted_tail = tail vector_cmp
 
 pub sorted_places : (xs : List V3) (i j : ℕ) → IsStrictlySortedBy vector_cmp xs → i < j → j < length xs → vector_cmp (get_or xs i origin) (get_or xs j origin) ≡ Less
-unfolding IsStrictlySortedBy
-sorted_places [] i j s lt small = absurd (omega arith)
-sorted_places (x ∷ xs) zero zero s lt small = absurd (omega arith)
-sorted_places (x ∷ xs) zero (suc j) s lt small = All-contains (λ z. vector_cmp x z ≡ Less) xs (get_or xs j origin) (All-from_recursion (λ z. vector_cmp x z ≡ Less) xs s.0) (j, omega arith, get_or_default xs j (get_or xs j origin) origin (omega arith))
-sorted_places (x ∷ xs) (suc i) zero s lt small = absurd (omega arith)
-sorted_places (x ∷ xs) (suc i) (suc j) s lt small = sorted_places xs i j s.1 (omega arith) (omega arith)
+sorted_places xs i j = Less-from_sorted vector_cmp xs i j origin
 
 pub found_at : (vs : List V3) (v : V3) (n : ℕ) → n < length vs → ((d : V3) → vector_cmp (get_or vs n d) v ≡ Equal) → slice_get vs n ≡ Some v
 found_at vs v n lt equal = slice_get-get_or vs n v lt ∙ ap Some (vector_exact (get_or vs n v) v (equal v))
@@ -52,13 +36,7 @@ pub not_found : (vs : List V3) (v : V3) (n : ℕ) → IsStrictlySortedBy vector_
 not_found vs v n sorted split (k, lt, e) =
     let at : IsPartitionPoint (λ q. vector_cmp q v ≡ Less) (λ q. vector_cmp q v ≡ Greater) vs n = split (searchable_from_sorted vector_total (λ q. q) vs v (sorted_by vs sorted)) in
     let same : vector_cmp (get_or vs k v) v ≡ Equal = ap (λ q. vector_cmp q v) e ∙ vector_cmp-same v in
-    ⊎_elim (λ below. less (at.0 k v (omega arith) below) same) (λ above. greater (at.1 k v above lt) same) (cases_lt k n)
-  where
-    less : vector_cmp (get_or vs k v) v ≡ Less → vector_cmp (get_or vs k v) v ≡ Equal → ⊥
-    less a b = cc
-
-    greater : vector_cmp (get_or vs k v) v ≡ Greater → vector_cmp (get_or vs k v) v ≡ Equal → ⊥
-    greater a b = cc
+    ⊎_elim (λ below. let less = at.0 k v (omega arith) below in cc) (λ above. let greater = at.1 k v above lt in cc) (cases_lt k n)
 
 pub picked_sorted : (f : ℕ → V3) (ks : List ℕ) → IsStrictlySortedBy nat_cmp ks → ((i j : ℕ) → Contains ks i → Contains ks j → i < j → vector_cmp (f i) (f j) ≡ Less) → IsStrictlySortedBy vector_cmp (map f ks)
 unfolding IsStrictlySortedBy

@@ -1,22 +1,47 @@
-use Rattle.std.proofs.Common.{length, map, subst, sym}
+use Rattle.std.proofs.Common.{◌≡◌, [], arith, length, map, subst, sym, Contains}
+use Rattle.std.proofs.lemmas.List.{length-map}
+use Rattle.std.proofs.lemmas.Result.{IfOk-weaker}
+use Rattle.staat_vec.specs.Lists.{Lists}
+use Rattle.staat_vec.proofs.Unique.{Contains-nothing}
 use Rattle.staat_model.specs.declared.tree.Kind.TheVariants.{Edge}
+use Rattle.staat_model.specs.Cells.{CellEntry, signs_of}
+use Rattle.staat_model.specs.Planes.{vertices}
 use Rattle.staat_cells.specs.Compositions.{entry_of}
-use Rattle.staat_cells.specs.Stages.{IsIncidence, IsVertexPoint}
-use Rattle.staat_cells.proofs.Numbered.{edge_more, holds_all, holds_none, listed_was, own_at, own_place}
+use Rattle.staat_cells.specs.Packing.{incidence_cmp}
+use Rattle.staat_cells.specs.Stages.{GrewByAll, IsEdgeIncidence, IsIncidence}
+use Rattle.staat_planes.proofs.Gaining.{adds_nothing}
+use Rattle.staat_cells.proofs.EdgeCells.{point_in}
+use Rattle.staat_cells.proofs.Growing.{Below, grown_first, grown_more, grown_same, none_below}
+use Rattle.staat_cells.proofs.Numbered.{IsEdgeAt, edges_all, entry_is, listed_is, own_at, own_place}
+use Rattle.staat_cells.proofs.WholeLists.{lists_as}
 use Rattle.staat_cells.proofs.edge_incidences.edge_incidences.Goals as goal
 
 pub loop-k-init : goal.loop-k-init
-loop-k-init c = holds_none (IsIncidence c.args.planes.now Edge (map entry_of c.args.points.now)) c.in_ok-incidences.incidences.items c.in_ok-incidences.ensures.items
+loop-k-init c =
+    subst (GrewByAll (λ x. Below (IsEdgeAt c.args.planes.now (map entry_of c.args.points.now) x) 0) [])
+    (sym c.in_ok-incidences.ensures.items)
+    (λ x. adds_nothing (none_below (IsEdgeAt c.args.planes.now (map entry_of c.args.points.now) x)))
 
 pub bounds-own-k : goal.bounds-own-k
 bounds-own-k c = own_place c.args.points.now c.args.own.now c.requires.own c.loop-k.k c.loop-k-test.true
 
 pub push_edge_incidences-requires-clause-vertex : goal.push_edge_incidences-requires-clause-vertex
 push_edge_incidences-requires-clause-vertex c =
-    let point : IsVertexPoint c.args.planes.now c.index-points-k.result =
-    subst (IsVertexPoint c.args.planes.now) (sym c.index-points-k.is)
-    (c.requires.points c.loop-k.k c.index-points-k.result c.loop-k-test.true) in
-    point.vertex
+    let points = c.args.points.now in
+    let k = c.loop-k.k in
+    subst (λ (e : CellEntry). Contains (vertices c.args.planes.now) e.d)
+    (entry_is points k c.index-points-k.result c.loop-k-test.true c.index-points-k.is)
+    (point_in c.args.planes.now c.requires.planes (map entry_of points) c.requires.points k
+    (listed_is points k c.loop-k-test.true)).0
+
+pub push_edge_incidences-requires-clause-signs : goal.push_edge_incidences-requires-clause-signs
+push_edge_incidences-requires-clause-signs c =
+    let points = c.args.points.now in
+    let k = c.loop-k.k in
+    subst (λ (e : CellEntry). e.signs ≡ signs_of c.args.planes.now e.d)
+    (entry_is points k c.index-points-k.result c.loop-k-test.true c.index-points-k.is)
+    (sym (point_in c.args.planes.now c.requires.planes (map entry_of points) c.requires.points k
+    (listed_is points k c.loop-k-test.true)).1)
 
 pub push_edge_incidences-requires-clause-own : goal.push_edge_incidences-requires-clause-own
 push_edge_incidences-requires-clause-own c =
@@ -25,9 +50,23 @@ push_edge_incidences-requires-clause-own c =
 
 pub loop-k-preserved : goal.loop-k-preserved
 loop-k-preserved c =
-    edge_more c.args.planes.now c.args.points.now c.loop-k.k c.index-points-k.result c.loop-k.incidences.items c.push_edge_incidences.new.incidences.items c.loop-k-test.true c.index-points-k.is c.requires.points c.in_ok-push_edge_incidences.ensures c.loop-k.invariant
+    let planes = c.args.planes.now in
+    let k = c.loop-k.k in
+    let grew = subst (λ (e : CellEntry). GrewByAll (IsEdgeIncidence planes e.d k) c.loop-k.incidences.items
+    c.push_edge_incidences.new.incidences.items)
+    (sym (entry_is c.args.points.now k c.index-points-k.result c.loop-k-test.true c.index-points-k.is))
+    c.in_ok-push_edge_incidences.ensures in
+    λ x. grown_more (IsEdgeAt planes (map entry_of c.args.points.now) x) k (c.loop-k.invariant x) (grew x)
 
 pub returns : goal.returns
 returns c =
-    holds_all (IsIncidence c.args.planes.now Edge (map entry_of c.args.points.now)) (length c.args.points.now) c.loop-k.k c.loop-k.incidences.items c.loop-k-test.false
-    (λ x s. let u = s.under in listed_was c.args.points.now x.of u.listed) c.loop-k.invariant
+    let planes = c.args.planes.now in
+    let cells = map entry_of c.args.points.now in
+    let all : c.loop-k.k ≡ length cells =
+    omega (arith, c.loop-k-test.false, c.loop-k.auto.k-end, length-map c.args.points.now entry_of) in
+    IfOk-weaker c.in_order.result (λ sorted. Lists incidence_cmp (Contains c.loop-k.incidences.items) sorted.items)
+    (λ sorted. Lists incidence_cmp (IsIncidence planes Edge cells) sorted.items)
+    (λ sorted. lists_as (Contains c.loop-k.incidences.items) (IsIncidence planes Edge cells) sorted.items
+    (λ x. grown_first (grown_same (c.loop-k.invariant x) (edges_all cells c.loop-k.k all x planes
+    (λ k lt. sym (point_in planes c.requires.planes cells c.requires.points k lt).1))) (Contains-nothing x)))
+    c.in_order.ensures

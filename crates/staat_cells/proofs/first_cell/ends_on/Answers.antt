@@ -1,12 +1,13 @@
 use Rattle.std.proofs.Common.{Contains, ◌∙◌, ◌++◌, ◌∷◌, [], subst, sym, take}
-use Rattle.std.proofs.lemmas.List.{take_all}
+use Rattle.std.proofs.lemmas.List.{take_all, take_more}
 use Rattle.std.proofs.lemmas.List.Elements.{Contains-get_or}
 use Rattle.staat_cells.specs.FirstCell.{AreArcEnds}
-use Rattle.staat_cells.proofs.LowEdges.{from_axes, one_more}
+use Rattle.staat_cells.proofs.TableRules.{axis_in}
 use Rattle.staat_cells.proofs.first_cell.ends_on.Goals as goal
 
 pub loop-h-init : goal.loop-h-init
-loop-h-init c = from_axes c.args.planes.now c.args.g c.axis_ends-ends.result c.requires.planes c.axis_ends-ends.ensures
+loop-h-init c =
+    c.axis_ends-ends.ensures c.args.planes.now (λ m axis. axis_in c.args.planes.now m c.requires.planes axis)
 
 pub returns-in-None : goal.returns-in-None
 returns-in-None c =
@@ -21,7 +22,8 @@ loop-h-preserved c =
     let passed = take c.loop-h.h-index planes in
     let is = c.vector.ensures.is ∙ c.h-item.is in
     let listed = Contains-get_or planes c.loop-h.h-index c.h-item.result c.loop-h-test.true in
-    one_more planes c.args.g c.in-Some.new c.loop-h.h-index c.h-item.result c.loop-h-test.true
+    subst (λ l. AreArcEnds planes c.args.g l c.in-Some.new)
+    (sym (take_more planes c.loop-h.h-index c.h-item.result c.loop-h-test.true))
     (subst (λ h. AreArcEnds planes c.args.g (passed ++ h ∷ []) c.in-Some.new) is
     (c.in-Some.ensures planes passed (subst (Contains planes) (sym is) listed) c.loop-h.invariant))
 

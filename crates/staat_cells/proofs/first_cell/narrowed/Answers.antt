@@ -19,9 +19,8 @@ pub returns-then-first-gt0 : goal.returns-then-first-gt0
 returns-then-first-gt0 c planes passed h_in are =
     let up = above_zero _ _ _ c.dot-first.ensures.value c.dot-first.ensures.size small c.if-first-gt0.true in
     let low = below_zero _ _ _ c.dot-second.ensures.value c.dot-second.ensures.size small c.if-second-ge0.false in
-    first_cut planes passed c.args.g c.args.h c.args.ends are
-    (record { first = c.cross_normal-first.result; second = c.args.ends.second }) h_in
-    c.cross_normal-first.ensures.value refl c.cross_normal-first.ensures.size (positive_nonneg _ up) low
+    first_cut planes passed c.args.g c.args.h c.args.ends are c.cross_normal-first.result h_in
+    c.cross_normal-first.ensures.value c.cross_normal-first.ensures.size (positive_nonneg _ up) low
 
 pub returns-then-first-ge0 : goal.returns-then-first-ge0
 returns-then-first-ge0 c planes passed h_in are =
@@ -33,9 +32,8 @@ pub returns-then-second-gt0 : goal.returns-then-second-gt0
 returns-then-second-gt0 c planes passed h_in are =
     let up = above_zero _ _ _ c.dot-second.ensures.value c.dot-second.ensures.size small c.if-second-gt0.true in
     let low = below_zero _ _ _ c.dot-first.ensures.value c.dot-first.ensures.size small c.if-first-ge0.false in
-    second_cut planes passed c.args.g c.args.h c.args.ends are
-    (record { first = c.args.ends.first; second = c.cross_normal-second.result }) h_in
-    refl c.cross_normal-second.ensures.value c.cross_normal-second.ensures.size low (positive_nonneg _ up)
+    second_cut planes passed c.args.g c.args.h c.args.ends are c.cross_normal-second.result h_in
+    c.cross_normal-second.ensures.value c.cross_normal-second.ensures.size low (positive_nonneg _ up)
 
 pub returns : goal.returns
 returns c planes passed h_in are =

@@ -1,12 +1,13 @@
-use Rattle.std.proofs.Common.{◌∙◌, arith, refl}
+use Rattle.std.proofs.Common.{◌∙◌, arith}
 use Rattle.std.proofs.lemmas.List.{length-set}
-use Rattle.staat_cells.proofs.JoinedBatches.{set_more, word_of_digits, words_are}
+use Rattle.std.proofs.lemmas.List.Edits.{fill_by_more}
+use Rattle.staat_cells.proofs.JoinedBatches.{word_of_digits, words_are}
 use Rattle.staat_cells.proofs.joined_batches.joined_words.Goals as goal
 
 pub loop-i-preserved : goal.loop-i-preserved
 loop-i-preserved c = record {
   long = length-set c.loop-i.words c.loop-i.i _ ∙ c.loop-i.invariant.long;
-  first = set_more c.loop-i.words c.loop-i.i _ (word_of_digits c.args.x.now c.args.y.now c.args.z.now) (omega arith) refl
+  first = fill_by_more (word_of_digits c.args.x.now c.args.y.now c.args.z.now) c.loop-i.words c.loop-i.i 0 (omega arith)
       c.loop-i.invariant.first;
 }
 

@@ -1,25 +1,46 @@
-use Rattle.std.proofs.Common.{length, map}
+use Rattle.std.proofs.Common.{◌≡◌, [], arith, length, map, subst, sym, Contains}
+use Rattle.std.proofs.lemmas.List.{length-map}
+use Rattle.std.proofs.lemmas.Result.{IfOk-weaker}
+use Rattle.staat_vec.specs.Lists.{Lists}
+use Rattle.staat_vec.specs.declared.vector.Sign.TheVariants.{Neg, Pos}
+use Rattle.staat_vec.proofs.Unique.{Contains-nothing}
+use Rattle.staat_cells.specs.Beside.{filled}
 use Rattle.staat_cells.specs.Compositions.{entry_of}
-use Rattle.staat_cells.specs.Stages.{IsFilledIncidence}
-use Rattle.staat_cells.proofs.Numbered.{holds_all, holds_none, listed_was, own_few, own_filled, own_place}
+use Rattle.staat_cells.specs.Packing.{incidence_cmp, incidence_of}
+use Rattle.staat_cells.specs.Stages.{GrewByAll, IsFilledIncidence, cell_at}
+use Rattle.staat_planes.proofs.Gaining.{adds_nothing}
+use Rattle.staat_cells.proofs.Growing.{Below, grown_first, grown_more, grown_same, none_below}
+use Rattle.staat_cells.proofs.Numbered.{IsFilledAt, filled_all, listed_is, own_place}
+use Rattle.staat_cells.proofs.PushingIncidences.{grew_pair}
+use Rattle.staat_cells.proofs.WholeLists.{lists_as}
 use Rattle.staat_cells.proofs.open_incidences.open_incidences.Goals as goal
 
 pub loop-k-init : goal.loop-k-init
-loop-k-init c = holds_none (IsFilledIncidence (map entry_of c.args.edges.now)) c.clear.new.self.items c.clear.ensures.items
+loop-k-init c =
+    subst (GrewByAll (λ x. Below (IsFilledAt (map entry_of c.args.edges.now) x) 0) []) (sym c.clear.ensures.items)
+    (λ x. adds_nothing (none_below (IsFilledAt (map entry_of c.args.edges.now) x)))
 
 pub bounds-own-k : goal.bounds-own-k
-bounds-own-k c = own_place c.args.edges.now c.args.own.now c.requires.own c.loop-k.k c.loop-k-test.true
-
-pub push_both-requires : goal.push_both-requires
-push_both-requires c =
-    own_few c.args.edges.now c.args.own.now c.requires.own c.loop-k.k c.requires.few c.loop-k-test.true
+bounds-own-k c = own_place c.args.edges.now c.args.own.now c.requires c.loop-k.k c.loop-k-test.true
 
 pub loop-k-preserved : goal.loop-k-preserved
-loop-k-preserved c = own_filled c.args.edges.now c.args.own.now c.loop-k.incidences.items
-    c.push_both.new.incidences.items c.loop-k.k c.requires.own c.requires.few c.loop-k-test.true
-    c.in_ok-push_both.ensures c.loop-k.invariant
+loop-k-preserved c =
+    let cells = map entry_of c.args.edges.now in
+    let k = c.loop-k.k in
+    let s = (cell_at (map entry_of c.args.edges.now) c.loop-k.k).signs in
+    λ x. grown_more (IsFilledAt cells x) k (c.loop-k.invariant x)
+    (grew_pair (λ z. IsFilledAt cells z k) c.loop-k.incidences.items c.push_both.new.incidences.items
+    (incidence_of (filled Neg s) k) (incidence_of (filled Pos s) k)
+    (c.in_ok-push_both.ensures s (c.requires.each k (listed_is c.args.edges.now k c.loop-k-test.true)))
+    (λ z. (λ h. h, λ h. h)) x)
 
 pub returns : goal.returns
-returns c = holds_all (IsFilledIncidence (map entry_of c.args.edges.now)) (length c.args.edges.now) c.loop-k.k
-    c.loop-k.incidences.items c.loop-k-test.false (λ x f. listed_was c.args.edges.now x.of f.listed)
-    c.loop-k.invariant
+returns c =
+    let cells = map entry_of c.args.edges.now in
+    let all : c.loop-k.k ≡ length cells =
+    omega (arith, c.loop-k-test.false, c.loop-k.auto.k-end, length-map c.args.edges.now entry_of) in
+    IfOk-weaker c.in_order.result (λ sorted. Lists incidence_cmp (Contains c.loop-k.incidences.items) sorted.items)
+    (λ sorted. Lists incidence_cmp (IsFilledIncidence cells) sorted.items)
+    (λ sorted. lists_as (Contains c.loop-k.incidences.items) (IsFilledIncidence cells) sorted.items
+    (λ x. grown_first (grown_same (c.loop-k.invariant x) (filled_all cells c.loop-k.k all x)) (Contains-nothing x)))
+    c.in_order.ensures

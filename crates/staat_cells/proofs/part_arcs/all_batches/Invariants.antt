@@ -1,7 +1,7 @@
 use Rattle.std.proofs.Common.{[]}
-use Rattle.staat_cells.specs.CellGraphs.{AddsArcs, IsFromPart}
+use Rattle.staat_cells.specs.CellGraphs.{AddsArcs, IsPairArc}
 use Rattle.staat_cells.proofs.PartArcs.{BelowParts}
 use Rattle.staat_cells.proofs.part_arcs.all_batches.Given as goal
 
-abbrev pub invariant-loop-a : goal.invariant-loop-a
-invariant-loop-a l = AddsArcs (BelowParts (IsFromPart l.table) l.a) [] l.batches.items
+abbrev pub invariant-loop-pair : goal.invariant-loop-pair
+invariant-loop-pair l = AddsArcs (BelowParts (IsPairArc l.table) l.pair) [] l.batches.items

@@ -1,30 +1,6 @@
 use Rattle.std.proofs.Common.{◌-◌, ap, arith, inl, inr, refl}
-use Rattle.staat_cells.proofs.ZeroSignLemmas.{word_given, word_kept, word_zero}
+use Rattle.staat_cells.proofs.ZeroSignLemmas.{word_given, word_kept}
 use Rattle.staat_cells.proofs.zero_signs.changed.Goals as goal
-
-pub changed_word-requires-clause-zero_at : goal.changed_word-requires-clause-zero_at
-changed_word-requires-clause-zero_at c =
-    let z = c.requires.zero_at in
-    word_zero 0 c.args.k c.args.count c.word_count.result z.signs c.args.count c.args.k z.long (omega arith) c.word_count.ensures.is
-    z.zero_at (omega arith) (omega arith) c.args.incidence.a (ap (λ y. y.a) z.is)
-
-pub changed_word-requires-then-k-lt128-clause-zero_at : goal.changed_word-requires-then-k-lt128-clause-zero_at
-changed_word-requires-then-k-lt128-clause-zero_at c =
-    let z = c.requires.zero_at in
-    word_zero 64 (c.args.k - 64) (c.args.count - 64) c.word_count-then-k-lt128.result z.signs c.args.count c.args.k z.long refl c.word_count-then-k-lt128.ensures.is
-    z.zero_at (omega arith) (omega arith) c.args.incidence.b (ap (λ y. y.b) z.is)
-
-pub changed_word-requires-then-k-lt192-clause-zero_at : goal.changed_word-requires-then-k-lt192-clause-zero_at
-changed_word-requires-then-k-lt192-clause-zero_at c =
-    let z = c.requires.zero_at in
-    word_zero 128 (c.args.k - 128) (c.args.count - 128) c.word_count-then-k-lt192.result z.signs c.args.count c.args.k z.long refl c.word_count-then-k-lt192.ensures.is
-    z.zero_at (omega arith) (omega arith) c.args.incidence.c (ap (λ y. y.c) z.is)
-
-pub changed_word-requires-else-k-lt192-clause-zero_at : goal.changed_word-requires-else-k-lt192-clause-zero_at
-changed_word-requires-else-k-lt192-clause-zero_at c =
-    let z = c.requires.zero_at in
-    word_zero 192 (c.args.k - 192) (c.args.count - 192) c.word_count-else-k-lt192.result z.signs c.args.count c.args.k z.long refl c.word_count-else-k-lt192.ensures.is
-    z.zero_at (omega arith) (omega arith) c.args.incidence.d (ap (λ y. y.d) z.is)
 
 pub returns-then-k-lt64 : goal.returns-then-k-lt64
 returns-then-k-lt64 c = λ s is l z.

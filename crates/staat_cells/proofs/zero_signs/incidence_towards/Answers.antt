@@ -1,6 +1,6 @@
 use Rattle.std.proofs.Common.{◌∙◌, ap, arith}
 use Rattle.staat_vec.specs.Vectors.{dot, sign}
-use Rattle.staat_cells.proofs.ZeroPlaces.{towards_all, towards_none, zero_changed, zero_there, zero_within}
+use Rattle.staat_cells.proofs.ZeroPlaces.{towards_all, towards_none, zero_changed, zero_within}
 use Rattle.staat_cells.proofs.zero_signs.incidence_towards.Goals as goal
 
 pub loop-i-init : goal.loop-i-init
@@ -29,11 +29,6 @@ bounds-planes-j c =
 pub changed-incidence-requires-clause-place : goal.changed-incidence-requires-clause-place
 changed-incidence-requires-clause-place c =
     zero_within c.args.planes.now c.args.signs.now c.args.w c.requires.signs c.loop-i.incidence c.args.base.of
-    c.args.zeros.now c.loop-i.i c.loop-i-test.true c.loop-i.invariant
-
-pub changed-incidence-requires-clause-zero_at : goal.changed-incidence-requires-clause-zero_at
-changed-incidence-requires-clause-zero_at c =
-    zero_there c.args.planes.now c.args.signs.now c.args.w c.requires.signs c.loop-i.incidence c.args.base.of
     c.args.zeros.now c.loop-i.i c.loop-i-test.true c.loop-i.invariant
 
 pub loop-i-preserved : goal.loop-i-preserved

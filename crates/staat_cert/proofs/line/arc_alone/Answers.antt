@@ -10,4 +10,4 @@ returns-in-len4 c =
     let i : Reads zs 1 = grind (arith, ints, to_z-of_z) in
     let b : Reads zs 2 = grind (arith, ints, to_z-of_z) in
     let j : Reads zs 3 = grind (arith, ints, to_z-of_z) in
-    (rw (a, i, b, j) at c.arc_of.ensures) ∙ arc_by_places zs (omega arith)
+    (rw (a, i, b, j) at c.arc_of.ensures) ∙ arc_by_places c.args.parts c.args.pieces zs (omega arith)

@@ -1,5 +1,4 @@
-use Rattle.std.proofs.Common.{◌∙◌, inl, subst, sym}
-use Rattle.std.proofs.lemmas.Bool.{false≢true}
+use Rattle.std.proofs.Common.{subst}
 use Rattle.staat_model.specs.Certificates.{HasLine}
 use Rattle.staat_check.proofs.PlacedLines.{listed_by_canon, opposite_listed_by_canon}
 use Rattle.staat_check.proofs.covered.are_both_placed.Goals as goal
@@ -9,16 +8,3 @@ returns-then-version-eq2-clause-one c = λ yes. listed_by_canon c.args.version c
 
 pub returns-then-version-eq2-clause-opposite : goal.returns-then-version-eq2-clause-opposite
 returns-then-version-eq2-clause-opposite c = λ yes. opposite_listed_by_canon c.args.version c.args.dirs.now c.args.v c.requires.some c.if-version-eq2.true (subst (HasLine c.args.dirs.now) c.canon.ensures.value (c.is_placed.ensures yes))
-
-pub returns-then-is_placed-clause-one : goal.returns-then-is_placed-clause-one
-returns-then-is_placed-clause-one c = λ yes. inl (c.is_placed-else-version-eq2.ensures c.if-is_placed.true)
-
-pub returns-then-is_placed-clause-opposite : goal.returns-then-is_placed-clause-opposite
-returns-then-is_placed-clause-opposite c = λ yes. inl
-    (subst (HasLine c.args.dirs.now) c.neg.ensures.value (c.is_placed-then-is_placed.ensures yes))
-
-pub returns-else-is_placed-clause-one : goal.returns-else-is_placed-clause-one
-returns-else-is_placed-clause-one c = λ yes. absurd (false≢true (sym c.if-is_placed.false ∙ yes))
-
-pub returns-else-is_placed-clause-opposite : goal.returns-else-is_placed-clause-opposite
-returns-else-is_placed-clause-opposite c = λ yes. absurd (false≢true (sym c.if-is_placed.false ∙ yes))

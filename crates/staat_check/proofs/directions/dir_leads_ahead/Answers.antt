@@ -4,9 +4,6 @@ use Rattle.staat_check.specs.Conditions.{LeadsAheadOf}
 use Rattle.staat_check.proofs.directions.dir_leads_ahead.Goals as goal
 use Rattle.staat_vec.proofs.ListLaws.{other_default}
 
-pub bounds-lists-dir : goal.bounds-lists-dir
-bounds-lists-dir c = c.requires.dir.named
-
 pub leads_ahead_small-requires : goal.leads_ahead_small-requires
 leads_ahead_small-requires c = record {
   normals = c.requires.small c.if-small.true;
@@ -15,9 +12,6 @@ leads_ahead_small-requires c = record {
       c.requires.dir.named c.index-lists-dir.is) in
       subst (λ (numbers : List ℕ). All (λ k. k < length c.args.normals.now) numbers) same c.requires.dir.numbers;
 }
-
-pub leads_ahead-requires-clause-direction : goal.leads_ahead-requires-clause-direction
-leads_ahead-requires-clause-direction c = c.requires.dir.size
 
 pub leads_ahead-requires-clause-numbers : goal.leads_ahead-requires-clause-numbers
 leads_ahead-requires-clause-numbers c =

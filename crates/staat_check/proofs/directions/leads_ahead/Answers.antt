@@ -5,12 +5,9 @@ use Rattle.std.specs.Int.{w128}
 use Rattle.staat_vec.specs.Vectors.{dot}
 use Rattle.staat_check.specs.Conditions.{LeadsAheadOf}
 use Rattle.staat_cone.proofs.AheadLemmas.{is_ahead, not_ahead}
-use Rattle.staat_vec.proofs.LoopAnswers.{all_kept, not_all}
+use Rattle.staat_vec.proofs.LoopAnswers.{not_all}
 use Rattle.staat_check.proofs.ConditionLemmas.{product_is}
 use Rattle.staat_check.proofs.directions.leads_ahead.Goals as goal
-
-pub bounds-normals-k : goal.bounds-normals-k
-bounds-normals-k c = c.requires.numbers c.loop-k.k-index 0 c.loop-k-test.true
 
 pub returns-then-dot-le0 : goal.returns-then-dot-le0
 returns-then-dot-le0 c = not_all (LeadsAheadOf c.args.normals.now c.args.d) c.args.numbers.now c.loop-k.k-index _ (slice_get-get_or c.args.numbers.now c.loop-k.k-index 0 c.loop-k-test.true)
@@ -19,6 +16,3 @@ returns-then-dot-le0 c = not_all (LeadsAheadOf c.args.normals.now c.args.d) c.ar
 pub loop-k-preserved : goal.loop-k-preserved
 loop-k-preserved c = All-more (LeadsAheadOf c.args.normals.now c.args.d) c.args.numbers.now c.loop-k.k-index 0 c.loop-k-test.true c.loop-k.invariant
     (is_ahead w128 c.dot.result _ (record { sfits = c.dot.type_inv }) (product_is c.args.normals.now c.args.d c.dot.result _ c.index-normals-k.result (c.requires.numbers c.loop-k.k-index 0 c.loop-k-test.true) c.index-normals-k.is (c.dot.ensures.value ∙ ap (λ n. dot n c.args.d) c.vector.ensures.is)) c.if-dot-le0.false)
-
-pub returns : goal.returns
-returns c = all_kept (LeadsAheadOf c.args.normals.now c.args.d) c.args.numbers.now c.loop-k.k-index c.loop-k-test.false c.loop-k.invariant

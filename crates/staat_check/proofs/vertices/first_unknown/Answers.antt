@@ -24,9 +24,3 @@ loop-k-preserved c =
 
 pub returns : goal.returns
 returns c = asked_end (IsKnown c.args.version c.args.listed.now) (vertices c.args.planes.now) _ (ap vertices (drop_end c.args.planes.now c.loop-k.k c.loop-k-test.false)) c.loop-k.invariant
-
-pub loop-k-init : goal.loop-k-init
-loop-k-init c = λ answer tells. tells
-
-pub unknown_crossing-requires-clause-ascending : goal.unknown_crossing-requires-clause-ascending
-unknown_crossing-requires-clause-ascending c = c.requires.ascending

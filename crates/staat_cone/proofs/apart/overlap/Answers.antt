@@ -2,9 +2,7 @@ use Rattle.std.proofs.Common.{◌≡◌, ◌∙◌, ℕ, Bool, List, [], ap, len
 use Rattle.std.specs.Prelude.{◌↔◌, ◌==◌, IsTrue}
 use Rattle.std.proofs.lemmas.Bool.{eq-eqb, eqb-true}
 use Rattle.std.proofs.lemmas.List.{nil_from_length}
-use Rattle.std.proofs.lemmas.Result.{err_from_is_err_and}
 use Rattle.staat_vec.specs.declared.vector.V3.{V3}
-use Rattle.staat_model.specs.Meeting.{Overlap}
 use Rattle.staat_cone.proofs.AxisWallLemmas.{kept_apart}
 use Rattle.staat_cone.proofs.apart.overlap.Goals as goal
 
@@ -13,17 +11,7 @@ returns-then-is_apart g c =
     let found = c.if-is_apart.ensures.wall refl in
     (λ e. cc, λ o. absurd (kept_apart c.args.p.now c.args.q.now found.0 c.points-points.ensures.piece found.1 o))
 
-pub returns-in_err-facets : goal.returns-in_err-facets
-returns-in_err-facets g c =
-    let p = err_from_is_err_and c.from_residual.result c.from_residual.ensures.1 in
-    rw p.1 tt
-
 -- a list is empty exactly if its length is 0
 empty_is : (P : Type 0) (b : Bool) (xs : List V3) (n : ℕ) → b ≡ (n == 0) → n ≡ length xs → (xs ≡ []) ↔ P → IsTrue b ↔ P
 empty_is P b xs n e len h =
     (λ t. h.0 (nil_from_length xs (sym len ∙ eqb-true n 0 (sym e ∙ t))), λ p. e ∙ eq-eqb n 0 (len ∙ ap length (h.1 p)))
-
-pub returns : goal.returns
-returns g c =
-    let v = c.in_ok-facets.facets in
-    empty_is (Overlap c.args.p.now c.args.q.now) c.is_empty.result v.items v.len c.is_empty.ensures v.ok.0 c.in_ok-facets.ensures.overlap

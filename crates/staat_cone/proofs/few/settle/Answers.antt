@@ -1,9 +1,9 @@
-use Rattle.std.proofs.Common.{◌≡◌, refl, subst, sym, List, All}
-use Rattle.std.proofs.lemmas.List.Elements.{All-weaker}
-use Rattle.std.proofs.lemmas.Result.{err_from_is_err_and}
+use Rattle.std.proofs.Common.{◌≡◌, ◌≤ℤ◌, pos, refl, subst, sym, List, All}
+use Rattle.std.proofs.lemmas.List.Elements.{All-contains, All-weaker}
 use Rattle.staat_vec.specs.declared.vector.V3.{V3}
 use Rattle.staat_vec.specs.declared.vector.TheConstants.{DIFF}
-use Rattle.staat_vec.specs.Vectors.{IsWithin}
+use Rattle.staat_vec.specs.Vectors.{IsWithin, dot}
+use Rattle.staat_vec.proofs.Integers.{negative_nonneg_clash}
 use Rattle.staat_model.specs.Cones.{IsAbove}
 use Rattle.staat_cone.specs.Few.{IsDifferenceStep}
 use Rattle.staat_cone.proofs.PairLemmas.{refused}
@@ -27,6 +27,14 @@ returns-in_ok-push-in-None-clause-grown c =
     let few = c.args.few.now in
     grown_found c.args.p.now c.args.q.now few.members.items few.untested.items few.found.items c.args.n c.requires c.push.new.self.items c.primitive_normal.result c.in-None.ensures.none c.primitive_normal.ensures c.in_ok-push-in-None.ensures.items
 
+-- no difference lies behind a wall before all of the few, where they have all differences
+pub returns-in_ok-insert-in-Some-clause-whole : goal.returns-in_ok-insert-in-Some-clause-whole
+returns-in_ok-insert-in-Some-clause-whole c all =
+    let few = c.args.few.now.members.items in
+    let v = c.in-Some.v in
+    let up = subst (IsAbove c.args.n) c.as_slice.ensures.value (c.is_above.ensures.0 c.if-not-is_above.false) in
+    absurd {A = c.insert.new.self.untested.items ≡ c.args.few.now.untested.items} (negative_nonneg_clash (dot v c.args.n) c.in-Some.ensures.some.behind (All-contains (λ w. pos 0 ≤ℤ dot w c.args.n) few v up (all v c.in-Some.ensures.some.step.difference)))
+
 members_within : (p q few vs : List V3) → vs ≡ few → All (IsDifferenceStep p q) few → All (IsWithin DIFF) vs
 members_within p q few vs e h =
     subst (All (IsWithin DIFF)) (sym e) (All-weaker (IsDifferenceStep p q) (IsWithin DIFF) (λ v step. step.within) few h)
@@ -48,14 +56,6 @@ pub insert-requires-clause-members : goal.insert-requires-clause-members
 insert-requires-clause-members c =
     members_within c.args.p.now c.args.q.now c.args.few.now.members.items c.args.few.now.members.items refl c.requires.steps
 
-pub insert-requires-clause-vector : goal.insert-requires-clause-vector
-insert-requires-clause-vector c = c.in-Some.ensures.some.step.within
-
-pub returns-in_err-insert-in-Some : goal.returns-in_err-insert-in-Some
-returns-in_err-insert-in-Some c =
-    let p = err_from_is_err_and c.from_residual.result c.from_residual.ensures.1 in
-    rw p.1 (record { grown = tt; kept = tt })
-
 pub primitive_normal-requires-clause-some : goal.primitive_normal-requires-clause-some
 primitive_normal-requires-clause-some c =
     (last _ _ _ c.args.few.now.untested.items _ c.args.n c.requires).some
@@ -63,8 +63,3 @@ primitive_normal-requires-clause-some c =
 pub primitive_normal-requires-clause-normal : goal.primitive_normal-requires-clause-normal
 primitive_normal-requires-clause-normal c =
     (last _ _ _ c.args.few.now.untested.items _ c.args.n c.requires).within
-
-pub returns-in_err-push-in-None-clause-grown : goal.returns-in_err-push-in-None-clause-grown
-returns-in_err-push-in-None-clause-grown c =
-    let p = err_from_is_err_and c.from_residual-in_err-push-in-None.result c.from_residual-in_err-push-in-None.ensures.1 in
-    rw p.1 tt

@@ -1,4 +1,3 @@
-use Rattle.std.proofs.lemmas.Result.{err_from_is_err_and}
 use Rattle.staat_model.proofs.Differences.{span_from_three}
 use Rattle.staat_cone.proofs.FewLemmas.{ready}
 use Rattle.staat_cone.proofs.few.start.Goals as goal
@@ -20,18 +19,3 @@ returns-clause-spanning c =
     let two = c.in_ok-insert-2.ensures in
     let three = c.in_ok-insert-3.ensures in
     span_from_three c.insert-3.new.self.members.items c.in-Some.w u v three.member (three.kept u (two.kept u one.member)) (three.kept v two.member) c.in-Some.ensures.spanning
-
-pub returns-in_err-insert : goal.returns-in_err-insert
-returns-in_err-insert c =
-    let p = err_from_is_err_and c.from_residual-in_err-insert.result c.from_residual-in_err-insert.ensures.1 in
-    rw p.1 (record { grown = tt; spanning = tt })
-
-pub returns-in_err-insert-2 : goal.returns-in_err-insert-2
-returns-in_err-insert-2 c =
-    let p = err_from_is_err_and c.from_residual-in_err-insert-2.result c.from_residual-in_err-insert-2.ensures.1 in
-    rw p.1 (record { grown = tt; spanning = tt })
-
-pub returns-in_err-insert-3 : goal.returns-in_err-insert-3
-returns-in_err-insert-3 c =
-    let p = err_from_is_err_and c.from_residual-in_err-insert-3.result c.from_residual-in_err-insert-3.ensures.1 in
-    rw p.1 (record { grown = tt; spanning = tt })

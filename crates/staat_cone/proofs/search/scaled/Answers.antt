@@ -10,9 +10,3 @@ returns c =
     let b_fits = c.ranges.factor in
     let product_fits = fits_signed_mul w128 c.args.a c.args.factor NORMAL DIFF c.requires.a c.requires.factor (omega arith) in
     simp to_z-of_z
-
-pub overflow_mul-result : goal.overflow_mul-result
-overflow_mul-result c =
-    let a_fits = c.ranges.a in
-    let b_fits = c.ranges.factor in
-    simp to_z-of_z (fits_signed_mul w128 c.args.a c.args.factor NORMAL DIFF c.requires.a c.requires.factor (omega arith))

@@ -1,18 +1,17 @@
 use Rattle.std.proofs.Common.{⊎_elim, append-nil, ◌<◌, ◌≡◌, ◌∙◌, ◌≤◌, ◌+◌, ◌-◌, ◌∷◌, ◌++◌, ℕ, List, Option, None, Some}
 use Rattle.std.proofs.Common.{Result, Ok, Err, [], ap₂, true, false, drop, min, refl, ap, arith, le_trans, length, pos_of_ne-zero, sym}
 use Rattle.std.proofs.Common.{subst, take, inl, inr}
-use Rattle.std.specs.Prelude.{option_map, IfOk, IfSome, IsErrAnd, IsSomeAnd}
+use Rattle.std.specs.Prelude.{option_map, IfSome, IsErrAnd, IsSomeAnd}
 use Rattle.std.specs.Io.KnownBytes.{Consumes}
 use Rattle.std.proofs.KnownBytes.{Consumes-trans}
 use Rattle.std.proofs.lemmas.List.{length-append, length-take, take-append-le}
 use Rattle.staat_edge.specs.Files.{failed_at, held_name, told_name}
-use Rattle.staat_edge.specs.Fitting.{IsWhole}
 use Rattle.staat_edge.specs.Opening.{OpensAll}
 use Rattle.staat_edge.specs.Readings.{after_read, whole_reading}
 use Rattle.staat_edge.specs.declared.whole.ReadRefusal.{ReadRefusal}
-use Rattle.staat_edge.specs.declared.whole.ReadRefusal.TheVariants.{OutOfMemory, ReadFault, TooLong}
+use Rattle.staat_edge.specs.declared.whole.ReadRefusal.TheVariants.{OutOfMemory}
 use Rattle.staat_edge.proofs.Fitted.{as_it_is, ended_by, grown_by, longer_fits, still_one, whole_fits}
-use Rattle.staat_edge.proofs.OpeningLemmas.{all_some, narrowed, refused}
+use Rattle.staat_edge.proofs.OpeningLemmas.{all_some, narrowed}
 use Rattle.staat_edge.proofs.Taken.{not_lacking, rose_since, taken_longer, taken_whole, told_held, where_refused}
 use Rattle.staat_edge.proofs.whole.read_whole.Goals as goal
 
@@ -36,31 +35,6 @@ not_failed (Some name) before = refl
 out_of_memory : {X : Type 0} (r : Result X ReadRefusal) → IsErrAnd r (λ e. e ≡ OutOfMemory) → r ≡ Err OutOfMemory
 out_of_memory (Ok x) wrong = absurd wrong
 out_of_memory (Err e) is = ap Err is
-
-no_answer : {X : Type 0} (P : X → Type 0) (r : Result X ReadRefusal) → r ≡ Err OutOfMemory → IfOk r P
-no_answer P r is = subst (λ r. IfOk r P) (sym is) tt
-
--- two answers that differ
-answered : {X P : Type 0} (x : X) (e : ReadRefusal) → Ok x ≡ Err e → P
-answered x e is = absurd (cc)
-
-fault-long : {X P : Type 0} (r : Result X ReadRefusal) → r ≡ Err ReadFault → r ≡ Err TooLong → P
-fault-long r is wrong = absurd (cc)
-
-fault-memory : {X P : Type 0} (r : Result X ReadRefusal) → r ≡ Err ReadFault → r ≡ Err OutOfMemory → P
-fault-memory r is wrong = absurd (cc)
-
-long-fault : {X P : Type 0} (r : Result X ReadRefusal) → r ≡ Err TooLong → r ≡ Err ReadFault → P
-long-fault r is wrong = absurd (cc)
-
-long-memory : {X P : Type 0} (r : Result X ReadRefusal) → r ≡ Err TooLong → r ≡ Err OutOfMemory → P
-long-memory r is wrong = absurd (cc)
-
-memory-fault : {X P : Type 0} (r : Result X ReadRefusal) → r ≡ Err OutOfMemory → r ≡ Err ReadFault → P
-memory-fault r is wrong = absurd (cc)
-
-memory-long : {X P : Type 0} (r : Result X ReadRefusal) → r ≡ Err OutOfMemory → r ≡ Err TooLong → P
-memory-long r is wrong = absurd (cc)
 
 up_to_its_end : (size n limit held : ℕ) (taken text : List ℕ) → n ≡ 0 → text ≡ taken → size ≤ limit → size ≡ held → held ≡ length taken
     → (length text ≤ limit) × (length taken + n ≤ limit + 1) × (length taken + n ≡ length text)
@@ -94,11 +68,11 @@ returns-then-is_err g c =
       fault = λ _. cause;
       failed = λ _. c.open.ensures.failed ∙ ap (λ b. failed_at b (held_name before.holds name) before.failed) wrong;
       no_fault = λ there no_rise _. ⊎_elim (not_lacking _ name there) no_rise cause;
-      long = fault-long _ refl;
-      long_name = fault-long _ refl;
-      longer = fault-long _ refl;
-      long_failed = fault-long _ refl;
-      memory_failed = fault-memory _ refl;
+      long = λ e. absurd cc;
+      long_name = λ e. absurd cc;
+      longer = λ e. absurd cc;
+      long_failed = λ e. absurd cc;
+      memory_failed = λ e. absurd cc;
     }
 
 -- a read asks for no more than what is left up to one past the limit
@@ -157,14 +131,14 @@ returns-in-Ok-eq0 g c =
       within = within.0;
       place = place ∙ ap Some within.2;
       same_failed = c.in-Ok-eq0.ensures.failed ∙ not_failed _ _ ∙ c.pieces.invariant.failed;
-      fault = answered _ _;
-      failed = answered _ _;
-      no_fault = λ _ _. answered _ _;
-      long = answered _ _;
-      long_name = answered _ _;
-      longer = answered _ _;
-      long_failed = answered _ _;
-      memory_failed = answered _ _;
+      fault = λ e. absurd cc;
+      failed = λ e. absurd cc;
+      no_fault = λ _ _ e. absurd cc;
+      long = λ e. absurd cc;
+      long_name = λ e. absurd cc;
+      longer = λ e. absurd cc;
+      long_failed = λ e. absurd cc;
+      memory_failed = λ e. absurd cc;
     }
 
 pub returns-in_err-extend_from_slice-in-Ok : goal.returns-in_err-extend_from_slice-in-Ok
@@ -172,33 +146,32 @@ returns-in_err-extend_from_slice-in-Ok g c =
     let before = g.H.Shelf.told c.args.shelf.now in
     let now = g.H.Shelf.told c.read.new.self in
     let name = c.args.name.now in
-    let r = c.from_residual.result in
-    let is = out_of_memory r c.from_residual.ensures.1 in
+    let is = out_of_memory c.from_residual.result c.from_residual.ensures.1 in
     let holds = c.read.ensures.holds ∙ c.pieces.invariant.holds in
     let place = c.in-Ok.ensures.moved ∙ ap (option_map (λ at. at + c.in-Ok.count)) c.pieces.invariant.place in
     let opens = still_one c.in-Ok.count c.read.new.buf _ _ _ _ _ c.pieces.invariant.given c.in-Ok.ensures.gave in
-    record {
+    rw is (record {
       holds = holds;
       count = le_trans c.pieces.invariant.count c.read.ensures.count;
       name = where_open now.place (c.read.ensures.name ∙ c.pieces.invariant.name);
       most = open_at_most now.place (length c.pieces.taken.items + c.in-Ok.count) (c.args.limit + 1) place (read_at_most c.args.limit c.pieces.taken.len c.len-in-pieces.result _ c.in-Ok.count c.pieces.taken.items c.read.new.buf c.pieces.buf
           c.pieces.invariant.room c.pieces.taken.ok.0 c.len-in-pieces.ensures c.min-want.ensures c.in-Ok.ensures.room c.read.auto.buf);
-      gave = no_answer (λ bytes. now.given ≡ whole_reading name bytes ∷ before.given) r is;
-      opens = refused _ r _ _ _ c.from_residual.ensures.1 opens;
+      gave = tt;
+      opens = opens;
       narrows = narrowed (name ∷ []) before now holds opens;
-      content = no_answer (λ bytes. IsWhole now name bytes) r is;
-      within = no_answer (λ bytes. length bytes ≤ c.args.limit) r is;
-      place = no_answer (λ bytes. now.place ≡ Some (length bytes)) r is;
-      same_failed = no_answer (λ _. now.failed ≡ before.failed) r is;
-      fault = λ e. memory-fault _ is e;
-      failed = λ e. memory-fault _ is e;
-      no_fault = λ _ _ e. memory-fault _ is e;
-      long = λ e. memory-long _ is e;
-      long_name = λ e. memory-long _ is e;
-      longer = λ e. memory-long _ is e;
-      long_failed = λ e. memory-long _ is e;
+      content = tt;
+      within = tt;
+      place = tt;
+      same_failed = tt;
+      fault = λ e. absurd cc;
+      failed = λ e. absurd cc;
+      no_fault = λ _ _ e. absurd cc;
+      long = λ e. absurd cc;
+      long_name = λ e. absurd cc;
+      longer = λ e. absurd cc;
+      long_failed = λ e. absurd cc;
       memory_failed = λ _. c.in-Ok.ensures.failed ∙ not_failed _ _ ∙ c.pieces.invariant.failed;
-    }
+    })
 
 pub returns-in-Err : goal.returns-in-Err
 returns-in-Err g c =
@@ -223,11 +196,11 @@ returns-in-Err g c =
       fault = λ _. inr rose;
       failed = λ _. c.in-Err.ensures.failed ∙ ap₂ (failed_at true) (c.pieces.invariant.name ∙ told_held _ name c.pieces.invariant.has) c.pieces.invariant.failed;
       no_fault = λ _ no_rise _. no_rise rose;
-      long = fault-long _ refl;
-      long_name = fault-long _ refl;
-      longer = fault-long _ refl;
-      long_failed = fault-long _ refl;
-      memory_failed = fault-memory _ refl;
+      long = λ e. absurd cc;
+      long_name = λ e. absurd cc;
+      longer = λ e. absurd cc;
+      long_failed = λ e. absurd cc;
+      memory_failed = λ e. absurd cc;
     }
 
 pub returns : goal.returns
@@ -249,16 +222,16 @@ returns g c =
       within = tt;
       place = tt;
       same_failed = tt;
-      fault = long-fault _ refl;
-      failed = long-fault _ refl;
-      no_fault = λ _ _. long-fault _ refl;
+      fault = λ e. absurd cc;
+      failed = λ e. absurd cc;
+      no_fault = λ _ _ e. absurd cc;
       long = λ _. open_past now.place (length c.pieces.taken.items) c.args.limit c.pieces.invariant.place long;
       long_name = λ _. c.pieces.invariant.name;
       longer = λ _. longer_fits _ name c.pieces.taken.items c.args.limit _ _ long c.pieces.invariant.given (λ held is.
           taken_longer _ name c.pieces.taken.items c.args.limit _ held c.pieces.invariant.has long
           c.pieces.invariant.bytes (sym c.pieces.invariant.holds ∙ is));
       long_failed = λ _. c.pieces.invariant.failed;
-      memory_failed = long-memory _ refl;
+      memory_failed = λ e. absurd cc;
     }
 
 -- a read within what room was left

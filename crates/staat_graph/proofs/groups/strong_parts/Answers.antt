@@ -1,8 +1,11 @@
 use Rattle.std.proofs.Common.{◌≡◌, ◌+◌, List, arith, sym, ◌∙◌, subst, take, true≢false}
 use Rattle.staat_model.specs.declared.set.PartSet.{PartSet}
 use Rattle.staat_graph.specs.Graphs.{HasArc, AreGroups}
-use Rattle.staat_graph.proofs.Classes.{Below, all_groups, below_more, below_next}
+use Rattle.staat_graph.proofs.Classes.{AreFirst, Below, all_groups, below_more, below_next, below_none}
 use Rattle.staat_graph.proofs.groups.strong_parts.Goals as goal
+
+pub loop-p-init : goal.loop-p-init
+loop-p-init c = record { room = omega arith; below = below_none (HasArc c.new-g.result.ahead.rows) c.args.w }
 
 pub loop-p-preserved-then-not-has : goal.loop-p-preserved-then-not-has
 loop-p-preserved-then-not-has c = record {
@@ -22,4 +25,4 @@ returns-clause-groups c =
     let e : c.loop-p.p ≡ 32 = let a = c.loop-p.auto.p-end in let b = c.loop-p-test.false in omega (arith, a, b) in
     let groups : List PartSet = take c.loop-p.count c.loop-p.of in
     subst (λ g. AreGroups (HasArc g.rows) c.args.w groups) c.new-g.ensures
-    (all_groups (HasArc c.new-g.result.ahead.rows) c.args.w groups c.loop-p.rest (subst (λ n. Below (HasArc c.new-g.result.ahead.rows) c.args.w n groups c.loop-p.rest) e c.loop-p.invariant.below) c.bits-bits.ensures.small)
+    (all_groups (HasArc c.new-g.result.ahead.rows) c.args.w 32 groups (subst (λ n. AreFirst (HasArc c.new-g.result.ahead.rows) c.args.w n groups) e c.loop-p.invariant.below.first) c.bits-bits.ensures.small)

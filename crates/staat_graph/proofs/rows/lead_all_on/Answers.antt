@@ -1,5 +1,5 @@
-use Rattle.std.proofs.Common.{◌≡◌, ◌∙◌, ℕ, ◌+◌, ◌<◌, ◌≤◌, Bool, List, [], ap, below_more, get_or, le_refl, length, refl, set, subst, sym, arith}
-use Rattle.std.proofs.lemmas.List.{get_or_read, get_or-set_other, get_or-set_same, length-set}
+use Rattle.std.proofs.Common.{◌≡◌, ◌∙◌, ℕ, ◌+◌, ◌<◌, ◌≤◌, Bool, List, [], ap, below_more, get_or, le_refl, length, set, subst, sym, arith}
+use Rattle.std.proofs.lemmas.List.{get_or_read, get_or-set_other, get_or-set_same}
 use Rattle.staat_graph.specs.Rows.{IsSquare, LeadsOn}
 use Rattle.staat_graph.proofs.rows.lead_all_on.Goals as goal
 
@@ -17,9 +17,6 @@ row_length : (start now : List (List Bool)) (i : ℕ) (row : List Bool) → IsSq
 row_length start now i row square inside count is kept =
     ap length (get_or_read now i row (omega arith) is [] ∙ kept) ∙ square i [] inside
 
-pub loop-i-init : goal.loop-i-init
-loop-i-init c = record { count = refl; done = λ m lt. absurd (omega arith); rest = λ m le. refl }
-
 pub lead_on-requires-clause-count : goal.lead_on-requires-clause-count
 lead_on-requires-clause-count c =
     let k = c.args.k in
@@ -33,30 +30,3 @@ pub lead_on-requires-clause-place : goal.lead_on-requires-clause-place
 lead_on-requires-clause-place c =
     let inside : c.loop-i.i < length c.args.table.now.items = omega arith in
     subst (λ n. c.args.k < n) (sym (row_length c.args.table.now.items c.loop-i.table.items c.loop-i.i c.index_mut.result.now c.requires.square inside c.loop-i.invariant.count c.index_mut.ensures.value (c.loop-i.invariant.rest c.loop-i.i (le_refl c.loop-i.i)))) c.requires.place
-
-pub loop-i-preserved : goal.loop-i-preserved
-loop-i-preserved c =
-    let k = c.args.k in
-    let i = c.loop-i.i in
-    let through = c.in_ok-through.through in
-    let start = c.args.table.now.items in
-    let now = c.loop-i.table.items in
-    let row = c.lead_on.new.self in
-    let inside : i < length now = omega arith in
-    let old = get_or_read now i c.index_mut.result.now inside c.index_mut.ensures.value [] ∙ c.loop-i.invariant.rest i (le_refl i) in
-    let leads = subst (λ r. LeadsOn k r (get_or start i []) row) c.as_slice-in-loop-i.ensures
-    (subst (λ r. LeadsOn k c.as_slice-in-loop-i.result.now r row) old c.lead_on.ensures) in
-    record {
-      count = length-set now i row ∙ c.loop-i.invariant.count;
-      done = done_more k i through start now row inside c.loop-i.invariant.done leads;
-      rest = rest_more k i through start now row c.loop-i.invariant.rest;
-    }
-
-pub returns : goal.returns
-returns c =
-    let start = c.args.table.now.items in
-    let through = c.in_ok-through.ensures ∙ c.as_slice.ensures ∙ get_or_read start c.args.k c.index.result.now c.requires.place c.index.ensures [] in
-    record {
-      count = c.loop-i.invariant.count;
-      rows = λ i lt. subst (λ r. LeadsOn c.args.k r (get_or start i []) (get_or c.loop-i.table.items i [])) through (c.loop-i.invariant.done i (omega arith));
-    }

@@ -1,8 +1,8 @@
 use Rattle.std.proofs.Common.{◌≡◌, ◌+◌, ◌∷◌, ◌++◌, [], ◌<◌, ◌≤◌, ◌∙◌, ℕ, Bool, List, ap, arith, get_or, length, subst, sym, true≢false}
 use Rattle.std.specs.Ordering.{nat_cmp}
 use Rattle.staat_vec.specs.Lists.{Lists}
-use Rattle.staat_graph.specs.Rows.{IsMutualMark, IsSquare}
-use Rattle.staat_graph.proofs.RowLemmas.{AreFirstGroups, all_groups, group_next, group_same, no_groups}
+use Rattle.staat_graph.specs.Rows.{IsMutualMark}
+use Rattle.staat_graph.proofs.RowLemmas.{AreFirstGroups, all_listed, group_next, group_same, no_groups}
 use Rattle.staat_graph.proofs.rows.row_groups.Goals as goal
 use Rattle.staat_graph.proofs.rows.row_groups.Goals.{then-is_first+in_ok-push, else-is_first}
 
@@ -30,13 +30,7 @@ loop-p-preserved c =
 pub returns-clause-groups : goal.returns-clause-groups
 returns-clause-groups c =
     let le : length c.args.rows.now ≤ c.loop-p.p = omega (arith, c.loop-p-test.false, c.in_ok-table.ensures.count) in
-    all_groups c.args.rows.now c.loop-p.p c.loop-p.groups.items le c.loop-p.invariant
+    all_listed c.args.rows.now c.loop-p.p c.loop-p.groups.items le c.loop-p.invariant
 
 pub loop-p-init : goal.loop-p-init
 loop-p-init c = subst (λ (xs : List (List ℕ)). AreFirstGroups c.args.rows.now 0 xs) (sym c.new-groups.ensures.items) (no_groups c.args.rows.now)
-
-pub group_of-requires-clause-square : goal.group_of-requires-clause-square
-group_of-requires-clause-square c = subst (λ (t : List (List Bool)). IsSquare t) (sym c.as_slice.ensures.value) c.in_ok-table.ensures.square
-
-pub returns-clause-numbers : goal.returns-clause-numbers
-returns-clause-numbers c = c.loop-p.invariant.numbers

@@ -1,5 +1,5 @@
 use Rattle.std.proofs.Common.{◌∙◌, ⊎_elim, inl, inr, sym}
-use Rattle.std.proofs.lemmas.Bool.{false≢true, true≢false, not-false, not-true}
+use Rattle.std.proofs.lemmas.Bool.{false≢true, not-true}
 use Rattle.staat_model.proofs.FreeSides.{member_or}
 use Rattle.staat_graph.proofs.walks.next_part.Goals as goal
 use Rattle.staat_graph.proofs.walks.next_part.Goals.{then-within, else-within}
@@ -11,18 +11,4 @@ returns-then-not-meets c =
       | else-within w ↦ inr (λ q h.
           let none = not-true w.meets.result (sym w.value-is ∙ c.if-not-meets.true) in
           ⊎_elim (λ m. m) (λ out. absurd (false≢true (sym none ∙ w.meets.ensures.1 (q, (c.without-todo.ensures.members q).1 (h, out), h)))) (member_or c.args.left q))
-    ]
-
-pub returns-else-not-meets : goal.returns-else-not-meets
-returns-else-not-meets c =
-    let is = (c.without-todo.ensures.members c.least.result).0 c.least.ensures.least.has in
-    (is.0, is.1, c.least.ensures.small)
-
-pub least-requires : goal.least-requires
-least-requires c =
-    elim c.if-within.branch [
-      | then-within w ↦ absurd (true≢false (sym w.if-within.true ∙ sym w.value-is ∙ c.if-not-meets.false))
-      | else-within w ↦
-          let some = w.meets.ensures.0 (not-false w.meets.result (sym w.value-is ∙ c.if-not-meets.false)) in
-          (some.0, some.1)
     ]

@@ -1,5 +1,5 @@
-use Rattle.staat_model.proofs.OneReason.{IsReason-unique}
+use Rattle.staat_model.proofs.OneReason.{body_unique}
 use Rattle.staat_model.proofs.one_laws.one_reason.Goals as goal
 
 pub returns : goal.returns
-returns c = IsReason-unique
+returns c = λ parts k. body_unique parts k.version k.parts k.body

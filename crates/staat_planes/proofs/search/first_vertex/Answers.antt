@@ -22,14 +22,6 @@ returns-then-rules_out_all-clause-first g c parts planes made knows are =
     none_serve (g.T.Trial.serves parts c.args.w) (vertices planes)
     (λ v. c.rules_out_all.ensures.none c.if-rules_out_all.true parts v made (c.first_few.ensures.knows parts knows))
 
-pub returns-in-First-first_passing-clause-first : goal.returns-in-First-first_passing-clause-first
-returns-in-First-first_passing-clause-first g c parts planes made knows are =
-    c.in-First-first_passing.ensures.first parts planes made (c.rules_out_all.ensures.knows parts (c.first_few.ensures.knows parts knows)) are
-
-pub returns-in-Nothing-first_passing-clause-first : goal.returns-in-Nothing-first_passing-clause-first
-returns-in-Nothing-first_passing-clause-first g c parts planes made knows are =
-    c.in-Nothing-first_passing.ensures.first parts planes made (c.rules_out_all.ensures.knows parts (c.first_few.ensures.knows parts knows)) are
-
 pub returns-in-Undecided-first_passing-clause-first : goal.returns-in-Undecided-first_passing-clause-first
 returns-in-Undecided-first_passing-clause-first g c parts planes made knows are =
     let many = c.in-Undecided-first_passing.ensures.first parts planes made (c.rules_out_all.ensures.knows parts (c.first_few.ensures.knows parts knows)) are in

@@ -3,7 +3,6 @@ use Rattle.std.proofs.lemmas.List.Elements.{All-weaker}
 use Rattle.staat_vec.specs.declared.vector.V3.{V3}
 use Rattle.staat_model.specs.Planes.{crossings}
 use Rattle.staat_planes.specs.PairOrder.{numbers_of, planes_at, rest_of_row, vertices_left}
-use Rattle.staat_planes.specs.VertexSearch.{ArePassed}
 use Rattle.staat_planes.proofs.PairSteps.{IsOn}
 use Rattle.staat_planes.proofs.SearchSteps.{none_passed, row_passed}
 use Rattle.staat_planes.proofs.search.pass_rows.Goals as goal
@@ -43,11 +42,3 @@ loop-k-preserved g c =
           (c.loop-k.invariant.passed parts made knows) (sym c.in-Some.ensures.left ∙ c.end_row.ensures.left)
           (subst (λ h. All (λ v. serves v → ⊥) (crossings h ns)) (sym row.is) (All-weaker (IsOn plane) (λ v. serves v → ⊥) none (crossings plane ns) row.on));
     }
-
-pub returns-then-not-rules_out-clause-passed : goal.returns-then-not-rules_out-clause-passed
-returns-then-not-rules_out-clause-passed g c = λ parts made knows.
-    subst (ArePassed (g.T.Trial.serves parts c.args.w) (vertices_left c.args.table.now.planes c.args.pairs.now)) (sym c.in-Some.ensures.left) (c.loop-k.invariant.passed parts made knows)
-
-pub returns-in_default-clause-passed : goal.returns-in_default-clause-passed
-returns-in_default-clause-passed g c = λ parts made knows.
-    subst (ArePassed (g.T.Trial.serves parts c.args.w) (vertices_left c.args.table.now.planes c.args.pairs.now)) (sym c.in_default.ensures.left) (c.loop-k.invariant.passed parts made knows)

@@ -1,6 +1,11 @@
-use Rattle.std.proofs.Common.{◌≡◌, ◌∙◌, ◌++◌, List, ℕ, [], ap, codes, get_or, refl, sym}
+use Rattle.std.proofs.Common.{◌∙◌, ◌++◌, List, ℕ, ap, codes, get_or, sym}
+use Rattle.std.proofs.lemmas.List.{take_all}
+use Rattle.std.proofs.lemmas.List.Folds.{flat_map-map}
+use Rattle.std.specs.Prelude.{flat_map}
+use Rattle.staat_model.specs.SetLists.{set_of}
+use Rattle.staat_text.specs.GraphTexts.{group_line}
 use Rattle.staat_text.specs.PlanTexts.{numbers_text}
-use Rattle.staat_text.proofs.GroupLines.{groups_taken, own_group}
+use Rattle.staat_text.proofs.GraphLines.{text_more}
 use Rattle.staat_text.proofs.PartNumbers.{numbers_of_list}
 use Rattle.staat_text.proofs.rows.push_groups.Goals as goal
 
@@ -8,7 +13,15 @@ pub loop-group-preserved : goal.loop-group-preserved
 loop-group-preserved c =
     let groups = c.args.groups.now in
     let i = c.loop-group.group-index in
-    let at : get_or groups i [] ≡ c.as_slice.result.now = own_group groups i c.group-item.result c.as_slice.result.now c.loop-group-test.true c.group-item.is c.as_slice.ensures in
-    let are = c.requires i [] c.loop-group-test.true in
-    groups_taken groups i (get_or groups i []) c.loop-group.text.items _ c.args.text.now.items c.loop-group-test.true refl c.loop-group.invariant
-    (c.in_ok-push_group.ensures ∙ ap (λ g. c.loop-group.text.items ++ (codes "group" ++ numbers_text g ++ codes "\n")) (sym at ∙ numbers_of_list (get_or groups i []) are.ascending are.small))
+    let item = c.group-item.result in
+    let own = get_or groups i item in
+    let are = c.requires i item c.loop-group-test.true in
+    let text = c.loop-group.text.items in
+    text_more (λ group. group_line (set_of group)) groups i item c.args.text.now.items text _ c.loop-group-test.true c.loop-group.invariant
+    (c.in_ok-push_group.ensures ∙ ap (λ (g : List ℕ). text ++ (codes "group" ++ numbers_text g ++ codes "\n")) (c.as_slice.ensures ∙ c.group-item.is ∙ numbers_of_list own are.ascending are.small))
+
+pub returns : goal.returns
+returns c =
+    let groups = c.args.groups.now in
+    c.loop-group.invariant ∙ ap (λ (l : List ℕ). c.args.text.now.items ++ l) (ap (flat_map (λ group. group_line (set_of group))) (take_all c.loop-group.group-index groups c.loop-group-test.false)
+    ∙ sym (flat_map-map group_line set_of groups))

@@ -1,8 +1,8 @@
-use Rattle.std.proofs.Common.{◌≡◌, ◌++◌, map, take}
+use Rattle.std.proofs.Common.{◌≡◌, ◌++◌, take}
 use Rattle.std.specs.Prelude.{flat_map}
 use Rattle.staat_model.specs.SetLists.{set_of}
 use Rattle.staat_text.specs.GraphTexts.{group_line}
 use Rattle.staat_text.proofs.rows.push_groups.Given as goal
 
 abbrev pub invariant-loop-group : goal.invariant-loop-group
-invariant-loop-group l = l.text.items ≡ l.initial.text.items ++ flat_map group_line (map set_of (take l.group-index l.groups))
+invariant-loop-group l = l.text.items ≡ l.initial.text.items ++ flat_map (λ group. group_line (set_of group)) (take l.group-index l.groups)

@@ -1,10 +1,11 @@
 use Rattle.std.proofs.Common.{ap}
 use Rattle.staat_cert.specs.Views.{state_of}
-use Rattle.staat_cert.proofs.Standing.{none_there, whole_there}
+use Rattle.staat_cert.proofs.Formats.{whole_there}
+use Rattle.staat_cert.proofs.Standing.{format, none_there}
 use Rattle.staat_cert.proofs.machine.StageTextStage.whole.Goals as goal
 
 pub returns-in-Ended : goal.returns-in-Ended
-returns-in-Ended c = λ text h. whole_there _ _ text (ap state_of c.in-Ended.is) h
+returns-in-Ended c = λ text h. whole_there format _ _ text (ap state_of c.in-Ended.is) h
 
 pub returns : goal.returns
 returns c = none_there c.args.self c.in_default.not-Ended

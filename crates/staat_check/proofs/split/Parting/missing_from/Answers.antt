@@ -5,9 +5,6 @@ use Rattle.staat_model.proofs.ArcOrder.{less_by_i}
 use Rattle.staat_check.proofs.MissingLemmas.{all_below, all_next, least_here}
 use Rattle.staat_check.proofs.split.Parting.missing_from.Goals as goal
 
-pub missing_from_piece-requires-clause-first : goal.missing_from_piece-requires-clause-first
-missing_from_piece-requires-clause-first c = c.requires.first
-
 pub missing_from_piece-requires-clause-piece : goal.missing_from_piece-requires-clause-piece
 missing_from_piece-requires-clause-piece c =
     subst (λ n. c.loop-i.i < n) c.pieces-i-end.ensures.count c.loop-i-test.true

@@ -12,9 +12,3 @@ returns-in-Some-first_missing c = missing_reason c.args.self.now.assembly.now c.
 
 pub returns-in-None-first_missing : goal.returns-in-None-first_missing
 returns-in-None-first_missing c = split_holds c.args.self.now.assembly.now c.args.self.now.side c.args.self.now.rest c.args.self.now.d c.args.self.now.seps.now (λ e. false≢true (c.if-is_same.ensures.1 e)) c.in-None.ensures.answer c.requires.ascending c.in-None-first_missing.ensures
-
-pub first_bad_wall-requires-clause-sides : goal.first_bad_wall-requires-clause-sides
-first_bad_wall-requires-clause-sides c = c.requires.sides
-
-pub first_bad_wall-requires-clause-seps : goal.first_bad_wall-requires-clause-seps
-first_bad_wall-requires-clause-seps c = c.requires.seps

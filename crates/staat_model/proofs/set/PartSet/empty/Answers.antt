@@ -1,7 +1,6 @@
-use Rattle.staat_model.proofs.SetMembers.{has-empty}
+use Rattle.staat_model.proofs.SetMembers.{has-empty, set_of_word-zero}
 use Rattle.std.proofs.Common.{subst}
 use Rattle.staat_model.specs.Sets.{Has}
-use Rattle.staat_model.proofs.SetMembers.{set_of_word-zero}
 use Rattle.staat_model.proofs.set.PartSet.empty.Goals as goal
 
 pub returns-clause-is : goal.returns-clause-is

@@ -1,8 +1,7 @@
 use Rattle.std.proofs.Common.{ap, sym, ◌∙◌, eq-eqb, eqb-true}
 use Rattle.std.specs.Bool.{one_answer}
 use Rattle.staat_model.specs.Bits.{set_of_word, word_of_set}
-use Rattle.staat_model.specs.SetFacts.{word_of_set-set_of_word}
-use Rattle.staat_model.specs.SetFacts.{equal_sets-decides}
+use Rattle.staat_model.specs.SetFacts.{word_of_set-set_of_word, equal_sets-decides}
 use Rattle.staat_model.proofs.set.PartSetPartialEq.eq.Goals as goal
 
 pub returns-clause-same : goal.returns-clause-same

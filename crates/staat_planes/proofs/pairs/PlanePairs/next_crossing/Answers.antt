@@ -10,14 +10,3 @@ returns-then-self-clause-crossing c =
     let end = c.enter_row.ensures.end c.if-self.true in
     let long = count_is c.args.table.now.planes p place in
     sym c.enter_row.ensures.left ∙ nothing_left c.args.table.now.planes (numbers_of p) p.first p.second (omega (arith, long, c.if-self.true)) (omega (arith, long, end))
-
-pub returns-clause-place : goal.returns-clause-place
-returns-clause-place c =
-    let place = c.enter_row.ensures.place in
-    record { room = place.room; most = place.most; numbers = place.numbers; first = place.first; order = omega (arith, place.order) }
-
-pub returns-clause-crossing : goal.returns-clause-crossing
-returns-clause-crossing c = sym c.enter_row.ensures.left ∙ c.crossing_here-d.ensures.left
-
-pub overflow_add-self : goal.overflow_add-self
-overflow_add-self c = let most = c.enter_row.ensures.place.most in omega (arith, most, c.if-self.false)

@@ -1,12 +1,16 @@
-use Rattle.std.proofs.Common.{◌≡◌, ◌+◌, ◌∙◌, ap, arith, refl, subst, sym, true≢false, length, take}
+use Rattle.std.proofs.Common.{◌≡◌, ◌<◌, ◌+◌, ◌∙◌, ap, arith, refl, subst, sym, true≢false, length, take}
 use Rattle.std.proofs.lemmas.List.{length-set, length-take-le, take_more_set}
 use Rattle.staat_planes.proofs.PairSteps.{first_vertices}
-use Rattle.staat_planes.proofs.UsedPlanes.{AreMarkedBelow, marked_planes, marked_rise, none_below, not_below, one_below}
+use Rattle.std.specs.Ordering.{nat_cmp}
+use Rattle.staat_vec.specs.Lists.{Lists}
+use Rattle.staat_graph.proofs.RowLemmas.{listed_next, listed_same, none_listed}
+use Rattle.staat_planes.specs.MarkedPlanes.{IsPlaneMarked}
+use Rattle.staat_planes.proofs.UsedPlanes.{marked_planes, marked_rise}
 use Rattle.staat_planes.proofs.pairs.PlanePairs.of.Goals.{then-marks-k, else-marks-k}
 use Rattle.staat_planes.proofs.pairs.PlanePairs.of.Goals as goal
 
 pub loop-k-init : goal.loop-k-init
-loop-k-init c = record { room = refl; few = omega arith; marked = none_below c.used_marks-marks.result }
+loop-k-init c = record { room = refl; few = omega arith; marked = none_listed (IsPlaneMarked c.used_marks-marks.result) }
 
 pub loop-k-preserved : goal.loop-k-preserved
 loop-k-preserved c =
@@ -18,15 +22,15 @@ loop-k-preserved c =
       | then-marks-k w ↦ (record {
         room = ap length w.numbers-is ∙ length-set c.loop-k.numbers c.loop-k.count k ∙ c.loop-k.invariant.room;
         few = let e = w.count-is in omega (arith, few, e);
-        marked = subst (AreMarkedBelow marks (k + 1))
+        marked = subst (Lists nat_cmp (λ m. (m < k + 1) × IsPlaneMarked marks m))
             (sym ((λ i. take (w.count-is i) (w.numbers-is i)) ∙ take_more_set c.loop-k.numbers c.loop-k.count k (let room = c.loop-k.invariant.room in let lt = c.loop-k-test.true in let most = c.len-k-end.ensures.most in omega (arith, few, room, lt, most))))
-            (one_below marks k ks c.loop-k.invariant.marked w.if-marks-k.true);
+            (listed_next (IsPlaneMarked marks) k ks c.loop-k.invariant.marked w.if-marks-k.true);
       })
       | else-marks-k w ↦ (record {
         room = ap length w.numbers-is ∙ c.loop-k.invariant.room;
         few = let e = w.count-is in omega (arith, few, e);
-        marked = subst (AreMarkedBelow marks (k + 1)) (sym (λ i. take (w.count-is i) (w.numbers-is i)))
-            (not_below marks k ks c.loop-k.invariant.marked (λ told. true≢false (sym told ∙ w.if-marks-k.false)));
+        marked = subst (Lists nat_cmp (λ m. (m < k + 1) × IsPlaneMarked marks m)) (sym (λ i. take (w.count-is i) (w.numbers-is i)))
+            (listed_same (IsPlaneMarked marks) k ks c.loop-k.invariant.marked (λ told. true≢false (sym told ∙ w.if-marks-k.false)));
       })
     ]
 
@@ -40,7 +44,7 @@ returns c =
     let most = c.len-k-end.ensures.most in
     let last = c.loop-k.auto.k-end in
     let all : c.loop-k.k ≡ length t.planes = (let test = c.loop-k-test.false in omega (arith, test, last, long)) in
-    let below = subst (λ k. AreMarkedBelow marks k ks) all c.loop-k.invariant.marked in
+    let below = subst (λ n. Lists nat_cmp (λ m. (m < n) × IsPlaneMarked marks m) ks) all c.loop-k.invariant.marked in
     let room = c.loop-k.invariant.room in
     let used = length-take-le c.loop-k.count c.loop-k.numbers (omega (arith, few, room, last, most)) in
     let planes = marked_planes t c.args.w marks ks c.used_marks-marks.ensures.is below c.len-k-end.ensures.rules.planes c.requires (omega (arith, used, few, all)) in

@@ -1,9 +1,8 @@
-use Rattle.std.proofs.Common.{◌↔◌, ℕ, subst, sym}
+use Rattle.std.proofs.Common.{◌↔◌, ℕ, subst}
 use Rattle.staat_model.specs.declared.set.PartSet.{PartSet}
 use Rattle.staat_graph.specs.Blocking.{ShowsBlocking}
 use Rattle.staat_graph.specs.Graphs.{HasArc}
 use Rattle.staat_planes.specs.Tables.{BlocksIn}
-use Rattle.staat_model.specs.Sets.{Has}
 use Rattle.staat_planes.proofs.table.PlaneTable.graph_at.Goals as goal
 
 pub returns-clause-arcs : goal.returns-clause-arcs
@@ -13,13 +12,3 @@ returns-clause-arcs c parts made =
 pub returns-clause-shows : goal.returns-clause-shows
 returns-clause-shows c parts made =
     subst (λ (w : PartSet). ShowsBlocking parts c.args.d w c.graph_in.result.rows) c.set.ensures.is (c.graph_in.ensures.shows parts made)
-
-pub returns-clause-table : goal.returns-clause-table
-returns-clause-table c = λ a b. (
-  λ h. ((c.graph_in.ensures.table a b).0 h).ahead,
-  λ h. (c.graph_in.ensures.table a b).1 (record {
-    a_in = subst (λ (w : PartSet). Has w a) (sym c.set.ensures.is) h.across.a_in;
-    b_in = subst (λ (w : PartSet). Has w b) (sym c.set.ensures.is) h.across.b_in;
-    ahead = h;
-  }),
-)

@@ -4,7 +4,6 @@ use Rattle.staat_vec.specs.Vectors.{dot, negative}
 use Rattle.staat_pairs.specs.Tables.{facets_of, reversed_facets, IsTableArc}
 use Rattle.staat_pairs.proofs.TableLemmas.{back_across, facets_reversed}
 use Rattle.staat_pairs.proofs.ReversedFacets.{ahead_reversed}
-use Rattle.staat_vec.specs.declared.vector.TheConstants.{DIRECTION}
 use Rattle.staat_planes.proofs.table.PlaneTable.leads_ahead.Goals as goal
 
 pub returns-else-arc : goal.returns-else-arc
@@ -18,9 +17,3 @@ returns-else-arc c =
 pub kept_facets-requires-else-arc-clause-across : goal.kept_facets-requires-else-arc-clause-across
 kept_facets-requires-else-arc-clause-across c =
     subst (IsTableArc c.args.self.now) (sym c.back.ensures) (back_across c.args.self.now c.args.arc c.requires.across)
-
-pub is_ahead-requires-else-arc : goal.is_ahead-requires-else-arc
-is_ahead-requires-else-arc c = c.neg.ensures.size DIRECTION c.requires.direction
-
-pub returns-then-arc : goal.returns-then-arc
-returns-then-arc c = subst (λ l. IsTrue c.is_ahead.result ↔ All (λ n. pos 0 <ℤ dot n c.args.d) l) c.kept_facets.ensures.is c.is_ahead.ensures

@@ -1,10 +1,11 @@
 use Rattle.std.proofs.Common.{ap}
 use Rattle.staat_short.specs.ShortViews.{front_of}
-use Rattle.staat_short.proofs.Standing.{none_there, whole_there}
+use Rattle.staat_cert.proofs.Formats.{whole_there}
+use Rattle.staat_short.proofs.ShortReadings.{format, none_there}
 use Rattle.staat_short.proofs.machine.StageTextStage.whole.Goals as goal
 
 pub returns-in-Complete : goal.returns-in-Complete
-returns-in-Complete c = λ text h. whole_there _ _ text (ap front_of c.in-Complete.is) h
+returns-in-Complete c = λ text h. whole_there format _ _ text (ap front_of c.in-Complete.is) h
 
 pub returns : goal.returns
 returns c = none_there c.args.self c.in_default.not-Complete

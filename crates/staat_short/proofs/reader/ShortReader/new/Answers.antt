@@ -1,12 +1,6 @@
-use Rattle.staat_short.proofs.ShortReadings.{are_whole}
-use Rattle.staat_short.proofs.Standing.{none_taken, taken_begins}
+use Rattle.staat_cert.proofs.Formats.{are_whole, none_taken, taken_begins}
+use Rattle.staat_short.proofs.ShortReadings.{format}
 use Rattle.staat_short.proofs.reader.ShortReader.new.Goals as goal
 
-pub new-requires-clause-taken : goal.new-requires-clause-taken
-new-requires-clause-taken c = none_taken
-
-pub new-requires-clause-begins : goal.new-requires-clause-begins
-new-requires-clause-begins c = taken_begins _ _ none_taken
-
-pub new-requires-clause-texts : goal.new-requires-clause-texts
-new-requires-clause-texts c = are_whole
+pub new-requires : goal.new-requires
+new-requires c = record { taken = none_taken format; begins = taken_begins format _ _ (none_taken format); texts = are_whole format }

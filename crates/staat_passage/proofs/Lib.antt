@@ -1,0 +1,4 @@
+pub mod StretchLemmas
+pub mod PassageLemmas
+pub mod PairLemmas
+pub mod CrossingLemmas

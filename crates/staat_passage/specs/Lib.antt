@@ -1,0 +1,4 @@
+pub mod PairFacets
+pub mod Crossings
+pub mod Stretches
+pub mod Passages
