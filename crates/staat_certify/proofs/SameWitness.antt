@@ -1,8 +1,9 @@
--- Where the same pieces meet along two directions, the witness is the same.
-use Rattle.std.proofs.Common.{◌≡◌, ◌≢◌, ◌∙◌, ◌↔◌, ℕ, zero, suc, ◌+◌, ◌<◌, arith, ap, sym, subst, refl, List, All, length}
+-- Where the same pairs of pieces have positive facets alone, the witness is the same.
+use Rattle.std.proofs.Common.{◌≡◌, ◌≢◌, ◌∙◌, ◌↔◌, ℕ, ◌≤◌, sym, subst, refl, List, All, pos, ◌<ℤ◌}
 use Rattle.std.specs.Prelude.{Bool, IfSome, None, Option, Some, false, map}
 use Rattle.std.proofs.lemmas.List.Elements.{All-contains}
 use Rattle.staat_vec.specs.declared.vector.V3.{V3}
+use Rattle.staat_vec.specs.Vectors.{dot}
 use Rattle.staat_model.specs.declared.assembly.Part.{Part}
 use Rattle.staat_model.specs.declared.certificate.Arc.{Arc}
 use Rattle.staat_model.specs.declared.certificate.Witness.{Witness}
@@ -15,22 +16,37 @@ use Rattle.staat_model.specs.Sets.{Has, single}
 use Rattle.staat_model.proofs.Members.{All-from_members}
 use Rattle.staat_model.proofs.ValidCertificates.{witness_holds}
 use Rattle.staat_pairs.specs.Searches.{arc_of}
-use Rattle.staat_pairs.specs.Tables.{IsTableArc, Table, WasMadeFrom}
+use Rattle.staat_pairs.specs.Tables.{IsTable, IsTableArc, Table, facets_of, slot}
 use Rattle.staat_planes.proofs.GraphLaw.{meets_at}
-use Rattle.staat_ring.specs.HalfCircles.{HalfTurn, half_vertex}
-use Rattle.staat_ring.specs.Rings.{facet_by}
-use Rattle.staat_passage.specs.declared.passage.Passage.{Passage}
-use Rattle.staat_passage.specs.Passages.{IsAsBefore, IsSeen, IsUnderway, seen_arc}
-use Rattle.staat_passage.specs.Stretches.{AreStretches, IsAheadOfPair}
-use Rattle.staat_passage.proofs.PassageLemmas.{seen_across, sees_at}
-use Rattle.staat_certify.specs.Visits.{IsOnWay, IsToldBefore, NamesIfTold}
+use Rattle.staat_ring.specs.CountedSigns.{Signed, positives}
+use Rattle.staat_ring.specs.WholeCircles.{HaveSameFull, IsFull}
+use Rattle.staat_ring.proofs.ArcLaw.{full_says}
+use Rattle.staat_ring.proofs.WholeCircles.{all, all_linked, to_linked}
+use Rattle.staat_certify.specs.Witnesses.{StandsAmong}
+use Rattle.staat_certify.specs.Visits.{NamesIfTold}
 use Rattle.staat_certify.proofs.WitnessLemmas.{met_of, root_within, tree_carried}
 
-module _ (parts : List Part) (t : Table) (d e : V3) (from : WasMadeFrom parts t) (ahead_too : (arc : Arc) → IsTableArc t arc → IsAheadOfPair t d arc ↔ IsAheadOfPair t e arc) where
+-- a pair has positive facets alone exactly where the vertex leads ahead of all of them
+pub full_is_ahead : (parts : List Part) (t : Table) (s : Signed) (d : V3) → StandsAmong parts t s d → IsTable t → (arc : Arc) → IsTableArc t arc → IsFull s (slot t.pieces arc) ↔ All (λ n. pos 0 <ℤ dot n d) (facets_of t arc)
+full_is_ahead parts t s d stands rules arc across =
+    let law = full_says parts t s (all t.planes) d t.of stands.from rules stands.made (to_linked t.planes (all t.planes) s d stands.signs) (λ p h. h) (all_linked parts t.of t.planes) arc across across.a_in across.b_in in
+    let wanted = (stands.made.all arc across).wanted in (
+      λ full. law.0 (subst (λ n. n ≤ positives (slot t.pieces arc) s.states) wanted full),
+      λ ahead. subst (λ n. n ≤ positives (slot t.pieces arc) s.states) (sym wanted) (law.1 ahead),
+    )
+
+module _ (parts : List Part) (t : Table) (rules : IsTable t) (s u : Signed) (d e : V3) (here : StandsAmong parts t s d) (there : StandsAmong parts t u e) (same : HaveSameFull s u) where
+  ahead_too : (arc : Arc) → IsTableArc t arc → All (λ n. pos 0 <ℤ dot n d) (facets_of t arc) ↔ All (λ n. pos 0 <ℤ dot n e) (facets_of t arc)
+  ahead_too arc across =
+      let one = full_is_ahead parts t s d here rules arc across in
+      let two = full_is_ahead parts t u e there rules arc across in
+      let q = slot t.pieces arc in
+      (λ h. two.0 ((same q).0 (one.1 h)), λ h. one.0 ((same q).1 (two.1 h)))
+
   meets_too : (arc : Arc) → Has t.of arc.a → Has t.of arc.b → arc.a ≢ arc.b → MeetsAlong parts d arc ↔ MeetsAlong parts e arc
   meets_too arc a_in b_in apart = (
-    (λ m. let met = met_of parts t d arc from a_in b_in apart m in (meets_at parts t e arc from.assembly (from.facets arc met.0)).1 ((ahead_too arc met.0).0 met.1)),
-    (λ m. let met = met_of parts t e arc from a_in b_in apart m in (meets_at parts t d arc from.assembly (from.facets arc met.0)).1 ((ahead_too arc met.0).1 met.1)),
+    (λ m. let met = met_of parts t d arc here.from a_in b_in apart m in (meets_at parts t e arc here.from.assembly (here.from.facets arc met.0)).1 ((ahead_too arc met.0).0 met.1)),
+    (λ m. let met = met_of parts t e arc here.from a_in b_in apart m in (meets_at parts t d arc here.from.assembly (here.from.facets arc met.0)).1 ((ahead_too arc met.0).1 met.1)),
   )
 
   blocks_too : (a b : ℕ) → Has t.of a → Has t.of b → Blocks parts d a b ↔ Blocks parts e a b
@@ -60,40 +76,12 @@ module _ (parts : List Part) (t : Table) (d e : V3) (from : WasMadeFrom parts t)
         ins_least = least_too witness.ins holds.ins is.ins_least;
       }
 
-ahead_in : (t u : Table) (d : V3) (arc : Arc) → u ≡ t → IsTableArc t arc → {X : Type 0} → (IsTableArc u arc → X ↔ IsAheadOfPair u d arc) → X ↔ IsAheadOfPair t d arc
-ahead_in t u d arc same across {X = X} law = subst (λ x. X ↔ IsAheadOfPair x d arc) same (law (subst (λ x. IsTableArc x arc) (sym same) across))
+  -- a number that is told there is told here
+  pub told_too : (witnesses : List Witness) (told : Option ℕ) → NamesIfTold parts t.of witnesses d told → NamesIfTold parts t.of witnesses e told
+  told_too witnesses None names = names
+  told_too witnesses (Some i) names = record { witness = names.witness; witness_is = names.witness_is; is = same_witness names.witness names.is }
 
--- a number that is told at a vertex is told at the next one, where no other pieces meet
-pub told_on : (parts : List Part) (t : Table) (h : HalfTurn) (witnesses : List Witness) (p q : Passage) (opposite changes : Bool) (told known : Option ℕ) (k : ℕ) → WasMadeFrom parts t → k < length h.stops → IsOnWay t h p k → IsOnWay t h q (k + 1)
-    → (changes ≡ false → (arc : Arc) → IsTableArc t arc → IsSeen p arc ↔ IsSeen q arc) → IsToldBefore parts t h witnesses opposite told k
-    → IfSome known (λ i. (changes ≡ false) × (told ≡ Some i)) → NamesIfTold parts t.of witnesses (facet_by opposite (half_vertex t.planes h k)) known
-told_on parts t h witnesses p q opposite changes told None k from lt way next same before is = is
-told_on parts t h witnesses p q opposite changes told (Some i) zero from lt way next same before is = absurd (none_is_some i (sym before ∙ is.1))
-  where
-    none_is_some : (i : ℕ) → None ≡ Some i → ⊥
-    none_is_some i e = cc
-told_on parts t h witnesses p q opposite changes told (Some i) (suc k) from lt way next same before is =
-    let names = subst (λ x. NamesIfTold parts t.of witnesses (facet_by opposite (half_vertex t.planes h k)) x) is.1 before in
-    let here = sees_at t h p k (omega (arith, lt)) way.table way.stretches (let e = way.time in omega (arith, e)) opposite in
-    let there = sees_at t h q (suc k) lt next.table next.stretches next.time opposite in
-    let step = λ (arc : Arc) (across : IsTableArc t arc). same is.0 (seen_arc opposite arc) (seen_across t opposite arc across) in
-    record {
-      witness = names.witness;
-      witness_is = names.witness_is;
-      is = same_witness parts t (facet_by opposite (half_vertex t.planes h k)) (facet_by opposite (half_vertex t.planes h (suc k))) from
-          (λ arc across.
-          let x = ahead_in t p.table.now (facet_by opposite (half_vertex t.planes h k)) arc way.table across (here arc) in
-          let y = ahead_in t q.table.now (facet_by opposite (half_vertex t.planes h (suc k))) arc next.table across (there arc) in
-          (λ a. y.0 ((step arc across).0 (x.1 a)), λ a. x.0 ((step arc across).1 (y.1 a))))
-          names.witness names.is;
-    }
-
--- the way leads on
-pub way_on : (t : Table) (h : HalfTurn) (p q : Passage) (k : ℕ) → IsOnWay t h p k → IsAsBefore p q → IsUnderway q → q.time ≡ p.time + 1 → IsOnWay t h q (k + 1)
-way_on t h p q k way same stands time = record {
-  table = same.table ∙ way.table;
-  stands = stands;
-  stretches = subst (λ v. AreStretches t h v.items) (sym same.stretches) way.stretches;
-  room = subst (λ v. length h.stops + 1 < length v.items) (sym same.changes) way.room;
-  time = time ∙ ap (λ m. m + 1) way.time;
-}
+-- a number that is told only where other pieces do not meet
+pub still_told : (parts : List Part) (w : PartSet) (witnesses : List Witness) (e : V3) (changes : Bool) (told known : Option ℕ) → IfSome known (λ i. (changes ≡ false) × (told ≡ Some i)) → (changes ≡ false → NamesIfTold parts w witnesses e told) → NamesIfTold parts w witnesses e known
+still_told parts w witnesses e changes told None h names = h
+still_told parts w witnesses e changes told (Some i) h names = subst (NamesIfTold parts w witnesses e) h.1 (names h.0)

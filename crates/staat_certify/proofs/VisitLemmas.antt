@@ -1,6 +1,6 @@
 -- What a survey of the vertices of a table's planes finds.
-use Rattle.std.proofs.Common.{◌≡◌, ◌≢◌, ◌⊎◌, inl, inr, ⊎_elim, ℕ, zero, suc, ◌+◌, ◌<◌, ◌≤◌, Bool, true, false, not, arith, ap, sym, subst, ◌∙◌, refl, List, [], ◌∷◌, ◌++◌, length, get_or, All, Contains}
-use Rattle.std.specs.Prelude.{None, Option, Some, slice_get}
+use Rattle.std.proofs.Common.{◌≡◌, ◌≢◌, ⊎_elim, ℕ, ◌+◌, ◌<◌, ◌≤◌, Bool, true, false, not, arith, ap, sym, subst, ◌∙◌, refl, List, [], ◌∷◌, ◌++◌, length, All, Contains}
+use Rattle.std.specs.Prelude.{Some, slice_get}
 use Rattle.std.specs.List.{AllByRecursion, dedup}
 use Rattle.std.specs.List.Sorted.{IsPermutation, IsSortedByKey, IsStrictlySortedBy}
 use Rattle.std.specs.Cmp.{IsTotalOrder}
@@ -9,17 +9,17 @@ use Rattle.std.specs.declared.cmp.Ordering.{Ordering}
 use Rattle.std.specs.declared.cmp.Ordering.TheVariants.{Less}
 use Rattle.std.proofs.lemmas.Cmp.{eq_by_cmp_equiv}
 use Rattle.std.proofs.lemmas.List.{map-append}
-use Rattle.std.proofs.lemmas.List.Elements.{All-contains, All-push, Contains-get_or, All-weaker, Contains-append_left, Contains-push}
+use Rattle.std.proofs.lemmas.List.Elements.{All-contains, All-push, All-weaker, Contains-append_left, Contains-push}
 use Rattle.std.proofs.lemmas.List.Kept.{Any-dedup, Contains-from_dedup, IsStrictlySortedBy-dedup}
 use Rattle.std.proofs.lemmas.List.Sorted.{Contains-permutation, IsPermutation-sym}
-use Rattle.std.proofs.lemmas.Option.{get_or_from_slice_get, slice_get-get_or, slice_get_within}
+use Rattle.std.proofs.lemmas.Option.{get_or_from_slice_get, slice_get_within}
 use Rattle.staat_vec.specs.declared.vector.V3.{V3}
 use Rattle.staat_vec.specs.Lists.{Lists}
 use Rattle.staat_vec.specs.Primitives.{primitive}
 use Rattle.staat_vec.specs.Vectors.{cross, negative, origin, vector_cmp}
 use Rattle.staat_vec.proofs.Canons.{negative-negative}
 use Rattle.staat_vec.proofs.Comparisons.{from_is_eq}
-use Rattle.staat_vec.proofs.Primitives.{IsPrimitive-some, primitive-is, primitive-negative}
+use Rattle.staat_vec.proofs.Primitives.{primitive-negative}
 use Rattle.staat_vec.proofs.VectorOrder.{vector_exact, vector_total}
 use Rattle.staat_vec.proofs.VecRing.{cross_self, cross_turned}
 use Rattle.staat_model.specs.declared.assembly.Part.{Part}
@@ -28,20 +28,16 @@ use Rattle.staat_model.specs.declared.set.PartSet.{PartSet}
 use Rattle.staat_model.specs.Certify.{IsDirection}
 use Rattle.staat_model.proofs.EndLemmas.{from_vertices}
 use Rattle.staat_model.proofs.Members.{All-from_members}
-use Rattle.staat_model.specs.Planes.{vertices}
 use Rattle.staat_model.proofs.PlaneLemmas.{NoneParallel}
-use Rattle.staat_model.proofs.VertexLemmas.{in_vertices}
-use Rattle.staat_pairs.specs.Tables.{AreTablePlanes, Table}
+use Rattle.staat_pairs.specs.Tables.{AreTablePlanes}
 use Rattle.staat_certify.specs.declared.visits.Visit.{Visit}
-use Rattle.staat_certify.specs.Visits.{AreStillNumbered, AreStillVisited, AreVisitedBelow, AreVisitedOn, IsNamed, IsToldBefore, IsVisitedDirection, NamesIfTold, SortsVisits, visited_directions}
+use Rattle.staat_certify.specs.Visits.{AreStillVisited, AreVisitedBelow, AreVisitedOn, IsNamed, IsVisitedDirection, SortsVisits, visited_directions}
 use Rattle.staat_certify.proofs.ListedLemmas.{kept}
 use Rattle.staat_ring.specs.declared.entry.Entry.{Entry}
-use Rattle.staat_ring.specs.Builds.{slot_at}
-use Rattle.staat_ring.specs.HalfCircles.{HalfTurn, IsHalfCircle, IsPassed, IsPassedAt, half_vertex}
-use Rattle.staat_ring.specs.Order.{no_entry}
-use Rattle.staat_ring.specs.Rings.{crossing, facet_by}
-use Rattle.staat_ring.proofs.Steps.{flipped}
+use Rattle.staat_ring.specs.Rings.{Ring, crossing, facet_by}
+use Rattle.staat_ring.specs.WholeCircles.{IsWholeCircle, vertex_at}
 use Rattle.staat_planes.specs.PairOrder.{plane_at}
+use Rattle.staat_ring.proofs.WholeCircles.{crossing_there}
 use Rattle.staat_vec.proofs.ListLaws.{Contains-from_map, Contains-map, place_of}
 use Rattle.staat_vec.proofs.Naturals.{lt_one_more_cases}
 
@@ -61,22 +57,9 @@ module _ (old new : List Visit) (visit : Visit) (is : new ≡ old ++ visit ∷ [
   visited_here = subst (λ (ds : List V3). Contains ds visit.d) (sym more_directions) (Contains-push (visited_directions old) visit.d)
 
 -- a number of the old list names the same witness in the new one
-pub named_still : (parts : List Part) (w : PartSet) (old new : List Witness) (visited : List Visit) → AreStillNumbered old new → All (IsNamed parts w old) visited → All (IsNamed parts w new) visited
+pub named_still : (parts : List Part) (w : PartSet) (old new : List Witness) (visited : List Visit) → ((k : ℕ) (x : Witness) → slice_get old k ≡ Some x → slice_get new k ≡ Some x) → All (IsNamed parts w old) visited → All (IsNamed parts w new) visited
 named_still parts w old new visited kept before = All-weaker (IsNamed parts w old) (IsNamed parts w new)
     (λ visit names. record { witness = names.witness; witness_is = kept visit.number names.witness names.witness_is; is = names.is }) visited before
-
--- and so does a number that is told
-pub names_still : (parts : List Part) (w : PartSet) (old new : List Witness) (d : V3) (told : Option ℕ) → AreStillNumbered old new → NamesIfTold parts w old d told → NamesIfTold parts w new d told
-names_still parts w old new d None kept names = names
-names_still parts w old new d (Some i) kept names = record { witness = names.witness; witness_is = kept i names.witness names.witness_is; is = names.is }
-
-pub either_way : (P : Bool → Type 0) (o : Bool) → P false → P true → P o
-either_way P false first second = first
-either_way P true first second = second
-
-pub told_still : (parts : List Part) (t : Table) (h : HalfTurn) (old new : List Witness) (opposite : Bool) (told : Option ℕ) (k : ℕ) → AreStillNumbered old new → IsToldBefore parts t h old opposite told k → IsToldBefore parts t h new opposite told k
-told_still parts t h old new opposite told zero kept before = before
-told_still parts t h old new opposite told (suc k) kept before = names_still parts t.of old new (facet_by opposite (half_vertex t.planes h k)) told kept before
 
 -- ---- where circles have been gone round
 
@@ -95,12 +78,9 @@ crossing_back planes b c turned = go turned
 
 module _ (planes : List V3) (version : ℕ) (visited : List Visit) (n : ℕ) (before : AreVisitedBelow planes version visited n) where
   -- a vertex through which a plane before that of the circle passes
-  pub visited_earlier : (c : ℕ) (e : Entry) (opposite : Bool) → n ≡ c → c < length planes → e.plane < c → IsVisitedDirection version visited (facet_by opposite (crossing planes c e))
-  visited_earlier c e false same small lt =
+  pub visited_earlier : (c : ℕ) (e : Entry) → n ≡ c → c < length planes → e.plane < c → IsVisitedDirection version visited (crossing planes c e)
+  visited_earlier c e same small lt =
       subst (IsVisitedDirection version visited) (crossing_back planes e.plane c e.turned) (before e.plane c (not e.turned) (omega (arith, same, lt)) small (λ q. omega (arith, q, lt)))
-  visited_earlier c e true same small lt =
-      subst (IsVisitedDirection version visited) (crossing_back planes e.plane c (not e.turned) ∙ flipped e.turned (primitive (cross (plane_at planes c) (plane_at planes e.plane))))
-      (before e.plane c (not (not e.turned)) (omega (arith, same, lt)) small (λ q. omega (arith, q, lt)))
 
   -- all directions
   pub all_visited : length planes ≤ n → NoneParallel planes → (d : V3) → IsDirection version planes d → Contains (visited_directions visited) d
@@ -125,66 +105,21 @@ module _ (planes : List V3) (version : ℕ) (old new : List Visit) (n : ℕ) (st
   pub below_still : AreVisitedBelow planes version old n → AreVisitedBelow planes version new n
   below_still below k j turned lt small ne canonical = still (crossing planes k (record { plane = j; turned = turned })) (below k j turned lt small ne canonical)
 
-  pub on_still : (h : HalfTurn) → AreVisitedOn planes version old h n → AreVisitedOn planes version new h n
-  on_still h on m opposite lt canonical = still (facet_by opposite (half_vertex planes h m)) (on m opposite lt canonical)
+  pub on_more : (r : Ring) → IsVisitedDirection version new (vertex_at planes r n) → AreVisitedOn planes version old r n → AreVisitedOn planes version new r (n + 1)
+  on_more r here on m lt = ⊎_elim {C = IsVisitedDirection version new (vertex_at planes r m)}
+      (λ less canonical. still (vertex_at planes r m) (on m less canonical))
+      (λ e. subst (λ k. IsVisitedDirection version new (vertex_at planes r k)) (sym e) here)
+      (lt_one_more_cases m n lt)
 
-pub on_more : (planes : List V3) (version : ℕ) (visited : List Visit) (n : ℕ) (h : HalfTurn) → ((opposite : Bool) → IsVisitedDirection version visited (facet_by opposite (half_vertex planes h n))) → AreVisitedOn planes version visited h n → AreVisitedOn planes version visited h (n + 1)
-on_more planes version visited n h here on m opposite lt = ⊎_elim {C = IsVisitedDirection version visited (facet_by opposite (half_vertex planes h m))}
-    (on m opposite)
-    (λ e. subst (λ k. IsVisitedDirection version visited (facet_by opposite (half_vertex planes h k))) (sym e) (here opposite))
-    (lt_one_more_cases m n lt)
-
-module _ (planes : List V3) (h : HalfTurn) (is : IsHalfCircle planes h) where
-  -- the crossing with a plane is the vertex of its entry, or the opposite
-  crossing_there : (j : ℕ) (turned : Bool) (at : IsPassed h j) → (opposite : Bool) × (facet_by opposite (half_vertex planes h at.stop) ≡ crossing planes h.plane (record { plane = j; turned = turned }))
-  crossing_there j turned at =
-      let named = (is.each at.stop (record { plane = j; turned = at.turned }) at.inside at.listed).names in
-      by turned at.turned named
-    where
-      u : V3
-      u = primitive (cross (plane_at planes h.plane) (plane_at planes j))
-
-      by : (a b : Bool) → facet_by b u ≡ half_vertex planes h at.stop → (opposite : Bool) × (facet_by opposite (half_vertex planes h at.stop) ≡ facet_by a u)
-      by false false e = (false, sym e)
-      by true true e = (false, sym e)
-      by true false e = (true, ap negative (sym e))
-      by false true e = (true, ap negative (sym e) ∙ negative-negative u)
-
-  -- the way has led along the half circle
-  pub below_more : (version : ℕ) (visited : List Visit) (n : ℕ) → length h.stops ≤ n → AreVisitedBelow planes version visited h.plane → AreVisitedOn planes version visited h n → AreVisitedBelow planes version visited (h.plane + 1)
+module _ (planes : List V3) (table : AreTablePlanes planes) (r : Ring) (is : IsWholeCircle planes r) where
+  -- the circle has been gone round
+  pub below_more : (version : ℕ) (visited : List Visit) (n : ℕ) → length r.stops ≤ n → AreVisitedBelow planes version visited r.plane → AreVisitedOn planes version visited r n → AreVisitedBelow planes version visited (r.plane + 1)
   below_more version visited n le below on k j turned lt small ne = ⊎_elim {C = IsVisitedDirection version visited (crossing planes k (record { plane = j; turned = turned }))}
       (λ less. below k j turned less small ne)
       (λ e.
-      let at = is.all j small (λ q. ne (q ∙ sym e)) in
-      let w = at.inside in
-      let (opposite, there) = crossing_there j turned at in
-      subst (IsVisitedDirection version visited) (there ∙ ap (λ c. crossing planes c (record { plane = j; turned = turned })) (sym e)) (on at.stop opposite (omega (arith, w, le))))
-      (lt_one_more_cases k h.plane lt)
-
--- a vertex of half a circle, or its opposite, is a vertex of the planes
-module _ (planes : List V3) (apart : AreTablePlanes planes) (h : HalfTurn) (is : IsHalfCircle planes h) (k : ℕ) (lt : k < length h.stops) where
-  first_entry : (e : Entry) × IsPassedAt planes h k e
-  first_entry =
-      let e : Entry = get_or (slot_at h.stops k) 0 no_entry in
-      (e, is.each k e lt (Contains-get_or (slot_at h.stops k) 0 no_entry (is.some k lt)))
-
-  pub vertex_is : (opposite : Bool) → Contains (vertices planes) (facet_by opposite (half_vertex planes h k)) × (facet_by opposite (half_vertex planes h k) ≢ origin)
-  vertex_is opposite =
-      let (e, p) = first_entry in
-      let g : V3 = plane_at planes h.plane in
-      let n : V3 = plane_at planes e.plane in
-      let flat = apart.apart h.plane e.plane g n (slice_get-get_or planes h.plane origin is.small) (slice_get-get_or planes e.plane origin p.within) (λ q. p.different (sym q)) in
-      let some = IsPrimitive-some (primitive (cross g n)) (primitive-is (cross g n) flat).primitive in
-      let which = subst (λ v. (facet_by opposite v ≡ primitive (cross g n)) ⊎ (facet_by opposite v ≡ negative (primitive (cross g n)))) p.names (either opposite e.turned (primitive (cross g n))) in (
-        in_vertices planes g n (facet_by opposite (half_vertex planes h k)) (Contains-get_or planes h.plane origin is.small) (Contains-get_or planes e.plane origin p.within) flat which,
-        λ z. ⊎_elim {C = ⊥} (λ e. some (sym e ∙ z)) (λ e. some (sym (negative-negative (primitive (cross g n))) ∙ ap negative (sym e ∙ z))) which,
-      )
-    where
-      either : (a b : Bool) (u : V3) → (facet_by a (facet_by b u) ≡ u) ⊎ (facet_by a (facet_by b u) ≡ negative u)
-      either false false u = inl refl
-      either false true u = inr refl
-      either true false u = inr refl
-      either true true u = inl (negative-negative u)
+      let (m, within, there) = crossing_there planes table r is j turned small (λ q. ne (q ∙ sym e)) in
+      subst (IsVisitedDirection version visited) (there ∙ ap (λ c. crossing planes c (record { plane = j; turned = turned })) (sym e)) (on m (omega (arith, within, le))))
+      (lt_one_more_cases k r.plane lt)
 
 -- ---- in the order of the directions
 

@@ -1,8 +1,7 @@
 -- What a survey of the vertices of a table's planes has found: the directions that it has visited, and their
 -- witnesses.
-use Rattle.std.specs.Prelude.{◌≡◌, ◌≢◌, ◌+◌, ℕ, zero, suc, ◌<◌, List, All, Bool, Contains}
-use Rattle.std.specs.Prelude.{IfSome, None}
-use Rattle.std.specs.Prelude.{Option, Some, length, map, slice_get, true}
+use Rattle.std.specs.Prelude.{◌≡◌, ◌≢◌, ◌-◌, ℕ, ◌<◌, List, All, Bool, Contains, IfSome, Option}
+use Rattle.std.specs.Prelude.{Some, length, map, slice_get, true}
 use Rattle.std.specs.List.Sorted.{IsStrictlySortedBy}
 use Rattle.staat_vec.specs.declared.vector.V3.{V3}
 use Rattle.staat_vec.specs.Primitives.{IsCanon}
@@ -18,11 +17,9 @@ use Rattle.staat_certify.specs.declared.visits.Found.{Found}
 use Rattle.staat_certify.specs.declared.visits.Visit.{Visit}
 use Rattle.staat_certify.specs.declared.witnesses.GraphTrees.{GraphTrees}
 use Rattle.staat_certify.specs.WitnessListings.{AreKeys}
-use Rattle.staat_ring.specs.HalfCircles.{HalfTurn, half_vertex}
-use Rattle.staat_ring.specs.Rings.{crossing, facet_by}
-use Rattle.staat_passage.specs.declared.passage.Passage.{Passage}
-use Rattle.staat_passage.specs.Passages.{IsUnderway}
-use Rattle.staat_passage.specs.Stretches.{AreStretches}
+use Rattle.staat_ring.specs.Rings.{Ring, crossing}
+use Rattle.staat_ring.specs.CountedSigns.{Signed}
+use Rattle.staat_ring.specs.WholeCircles.{AreSignsAt, vertex_at}
 
 -- the parts, some of which are stuck, and the table of these
 pub record IsSurvey (parts : List Part) (t : Table) : Type 0 where
@@ -47,16 +44,12 @@ pub record HasFound (parts : List Part) (t : Table) (version : ℕ) (found : Fou
   pub each : All (λ visit. IsDirection version t.planes visit.d) found.visited.items
   pub named : All (IsNamed parts t.of found.witnesses.items) found.visited.items
 
--- what stands in the list at a number still stands there
-abbrev pub AreStillNumbered : List Witness → List Witness → Type 0
-AreStillNumbered old new = (k : ℕ) (x : Witness) → slice_get old k ≡ Some x → slice_get new k ≡ Some x
-
 -- the number names the witness at d; the old list of witnesses stands at the front of the new one, whose keys these
 -- are
 pub record IsNumberHere (parts : List Part) (w : PartSet) (d : V3) (keys : List (List ℕ)) (old new : List Witness)
     (p : ℕ) : Type 0 where
   pub keys_are : AreKeys keys new
-  pub kept : AreStillNumbered old new
+  pub kept : (k : ℕ) (x : Witness) → slice_get old k ≡ Some x → slice_get new k ≡ Some x
   pub names : NamesWitness parts w new (record { d = d; witness = p })
 
 -- the vertex has been visited, if it is one of the directions
@@ -72,29 +65,23 @@ abbrev pub NamesIfTold : List Part → PartSet → List Witness → V3 → Optio
 NamesIfTold parts w witnesses d told =
     IfSome told (λ i. NamesWitness parts w witnesses (record { d = d; witness = i }))
 
--- the number that is told, if any is, names the witness at the vertex before the one at k, or at its opposite
-abbrev pub IsToldBefore : List Part → Table → HalfTurn → List Witness → Bool → Option ℕ → ℕ → Type 0
-IsToldBefore parts t h witnesses opposite told zero = told ≡ None
-IsToldBefore parts t h witnesses opposite told (suc k) =
-    NamesIfTold parts t.of witnesses (facet_by opposite (half_vertex t.planes h k)) told
-
--- the way stands on the half circle before its vertex k
-pub record IsOnWay (t : Table) (h : HalfTurn) (p : Passage) (k : ℕ) : Type 0 where
-  pub table : p.table.now ≡ t
-  pub stands : IsUnderway p
-  pub stretches : AreStretches t h p.stretches.items
-  pub room : length h.stops + 1 < length p.changes.items
-  pub time : p.time ≡ k
+-- the signs are those at the vertex of the circle before the one at k, and the number that is told, if any is, names
+-- the witness there
+pub record IsVisitedTo (parts : List Part) (t : Table) (r : Ring) (s : Signed) (witnesses : List Witness)
+    (told : Option ℕ) (k : ℕ) : Type 0 where
+  pub later : 0 < k
+  pub signs : AreSignsAt t.planes s (vertex_at t.planes r (k - 1))
+  pub names : NamesIfTold parts t.of witnesses (vertex_at t.planes r (k - 1)) told
 
 -- the crossings of the planes below n with all others have been visited
 abbrev pub AreVisitedBelow : List V3 → ℕ → List Visit → ℕ → Type 0
 AreVisitedBelow planes version visited n = (k j : ℕ) (turned : Bool) → k < n → j < length planes → j ≢ k
     → IsVisitedDirection version visited (crossing planes k (record { plane = j; turned = turned }))
 
--- the vertices of half a circle at the places below n have been visited, and their opposites
-abbrev pub AreVisitedOn : List V3 → ℕ → List Visit → HalfTurn → ℕ → Type 0
-AreVisitedOn planes version visited h n = (m : ℕ) (opposite : Bool) → m < n
-    → IsVisitedDirection version visited (facet_by opposite (half_vertex planes h m))
+-- the vertices at the places below n of the circle have been visited
+abbrev pub AreVisitedOn : List V3 → ℕ → List Visit → Ring → ℕ → Type 0
+AreVisitedOn planes version visited r n = (m : ℕ) → m < n
+    → IsVisitedDirection version visited (vertex_at planes r m)
 
 -- the new visits are some of the old ones, of each direction one, in the order of the directions
 pub record SortsVisits (old new : List Visit) : Type 0 where

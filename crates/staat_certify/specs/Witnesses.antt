@@ -1,5 +1,5 @@
 -- What is known where one stands at a vertex, and what the search for a witness finds there.
-use Rattle.std.specs.Prelude.{◌≡◌, ◌≤◌, ℕ, Bool, List, All, map, take}
+use Rattle.std.specs.Prelude.{◌≡◌, ◌≤◌, ℕ, List, All, map, take}
 use Rattle.staat_vec.specs.declared.vector.V3.{V3}
 use Rattle.staat_model.specs.declared.assembly.Part.{Part}
 use Rattle.staat_model.specs.declared.certificate.Arc.{Arc}
@@ -11,16 +11,15 @@ use Rattle.staat_graph.specs.Blocking.{ShowsBlocking}
 use Rattle.staat_graph.specs.Graphs.{AreTrees, HasArc}
 use Rattle.staat_pairs.specs.Tables.{Table, WasMadeFrom}
 use Rattle.staat_planes.specs.Tables.{IsAhead}
-use Rattle.staat_passage.specs.declared.passage.Passage.{Passage}
-use Rattle.staat_passage.specs.Passages.{Sees, IsUnderway}
+use Rattle.staat_ring.specs.Belonging.{BelongTo}
+use Rattle.staat_ring.specs.CountedSigns.{Signed}
+use Rattle.staat_ring.specs.WholeCircles.{AreSignsAt}
 
--- the table was made from the parts, and at d, which is the vertex at which one stands or its opposite, one sees which
--- pieces meet
-pub record StandsAmong (parts : List Part) (t : Table) (p : Passage) (opposite : Bool) (d : V3) : Type 0 where
+-- the table was made from the parts and the signs from the table, and these are the signs of all its planes at d
+pub record StandsAmong (parts : List Part) (t : Table) (s : Signed) (d : V3) : Type 0 where
   pub from : WasMadeFrom parts t
-  pub table : p.table.now ≡ t
-  pub stands : IsUnderway p
-  pub sees : Sees p opposite d
+  pub made : BelongTo t s
+  pub signs : AreSignsAt t.planes s d
 
 -- d leads ahead of the facets of some piece of the first part against some piece of the second
 abbrev pub AreEndsAhead : Table → V3 → ℕ × ℕ → Type 0

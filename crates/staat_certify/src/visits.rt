@@ -21,18 +21,15 @@ ghost use Rattle.staat_vec.specs.Lists.{Lists};
 ghost use Rattle.staat_vec.specs.Primitives.{IsCanon};
 ghost use Rattle.staat_vec.specs.Vectors.{origin, vector_cmp};
 ghost use Rattle.staat_model.specs.Certify.{IsDirection, NamesWitness};
-ghost use Rattle.staat_model.specs.Planes.{vertices};
 ghost use Rattle.staat_model.specs.Plans.{IsStuck};
 ghost use Rattle.staat_pairs.specs.Tables.{WasMadeFrom};
-ghost use Rattle.staat_ring.specs.HalfCircles.{IsHalfCircle, half_vertex};
-ghost use Rattle.staat_ring.specs.Rings.{facet_by};
-ghost use Rattle.staat_passage.specs.Passages.{IsMade};
+ghost use Rattle.staat_ring.specs.Belonging.{BelongTo};
+ghost use Rattle.staat_ring.specs.WholeCircles.{AreSignsAt, HaveSameFull, IsWholeCircle, vertex_at};
 ghost use Rattle.staat_certify.specs.WitnessListings.{EachStandsOnce, AreKeys};
 ghost use Rattle.staat_certify.specs.Visits.{AreStillVisited, AreVisitedBelow, HasFound, IsNamed, IsNumberHere};
 ghost use Rattle.staat_certify.specs.Visits.{IsSurvey};
 ghost use Rattle.staat_certify.specs.Witnesses.{AreTreesAlong, StandsAmong};
-ghost use Rattle.staat_certify.specs.Visits.{AreStillNumbered, IsOnWay, NamesIfTold, IsVisitedDirection};
-ghost use Rattle.staat_certify.specs.Visits.{KeepsTrees, SortsVisits};
+ghost use Rattle.staat_certify.specs.Visits.{NamesIfTold, IsVisitedDirection, IsVisitedTo, KeepsTrees, SortsVisits};
 ghost use Rattle.staat_certify.specs.Visits.{visited_directions};
 
 use crate::listing::number_witness;
@@ -40,9 +37,8 @@ use crate::vantage::Vantage;
 use crate::witnesses::{GraphTrees, is_witness, renew_trees, witness_here};
 use indexmap::IndexSet;
 use staat_model::{Sound, Witness};
-use staat_passage::Passage;
 use staat_planes::PlaneTable;
-use staat_ring::{HalfCircle, Vertex};
+use staat_ring::{Circle, CountedSigns, Vertex};
 use staat_vec::{OutOfMemory, V3};
 use std::alloc::Global;
 
@@ -66,7 +62,7 @@ pub struct Found {
 
 // whether the witness at the vertex is the one that was numbered last
 fn is_latest(at: &Vantage, found: &Found) -> bool
-    requires at { StandsAmong at.now.sound.now at.now.table.now at.now.passage.now at.now.opposite at.now.d }
+    requires at { StandsAmong at.now.sound.now at.now.table.now at.now.signs.now at.now.d }
     requires along { AreTreesAlong at.now.sound.now at.now.table.now at.now.d found.now.kept.trees }
     ensures { IsTrue result → NamesWitness at.now.sound.now at.now.table.now.of found.now.witnesses.items
         (record { d = at.now.d; witness = found.now.latest }) }
@@ -85,7 +81,7 @@ fn number_here(
     told: Option<usize>,
     found: &mut Found,
 ) -> Result<usize, OutOfMemory>
-    requires at { StandsAmong at.now.sound.now at.now.table.now at.now.passage.now at.now.opposite at.now.d }
+    requires at { StandsAmong at.now.sound.now at.now.table.now at.now.signs.now at.now.d }
     requires stuck { IsStuck at.now.sound.now at.now.table.now.of }
     requires some { at.now.d ≢ origin }
     requires kept { KeepsTrees at.now.table.now.of found.old.kept }
@@ -127,18 +123,6 @@ struct Survey<'a> {
 }
 
 impl<'a> Survey<'a> {
-    // the vertex k of half a circle, or its opposite
-    fn vertex(&self, half: &HalfCircle, k: usize, opposite: bool) -> Vertex
-        requires half { IsHalfCircle self.now.table.now.planes half.now }
-        requires place { k < length half.now.stops }
-        ensures { result ≡ facet_by opposite (half_vertex self.now.table.now.planes half.now k) }
-    {
-        if opposite {
-            return half.vertex(self.table, k).opposite();
-        }
-        half.vertex(self.table, k)
-    }
-
     // whether the vertex is one of the directions of the version, which has one of two opposite ones or both
     fn lists(&self, vertex: &Vertex) -> bool
         ensures { IsTrue result ↔ (self.now.version ≡ 2 → IsCanon vertex.now) }
@@ -146,115 +130,140 @@ impl<'a> Survey<'a> {
         self.version != 2 || vertex.is_canon()
     }
 
-    // keeps the vertex with its witness, whose number is told, if any is; the answer is its number
-    fn keep(
+    // Keeps the vertex k of a circle with its witness, unless it has been visited on the circle of a lesser plane. The
+    // number that is told is that of its witness, if any is, and so is the answer.
+    fn visit(
         &self,
-        at: &Vantage,
+        circle: &Circle,
+        k: usize,
+        signs: &CountedSigns,
         told: Option<usize>,
         found: &mut Found,
     ) -> Result<Option<usize>, OutOfMemory>
-        requires survey { IsSurvey at.now.sound.now at.now.table.now }
-        requires stands { StandsAmong at.now.sound.now at.now.table.now at.now.passage.now at.now.opposite at.now.d }
-        requires vertex { Contains (vertices at.now.table.now.planes) at.now.d }
-        requires some { at.now.d ≢ origin }
-        requires listed { self.now.version ≡ 2 → IsCanon at.now.d }
-        requires told { NamesIfTold at.now.sound.now at.now.table.now.of found.old.witnesses.items at.now.d told }
-        requires found { HasFound at.now.sound.now at.now.table.now self.now.version found.old }
-        ensures found { OnOk result (HasFound at.now.sound.now at.now.table.now self.now.version found.new) }
-        ensures told { IfOk result (NamesIfTold at.now.sound.now at.now.table.now.of found.new.witnesses.items
-            at.now.d) }
-        ensures here { OnOk result (IsVisitedDirection self.now.version found.new.visited.items at.now.d) }
-        ensures visited { OnOk result (AreStillVisited found.old.visited.items found.new.visited.items) }
-        ensures witnesses { OnOk result (AreStillNumbered found.old.witnesses.items found.new.witnesses.items) }
+        requires survey { IsSurvey self.now.sound.now self.now.table.now }
+        requires made { BelongTo self.now.table.now signs.now }
+        requires circle { IsWholeCircle self.now.table.now.planes circle.now }
+        requires place { k < length circle.now.stops }
+        requires listed { self.now.version ≡ 2 → IsCanon (vertex_at self.now.table.now.planes circle.now k) }
+        requires signs { AreSignsAt self.now.table.now.planes signs.now
+            (vertex_at self.now.table.now.planes circle.now k) }
+        requires told { NamesIfTold self.now.sound.now self.now.table.now.of found.old.witnesses.items
+            (vertex_at self.now.table.now.planes circle.now k) told }
+        requires found { HasFound self.now.sound.now self.now.table.now self.now.version found.old }
+        requires below { AreVisitedBelow self.now.table.now.planes self.now.version found.old.visited.items
+            circle.now.plane }
+        ensures found { OnOk result (HasFound self.now.sound.now self.now.table.now self.now.version found.new) }
+        ensures told { IfOk result (NamesIfTold self.now.sound.now self.now.table.now.of found.new.witnesses.items
+            (vertex_at self.now.table.now.planes circle.now k)) }
+        ensures here { OnOk result (IsVisitedDirection self.now.version found.new.visited.items
+            (vertex_at self.now.table.now.planes circle.now k)) }
+        ensures kept { OnOk result (AreStillVisited found.old.visited.items found.new.visited.items) }
     {
-        let number = number_here(self.alloc, at, told, found)?;
+        let _set = self.table.set();
+        if circle.first_entry(self.table, k).plane < circle.plane() {
+            return Ok(told);
+        }
+        let vertex = circle.vertex(self.table, k);
+        let at = Vantage {
+            sound: self.sound,
+            table: self.table,
+            signs,
+            d: vertex.direction(),
+        };
+        let number = number_here(self.alloc, &at, told, found)?;
         found.visited.push(Visit { d: at.d, number })?;
         Ok(Some(number))
     }
 
-    // Visits the vertex k of half a circle, or its opposite, if it is a direction of the version, unless it has been
-    // visited on the circle of a lesser plane.
-    fn visit(
+    // Gives the planes their signs at the vertex k of a circle, coming from the one before it if `near` says so. Tells
+    // whether other pieces may meet than there.
+    fn reach(&self, circle: &Circle, k: usize, near: bool, signs: &mut CountedSigns) -> bool
+        requires made { BelongTo self.now.table.now signs.old }
+        requires circle { IsWholeCircle self.now.table.now.planes circle.now }
+        requires place { k < length circle.now.stops }
+        requires near { IsTrue near → (0 < k) × AreSignsAt self.now.table.now.planes signs.old
+            (vertex_at self.now.table.now.planes circle.now (k - 1)) }
+        ensures made { BelongTo self.now.table.now signs.new }
+        ensures signs { AreSignsAt self.now.table.now.planes signs.new
+            (vertex_at self.now.table.now.planes circle.now k) }
+        ensures same { result ≡ false → IsTrue near × HaveSameFull signs.old signs.new }
+    {
+        if near {
+            return signs.cross(self.table, circle, k);
+        }
+        signs.enter(self.table, circle, k);
+        true
+    }
+
+    // Goes to the vertex k of a circle, from the one before it if `near` says so, and visits it. The number that is
+    // told is that of the witness at the one before, and the answer that of the one here.
+    fn go_to(
         &self,
-        half: &HalfCircle,
+        circle: &Circle,
         k: usize,
-        passage: &Passage,
-        opposite: bool,
+        near: bool,
+        signs: &mut CountedSigns,
         told: Option<usize>,
         found: &mut Found,
     ) -> Result<Option<usize>, OutOfMemory>
         requires survey { IsSurvey self.now.sound.now self.now.table.now }
-        requires half { IsHalfCircle self.now.table.now.planes half.now }
-        requires place { k < length half.now.stops }
-        requires way { IsOnWay self.now.table.now half.now passage.now (k + 1) }
-        requires told { NamesIfTold self.now.sound.now self.now.table.now.of found.old.witnesses.items
-            (facet_by opposite (half_vertex self.now.table.now.planes half.now k)) told }
+        requires made { BelongTo self.now.table.now signs.old }
+        requires circle { IsWholeCircle self.now.table.now.planes circle.now }
+        requires place { k < length circle.now.stops }
+        requires listed { self.now.version ≡ 2 → IsCanon (vertex_at self.now.table.now.planes circle.now k) }
+        requires near { IsTrue near → IsVisitedTo self.now.sound.now self.now.table.now circle.now signs.old
+            found.old.witnesses.items told k }
         requires found { HasFound self.now.sound.now self.now.table.now self.now.version found.old }
         requires below { AreVisitedBelow self.now.table.now.planes self.now.version found.old.visited.items
-            half.now.plane }
+            circle.now.plane }
+        ensures made { BelongTo self.now.table.now signs.new }
+        ensures to { IfOk result (λ number. IsVisitedTo self.now.sound.now self.now.table.now circle.now signs.new
+            found.new.witnesses.items number (k + 1)) }
         ensures found { OnOk result (HasFound self.now.sound.now self.now.table.now self.now.version found.new) }
-        ensures told { IfOk result (NamesIfTold self.now.sound.now self.now.table.now.of found.new.witnesses.items
-            (facet_by opposite (half_vertex self.now.table.now.planes half.now k))) }
         ensures here { OnOk result (IsVisitedDirection self.now.version found.new.visited.items
-            (facet_by opposite (half_vertex self.now.table.now.planes half.now k))) }
-        ensures visited { OnOk result (AreStillVisited found.old.visited.items found.new.visited.items) }
-        ensures witnesses { OnOk result (AreStillNumbered found.old.witnesses.items found.new.witnesses.items) }
+            (vertex_at self.now.table.now.planes circle.now k)) }
+        ensures kept { OnOk result (AreStillVisited found.old.visited.items found.new.visited.items) }
     {
         let _set = self.table.set();
-        if half.first_entry(self.table, k).plane < half.plane() {
-            return Ok(told);
-        }
-        let vertex = self.vertex(half, k, opposite);
-        if !self.lists(&vertex) {
-            return Ok(None);
-        }
-        let at = Vantage {
-            sound: self.sound,
-            table: self.table,
-            passage,
-            opposite,
-            d: vertex.direction(),
-        };
-        self.keep(&at, told, found)
+        let changes = self.reach(circle, k, near, signs);
+        self.visit(circle, k, signs, still_told(changes, told), found)
     }
 
-    // visits the vertices of half a circle and their opposites that are directions of the version
-    fn go_along(
+    // visits the vertices of a circle that are directions of the version
+    fn go_round(
         &self,
-        half: &HalfCircle,
-        passage: &mut Passage,
+        circle: &Circle,
+        signs: &mut CountedSigns,
         found: &mut Found,
     ) -> Result<(), OutOfMemory>
         requires survey { IsSurvey self.now.sound.now self.now.table.now }
-        requires half { IsHalfCircle self.now.table.now.planes half.now }
-        requires table { passage.old.table.now ≡ self.now.table.now }
-        requires made { IsMade passage.old }
+        requires made { BelongTo self.now.table.now signs.old }
+        requires circle { IsWholeCircle self.now.table.now.planes circle.now }
         requires found { HasFound self.now.sound.now self.now.table.now self.now.version found.old }
         requires below { AreVisitedBelow self.now.table.now.planes self.now.version found.old.visited.items
-            half.now.plane }
-        ensures table { OnOk result (passage.new.table.now ≡ self.now.table.now) }
-        ensures made { OnOk result (IsMade passage.new) }
+            circle.now.plane }
+        ensures made { OnOk result (BelongTo self.now.table.now signs.new) }
         ensures found { OnOk result (HasFound self.now.sound.now self.now.table.now self.now.version found.new) }
         ensures below { OnOk result (AreVisitedBelow self.now.table.now.planes self.now.version
-            found.new.visited.items (half.now.plane + 1)) }
+            found.new.visited.items (circle.now.plane + 1)) }
     {
         let _set = self.table.set();
-        passage.enter(self.alloc, half)?;
-        let mut ahead = None;
-        let mut back = None;
-        for k in 0..half.len() {
-            let changes = passage.advance();
-            ahead = self.visit(half, k, passage, false, still_told(changes, ahead), found)?;
-            back = self.visit(half, k, passage, true, still_told(changes, back), found)?;
+        let mut near = false;
+        let mut told = None;
+        for k in 0..circle.len() {
+            let listed = self.lists(&circle.vertex(self.table, k));
+            if listed {
+                told = self.go_to(circle, k, near, signs, told, found)?;
+            }
+            near = listed;
         }
         Ok(())
     }
 
     // visits the vertices of all circles
-    fn go_along_all(&self, passage: &mut Passage, found: &mut Found) -> Result<(), OutOfMemory>
+    fn go_round_all(&self, signs: &mut CountedSigns, found: &mut Found) -> Result<(), OutOfMemory>
         requires survey { IsSurvey self.now.sound.now self.now.table.now }
-        requires table { passage.old.table.now ≡ self.now.table.now }
-        requires made { IsMade passage.old }
+        requires made { BelongTo self.now.table.now signs.old }
         requires found { HasFound self.now.sound.now self.now.table.now self.now.version found.old }
         requires below { AreVisitedBelow self.now.table.now.planes self.now.version found.old.visited.items 0 }
         ensures found { OnOk result (HasFound self.now.sound.now self.now.table.now self.now.version found.new) }
@@ -262,8 +271,8 @@ impl<'a> Survey<'a> {
             found.new.visited.items (length self.now.table.now.planes)) }
     {
         for c in 0..self.table.len() {
-            let half = HalfCircle::of(self.alloc, self.table, c)?;
-            self.go_along(&half, passage, found)?;
+            let circle = Circle::of(self.alloc, self.table, c)?;
+            self.go_round(&circle, signs, found)?;
         }
         Ok(())
     }
@@ -279,8 +288,8 @@ fn sort_visits(visited: &mut Vec<Visit>)
 
 /// Visits all directions of the version, with their witnesses. The visits come in the order of the directions.
 ///
-/// Each vertex is visited on the circle of the least plane through it, and its opposite with it. A witness is looked
-/// for only where other pieces may meet than at the vertex before; no facet is multiplied with a direction.
+/// Each vertex is visited on the circle of the least plane through it. Its witness is looked for only where other
+/// pieces may meet than at the vertex before; no blocking graph is counted from the facets.
 pub fn visit_all(
     alloc: Global,
     sound: &Sound,
@@ -296,7 +305,7 @@ pub fn visit_all(
         (visited_directions found.visited.items)) }
 {
     let _set = table.set();
-    let mut passage = Passage::new(alloc, table)?;
+    let mut signs = CountedSigns::of(alloc, table)?;
     let survey = Survey {
         alloc,
         sound,
@@ -310,7 +319,7 @@ pub fn visit_all(
         kept: GraphTrees::none(),
         latest: 0,
     };
-    survey.go_along_all(&mut passage, &mut found)?;
+    survey.go_round_all(&mut signs, &mut found)?;
     sort_visits(&mut found.visited);
     Ok(found)
 }

@@ -40,7 +40,7 @@ impl GraphTrees {
 
 /// Makes the trees those of the graph at the vertex, anew only where that is another graph.
 pub(crate) fn renew_trees(kept: &mut GraphTrees, at: &Vantage)
-    requires at { StandsAmong at.now.sound.now at.now.table.now at.now.passage.now at.now.opposite at.now.d }
+    requires at { StandsAmong at.now.sound.now at.now.table.now at.now.signs.now at.now.d }
     requires stuck { IsStuck at.now.sound.now at.now.table.now.of }
     requires some { at.now.d ≢ origin }
     requires kept { KeepsTrees at.now.table.now.of kept.old }
@@ -68,7 +68,7 @@ pub(crate) fn renew_trees(kept: &mut GraphTrees, at: &Vantage)
 
 // for each pair of parts the first pieces with which the one blocks the other
 fn arcs_between(alloc: Global, at: &Vantage, pairs: &[(u32, u32)]) -> Result<Vec<Arc>, OutOfMemory>
-    requires at { StandsAmong at.now.sound.now at.now.table.now at.now.passage.now at.now.opposite at.now.d }
+    requires at { StandsAmong at.now.sound.now at.now.table.now at.now.signs.now at.now.d }
     requires ahead { All (AreEndsAhead at.now.table.now at.now.d) pairs.now }
     ensures { IfOk result (λ arcs. AreEndsAndLeast at.now.sound.now at.now.d pairs.now arcs.items) }
 {
@@ -81,7 +81,7 @@ fn arcs_between(alloc: Global, at: &Vantage, pairs: &[(u32, u32)]) -> Result<Vec
 
 // whether the arcs are those of these pairs of parts
 fn are_between(at: &Vantage, pairs: &[(u32, u32)], arcs: &[Arc]) -> bool
-    requires at { StandsAmong at.now.sound.now at.now.table.now at.now.passage.now at.now.opposite at.now.d }
+    requires at { StandsAmong at.now.sound.now at.now.table.now at.now.signs.now at.now.d }
     requires ahead { All (AreEndsAhead at.now.table.now at.now.d) pairs.now }
     ensures { IsTrue result → AreEndsAndLeast at.now.sound.now at.now.d pairs.now arcs.now }
 {
@@ -99,7 +99,7 @@ fn are_between(at: &Vantage, pairs: &[(u32, u32)], arcs: &[Arc]) -> bool
 
 /// Whether the witness is the one at the vertex, which has these trees.
 pub(crate) fn is_witness(at: &Vantage, trees: &Trees, witness: &Witness) -> bool
-    requires at { StandsAmong at.now.sound.now at.now.table.now at.now.passage.now at.now.opposite at.now.d }
+    requires at { StandsAmong at.now.sound.now at.now.table.now at.now.signs.now at.now.d }
     requires along { AreTreesAlong at.now.sound.now at.now.table.now at.now.d trees.now }
     ensures { IsTrue result → IsWitnessAt at.now.sound.now at.now.table.now.of at.now.d witness.now }
 {
@@ -114,7 +114,7 @@ pub(crate) fn witness_here(
     at: &Vantage,
     trees: &Trees,
 ) -> Result<Witness, OutOfMemory>
-    requires at { StandsAmong at.now.sound.now at.now.table.now at.now.passage.now at.now.opposite at.now.d }
+    requires at { StandsAmong at.now.sound.now at.now.table.now at.now.signs.now at.now.d }
     requires along { AreTreesAlong at.now.sound.now at.now.table.now at.now.d trees.now }
     ensures { IfOk result (IsWitnessAt at.now.sound.now at.now.table.now.of at.now.d) }
 {

@@ -1,10 +1,9 @@
 -- Entries in order, divided where their crossings differ, and their opposites are the circle.
-use Rattle.std.proofs.Common.{◌≡◌, ◌≢◌, ◌⊎◌, ◌↔◌, inl, inr, ⊎_elim, ℕ, zero, suc, ◌+◌, ◌-◌, ◌<◌, ◌≤◌, Bool, true, false, not, arith, ap, sym, subst, ◌∙◌, refl, List, [], ◌∷◌, ◌++◌, length, get_or, All, Contains, ℤ, pos, ◌<ℤ◌}
+use Rattle.std.proofs.Common.{◌≡◌, ◌≢◌, ◌⊎◌, ◌↔◌, inl, inr, ⊎_elim, ℕ, zero, suc, ◌+◌, ◌-◌, ◌<◌, ◌≤◌, Bool, true, false, not, arith, ap, sym, subst, ◌∙◌, refl, List, [], ◌∷◌, ◌++◌, length, get_or, All, Contains, pos, ◌<ℤ◌}
 use Rattle.std.specs.Prelude.{Some, map, slice_get}
 use Rattle.std.specs.List.Sorted.{IsStrictlySortedBy}
 use Rattle.std.specs.Ordering.{nat_cmp}
 use Rattle.std.specs.declared.cmp.Ordering.TheVariants.{Less}
-use Rattle.std.proofs.lemmas.Int.{ints}
 use Rattle.std.proofs.lemmas.List.{get_or-map, get_or_append_left, get_or_default, length-map, map-append}
 use Rattle.std.proofs.lemmas.List.Edits.{get_or-between, length-between}
 use Rattle.std.proofs.lemmas.List.Elements.{All-map, Contains-append_cases, Contains-append_left, Contains-get_or, Contains-push, Contains-push_cases}
@@ -13,14 +12,13 @@ use Rattle.std.proofs.lemmas.Option.{get_or_from_slice_get, slice_get-get_or, sl
 use Rattle.staat_vec.specs.declared.vector.V3.{V3}
 use Rattle.staat_vec.specs.Lists.{Lists}
 use Rattle.staat_vec.specs.Primitives.{primitive}
-use Rattle.staat_vec.specs.Vectors.{cross, det, dot, negative, origin, sign}
+use Rattle.staat_vec.specs.Vectors.{cross, det, dot, negative, origin}
 use Rattle.staat_vec.proofs.Canons.{negative-negative}
 use Rattle.staat_vec.proofs.Comparisons.{head_less, nat_cmp-less, sorted_push, tail_sorted}
 use Rattle.staat_vec.proofs.Integers.{zero_from_opposite, zero_not_positive, zero_or}
 use Rattle.staat_vec.proofs.ListLaws.{Contains-from_map, Contains-map, all_of, map_twice}
 use Rattle.staat_vec.proofs.Naturals.{lt_or_le, same_or, trichotomy}
 use Rattle.staat_vec.proofs.Primitives.{IsPrimitive-some}
-use Rattle.staat_vec.proofs.Signs.{negative_sign, positive_sign, sign_negative, sign_positive, zero_sign}
 use Rattle.staat_vec.proofs.Unique.{Contains-front, Contains-later}
 use Rattle.staat_vec.proofs.VecRing.{dot_cross_right, dot_negative}
 use Rattle.staat_vec.proofs.VectorLaws.{det_same}
@@ -32,16 +30,14 @@ use Rattle.staat_planes.specs.PairOrder.{plane_at}
 use Rattle.staat_planes.proofs.UsedPlanes.{places_rise}
 use Rattle.staat_ring.specs.declared.entry.Entry.{Entry}
 use Rattle.staat_ring.specs.Builds.{AreStopsFrom, AreUpper, IsUpperEntry, all_around, opposite, ray, ring_by, slot_at, stops_from}
-use Rattle.staat_ring.specs.Order.{AreStopEnds, IsBreak, IsOrderOf, entry_at, facet_of, no_entry, order_det}
-use Rattle.staat_ring.specs.HalfCircles.{HalfTurn, IsHalfCircle, IsPassedAt, half_vertex}
+use Rattle.staat_ring.specs.Order.{AreStopEnds, IsBreak, IsOrderOf, entry_at, no_entry, order_det}
 use Rattle.staat_ring.specs.Rings.{IsRingOf, RingStop, crossing, facet_by, stop_of, vertex_of}
 use Rattle.staat_ring.proofs.CircleFromHalf.{IsHalf, circle_from_half, whole_circle}
 use Rattle.staat_ring.proofs.Divided.{length-stops, stop_at}
-use Rattle.staat_ring.proofs.HalfTurn.{IsOnHalf, Precedes, ahead_trans, apart, axis_apart, axis_differs, axis_first, flat_facet, not_before, on_half, one_vertex, precedes, ray_negative, some_normal, on_all_axes, transitive, unit, vertex}
+use Rattle.staat_ring.proofs.HalfTurn.{IsOnHalf, Precedes, ahead_trans, axis_apart, axis_differs, axis_first, flat_facet, not_before, on_half, one_vertex, precedes, ray_negative, some_normal, on_all_axes, transitive, unit, vertex}
 use Rattle.staat_ring.proofs.RingLemmas.{map_same}
-use Rattle.staat_ring.proofs.Sides.{side_is}
-use Rattle.staat_ring.proofs.Steps.{flipped, negative_on, not_both, primitive_on}
-use Rattle.staat_ring.proofs.TurnOrder.{turn_back, turn_same}
+use Rattle.staat_ring.proofs.Steps.{negative_on, not_both, primitive_on}
+use Rattle.staat_ring.proofs.TurnOrder.{turn_same}
 use Rattle.staat_ring.proofs.Turns.{turn}
 
 -- ---- stops, one by one
@@ -68,6 +64,10 @@ module _ (planes : List V3) (linked : List ℕ) (c : ℕ) where
       all = λ k p. is.through.all k (record { h = p.h; linked_is = p.linked_is; different = p.different; on = zero_from_opposite (dot p.h u) (sym (dot_negative p.h u) ∙ p.on) });
     });
   }
+    where
+      flipped : (t : Bool) (v : V3) → facet_by (not t) v ≡ negative (facet_by t v)
+      flipped false v = refl
+      flipped true v = sym (negative-negative v)
 
 -- ---- numbers in order
 
@@ -330,60 +330,6 @@ module _ (planes : List V3) (rules : AreTablePlanes planes) (c : ℕ) (g axis : 
       let z : f.stop ≡ 0 = (let w = f.inside in omega (arith, w, le)) in
       ap (λ j. dot (plane_at planes j) (v 0)) (sym f.plane) ∙ (ap (dot (plane_at planes f.entry.plane)) (sym (f.is.crossed ∙ ap (λ i. v (first i)) z)) ∙ on_plane f.entry f.is.is_upper))
       (same_or k c))))) (lt_or_le 1 (length ends))
-
-  -- ---- the half circle
-
-  abbrev half_turn : HalfTurn
-  half_turn = record { plane = c; stops = slots }
-
-  -- the vertex of a stop is that of its first entry
-  vertex_here : (k : ℕ) → k < length ends → half_vertex planes half_turn k ≡ v (first k)
-  vertex_here k lk = by (slot k) (let n = slot_long k lk in let h = high k lk in omega (arith, n, h)) (λ e ce. named e ∙ (of_stop k e lk ce).crossed)
-    where
-      by : (xs : List Entry) → 0 < length xs → ((e : Entry) → Contains xs e → crossing planes c e ≡ v (first k)) → vertex_of planes c xs ≡ v (first k)
-      by [] lt names = absurd (omega (arith, lt))
-      by (x ∷ xs) lt names = names x (Contains-front x xs)
-
-  -- on which side of the plane of an entry a vertex lies, by the turn from it to that of the entry
-  side : (k p : ℕ) (e : Entry) → k < length ends → p < length ends → Contains (slot p) e → sign (dot (facet_of planes e) (half_vertex planes half_turn k)) ≡ sign (turn g (v (first k)) (v (first p)))
-  side k p e lk lp ce =
-      let o = of_stop p e lp ce in
-      ap (λ u. sign (dot (facet_of planes e) u)) (vertex_here k lk)
-      ∙ sym (side_is g (facet_of planes e) (v (first k)) gg (on (first k) (first_in k lk)).point.on (apart planes rules c g axis gi ai e o.is_upper))
-      ∙ ap (λ u. sign (turn g (v (first k)) u)) o.crossed
-
-  passed : (p : ℕ) (e : Entry) → p < length ends → Contains (slot p) e → IsPassedAt planes half_turn p e
-  passed p e lp ce =
-      let o = of_stop p e lp ce in
-      let x : ℕ → ℤ = λ k. dot (facet_of planes e) (half_vertex planes half_turn k) in
-      record {
-        within = o.is_upper.within;
-        different = o.is_upper.different;
-        names = named e ∙ o.crossed ∙ sym (vertex_here p lp);
-        before = λ k lt. sign_positive (x k) (side k p e (omega (arith, lt, lp)) lp ce ∙ positive_sign (turn g (v (first k)) (v (first p))) (stop_rises k p lt lp));
-        here = zero_sign (x p) (side p p e lp lp ce ∙ ap sign (turn_same g (v (first p))));
-        after = λ k lt lk.
-            let inside : k < length ends = omega (arith, lk, length-stops 0 ends es) in
-            let b = turn_back g (v (first k)) (v (first p)) in
-            let r = stop_rises p k lt inside in
-            sign_negative (x k) (side k p e inside lp ce ∙ negative_sign (turn g (v (first k)) (v (first p))) (omega (arith, ints, b, r)));
-      }
-
-  pub half_circle_is : IsHalfCircle planes half_turn
-  half_circle_is = record {
-    small = slice_get_within planes c g gi;
-    on = λ k lk.
-        let inside : k < length ends = omega (arith, lk, length-stops 0 ends es) in
-        (λ i. dot (normal_is i) (vertex_here k inside i)) ∙ (on (first k) (first_in k inside)).point.on;
-    some = λ k lk.
-        let inside : k < length ends = omega (arith, lk, length-stops 0 ends es) in
-        let n = slot_long k inside in let h = high k inside in omega (arith, n, h);
-    each = λ k e lk ce. passed k e (omega (arith, lk, length-stops 0 ends es)) ce;
-    all = λ j lt ne.
-        let f = find j lt ne in
-        let w = f.inside in
-        record { stop = f.stop; inside = omega (arith, w, length-stops 0 ends es); turned = f.entry.turned; listed = subst (λ i. Contains (slot f.stop) (record { plane = i; turned = f.entry.turned })) f.plane f.there };
-  }
 
   -- ---- the circle
 

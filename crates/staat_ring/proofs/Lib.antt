@@ -46,6 +46,7 @@ pub mod StopSigns
 pub mod SignAll
 pub mod CircleStops
 pub mod StopLemmas
+pub mod WholeCircles
 pub mod Entering
 pub mod CrossSteps
 pub mod Strength

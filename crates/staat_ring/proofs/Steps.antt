@@ -1,5 +1,5 @@
 -- Crossings lie on their planes, and two planes do not meet in two vertices that follow each other.
-use Rattle.std.proofs.Common.{◌≡◌, ◌≢◌, ℕ, Bool, true, false, not, refl, sym, ap, ◌∙◌, arith, ℤ, pos, neg_ℤ, ◌+ℤ◌, ◌-ℤ◌, ◌*ℤ◌, ◌<ℤ◌, List, [], ◌∷◌, inl, inr}
+use Rattle.std.proofs.Common.{◌≡◌, ◌≢◌, ℕ, sym, ap, ◌∙◌, arith, ℤ, pos, neg_ℤ, ◌+ℤ◌, ◌-ℤ◌, ◌*ℤ◌, ◌<ℤ◌, List, [], ◌∷◌, inl, inr}
 use Rattle.std.proofs.lemmas.Int.{ints}
 use Rattle.staat_vec.specs.declared.vector.V3.{V3}
 use Rattle.staat_vec.specs.Vectors.{dot, cross, det, negative, origin}
@@ -9,8 +9,6 @@ use Rattle.staat_ring.proofs.Turns.{turn}
 use Rattle.staat_ring.proofs.Stops.{AreLinkedApart}
 use Rattle.staat_vec.proofs.Ring.{◌⊕◌, ◌⊗◌, ring, zero-mul_ℤ}
 use Rattle.staat_vec.proofs.VecRing.{dotE, detE, values, v0, v1, v2, v3, dot_cross_left, dot_negative, dot_scale}
-use Rattle.staat_vec.proofs.Canons.{negative-negative}
-use Rattle.staat_ring.specs.Rings.{facet_by}
 use Rattle.staat_vec.proofs.Order.{pos_mul, cancel_zero}
 use Rattle.staat_ring.proofs.TurnOrder.{turnE, turn_back}
 use Rattle.staat_ring.proofs.Content.{content_divides}
@@ -27,11 +25,6 @@ primitive_on g u e some =
 
 pub negative_on : (g v : V3) → dot g v ≡ pos 0 → dot g (negative v) ≡ pos 0
 negative_on g v e = dot_negative g v ∙ ap neg_ℤ e
-
--- a crossing that is turned the other way is the opposite
-pub flipped : (t : Bool) (v : V3) → facet_by (not t) v ≡ negative (facet_by t v)
-flipped false v = refl
-flipped true v = sym (negative-negative v)
 
 -- four vectors, of which the last lies on the plane g
 four_on : (g u v w : V3) → turn g v w *ℤ dot u u ≡ turn g u w *ℤ dot v u +ℤ turn g v u *ℤ dot w u +ℤ det u v w *ℤ dot g u

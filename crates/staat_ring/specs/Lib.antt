@@ -10,7 +10,6 @@ pub mod RingViews
 pub mod RingInvariant
 pub mod Order
 pub mod Builds
-pub mod HalfCircles
 pub mod Rows
 pub mod Numbered
 pub mod Linking
@@ -24,3 +23,4 @@ pub mod Index
 pub mod Stepping
 pub mod StopSigns
 pub mod Walked
+pub mod WholeCircles

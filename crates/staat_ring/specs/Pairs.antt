@@ -33,6 +33,10 @@ HasFullPair pairs a b = 0 < blocks (parts_at a b) pairs
 abbrev pub gained : ℕ → PairCount → PairCount
 gained n p = record { positive = p.positive + n; wanted = p.wanted; parts = p.parts }
 
+-- the same pairs have positive facets alone
+abbrev pub AreFullAlike : List PairCount → List PairCount → Type 0
+AreFullAlike old new = (q : ℕ) → is_full (pair_at old q) ≡ is_full (pair_at new q)
+
 -- how often the number stands in the list
 abbrev pub occurs : ℕ → List ℕ → ℕ
 occurs q qs = count_by (λ x. x == q) qs

@@ -35,8 +35,8 @@ impl Model for BlockCounts {
     ghost invariant = { λ b. ShowsCounts b.counts.items b.graph.rows b.back.rows };
 }
 
-/// Puts an arc into the graph of these rows, or takes it out.
-pub fn write_arc(rows: &mut [u32; 32], a: u32, b: u32, there: bool)
+// puts an arc into the graph, or takes it out
+fn write_arc(rows: &mut [u32; 32], a: u32, b: u32, there: bool)
     requires from { a < MOST_PARTS }
     requires to { b < MOST_PARTS }
     ensures { IsArcWritten rows.old rows.new a b there }

@@ -1,8 +1,8 @@
-// The circle of a plane among all planes of a table, and half of it by itself.
-ghost use Rattle.std.specs.Prelude.{◌≡◌, ℕ, ◌<◌, ◌^◌, Contains, IfOk, List, Some, length, slice_get};
-ghost use Rattle.staat_ring.specs.Builds.{ring_by, slot_at};
-ghost use Rattle.staat_ring.specs.HalfCircles.{AreHalfStops, IsHalfCircle, half_vertex};
+// The circle of a plane among all planes of a table.
+ghost use Rattle.std.specs.Prelude.{◌≡◌, ℕ, ◌<◌, Contains, IfOk, List, Some, length, slice_get};
+ghost use Rattle.staat_ring.specs.Builds.{ring_by};
 ghost use Rattle.staat_ring.specs.Rings.{IsRingOf};
+ghost use Rattle.staat_ring.specs.WholeCircles.{IsWholeCircle, stop_at, vertex_at};
 
 use crate::entry::Entry;
 use crate::half_circle::axis_beside;
@@ -15,17 +15,12 @@ use staat_vec::OutOfMemory;
 use std::alloc::Global;
 use std::marker::Model;
 
-// The entries of a circle on the half turn from its axis, in the order of their crossings, and where their stops end.
-#[derive(Drop)]
-struct HalfStops {
-    entries: Vec<Entry>,
-    ends: Vec<usize>,
-}
-
-// those of the circle of plane c among all planes of the table
-fn half_stops(alloc: Global, table: &PlaneTable, c: u32) -> Result<HalfStops, OutOfMemory>
+/// The stops of the circle of plane `c` among all planes of the table, from the crossing with the least other axis on.
+pub fn circle_of(alloc: Global, table: &PlaneTable, c: u32) -> Result<Stops, OutOfMemory>
     requires { c < length table.now.planes }
-    ensures { IfOk result (λ h. AreHalfStops table.now.planes c h.entries.items h.ends.items) }
+    ensures { IfOk result (λ v. (linked : List ℕ)
+        → ((j : ℕ) → j < length table.now.planes → Contains linked j)
+        → IsRingOf table.now.planes linked (ring_by c v)) }
 {
     let _set = table.set();
     let _planes = table.len();
@@ -35,51 +30,35 @@ fn half_stops(alloc: Global, table: &PlaneTable, c: u32) -> Result<HalfStops, Ou
     let turn = Turn::around(table, g);
     let entries = in_order(alloc, &turn, keys.as_slice())?;
     let ends = ends_of(alloc, &turn, entries.as_slice())?;
-    Ok(HalfStops { entries, ends })
+    Stops::around(entries, ends)
 }
 
-/// The stops of the circle of plane `c` among all planes of the table, from the crossing with the least other axis on.
-pub fn circle_of(alloc: Global, table: &PlaneTable, c: u32) -> Result<Stops, OutOfMemory>
-    requires { c < length table.now.planes }
-    ensures { IfOk result (λ v. (linked : List ℕ)
-        → ((j : ℕ) → j < length table.now.planes → Contains linked j)
-        → IsRingOf table.now.planes linked (ring_by c v)) }
-{
-    let _set = table.set();
-    let half = half_stops(alloc, table, c)?;
-    Stops::around(half.entries, half.ends)
-}
-
-/// Half of the circle of a plane of a table: its vertices in the turning sense about the normal of the plane, from the
-/// crossing with the least axis other than this plane on, for less than a half turn, each with the other planes through
-/// it. The vertices of the other half are their opposites.
+/// The circle of a plane of a table: its vertices in the turning sense about the normal of the plane, from the crossing
+/// with the least axis other than this plane on, each with the ascending list of the other planes through it.
 #[derive(Drop)]
-pub struct HalfCircle {
+pub struct Circle {
     plane: u32,
     stops: Stops,
 }
 
-impl Model for HalfCircle {
-    ghost use Rattle.staat_ring.specs.HalfCircles.{HalfTurn};
+impl Model for Circle {
+    ghost use Rattle.staat_ring.specs.Builds.{ring_by};
+    ghost use Rattle.staat_ring.specs.Rings.{Ring};
 
-    ghost Value = { HalfTurn };
+    ghost Value = { Ring };
 
-    ghost view = { λ c. record { plane = c.plane; stops = c.stops } };
+    ghost view = { λ c. ring_by c.plane c.stops };
 }
 
-impl HalfCircle {
-    /// Half of the circle of plane `c` among all planes of the table.
-    pub fn of(alloc: Global, table: &PlaneTable, c: u32) -> Result<HalfCircle, OutOfMemory>
+impl Circle {
+    /// The circle of plane `c` among all planes of the table.
+    pub fn of(alloc: Global, table: &PlaneTable, c: u32) -> Result<Circle, OutOfMemory>
         requires { c < length table.now.planes }
-        ensures plane { IfOk result (λ half. half.plane ≡ c) }
-        ensures is { IfOk result (IsHalfCircle table.now.planes) }
+        ensures plane { IfOk result (λ circle. circle.plane ≡ c) }
+        ensures is { IfOk result (IsWholeCircle table.now.planes) }
     {
-        let _set = table.set();
-        let half = half_stops(alloc, table, c)?;
-        Ok(HalfCircle {
-            plane: c,
-            stops: Stops::of(half.entries, half.ends),
-        })
+        let stops = circle_of(alloc, table, c)?;
+        Ok(Circle { plane: c, stops })
     }
 
     /// The number of the plane.
@@ -91,35 +70,36 @@ impl HalfCircle {
 
     /// The number of vertices.
     pub fn len(&self) -> usize
-        ensures count { result ≡ length self.now.stops }
-        ensures small { result < 2 ^ 63 }
+        ensures { result ≡ length self.now.stops }
     {
         self.stops.len()
     }
 
-    /// The entries of the other planes through the vertex `k`, in the ascending order of the planes.
-    pub fn stop(&self, k: usize) -> &[Entry]
+    /// The other planes through the vertex `k`, in ascending order.
+    pub(crate) fn stop(&self, k: usize) -> &[Entry]
         requires { k < length self.now.stops }
-        ensures { result.now ≡ slot_at self.now.stops k }
+        ensures { result.now ≡ (stop_at self.now k).entries }
     {
         self.stops.stop(k)
     }
 
     /// The first of them.
     pub fn first_entry(&self, table: &PlaneTable, k: usize) -> Entry
-        requires half { IsHalfCircle table.now.planes self.now }
+        requires circle { IsWholeCircle table.now.planes self.now }
         requires place { k < length self.now.stops }
-        ensures { slice_get (slot_at self.now.stops k) 0 ≡ Some result }
+        ensures { slice_get (stop_at self.now k).entries 0 ≡ Some result }
     {
+        let _set = table.set();
         self.stop(k)[0]
     }
 
     /// The vertex `k`.
     pub fn vertex(&self, table: &PlaneTable, k: usize) -> Vertex
-        requires half { IsHalfCircle table.now.planes self.now }
+        requires circle { IsWholeCircle table.now.planes self.now }
         requires place { k < length self.now.stops }
-        ensures { result ≡ half_vertex table.now.planes self.now k }
+        ensures { result ≡ vertex_at table.now.planes self.now k }
     {
+        let _set = table.set();
         Vertex::of(table, self.plane, self.first_entry(table, k))
     }
 }

@@ -1,12 +1,13 @@
 // The signs of the planes at a vertex, and the graph there.
 ghost use Rattle.std.specs.Prelude.{◌≡◌, ◌+◌, ◌<◌, ◌≤◌, ◌↔◌};
-ghost use Rattle.std.specs.Prelude.{IfOk, IsTrue, OnErr, OnOk, length, replicate, slice_set};
+ghost use Rattle.std.specs.Prelude.{IfOk, IsTrue, OnErr, OnOk, false, length, replicate, slice_set};
 ghost use Rattle.staat_model.specs.Sets.{IsNonempty};
 ghost use Rattle.staat_graph.specs.Graphs.{IsStrong};
 ghost use Rattle.staat_vec.specs.declared.vector.Sign.TheVariants.{Zero};
 ghost use Rattle.staat_ring.specs.BlockCounts.{IsGraphOf, part_pairs};
 ghost use Rattle.staat_ring.specs.Pairs.{fresh, no_pair, pair_at};
 ghost use Rattle.staat_ring.specs.CountedSigns.{HasBlockingPair, no_state, positive_pairs, positives, state_at};
+ghost use Rattle.staat_ring.specs.WholeCircles.{HaveSameFull, IsFull};
 ghost use Rattle.staat_ring.specs.SignChanges.{uses, with_pair, with_plane_pair, with_plane_sign, with_sign};
 
 use crate::pairs::PairCounts;
@@ -192,23 +193,36 @@ impl CountedSigns {
     }
 
     // gives the plane another sign: a facet less of each pair in one list is positive, one more of each in the other
-    fn change(&mut self, k: u32, sign: Sign)
+    fn change(&mut self, k: u32, sign: Sign) -> bool
         requires { k < length self.old.states }
-        ensures { self.new ≡ with_plane_sign k sign self.old }
+        ensures signs { self.new ≡ with_plane_sign k sign self.old }
+        ensures same { result ≡ false → HaveSameFull self.old self.new }
     {
-        self.counts.lose_all(pairs_at(&self.states, k));
+        let lost = self.counts.lose_all(pairs_at(&self.states, k));
         set_sign_at(&mut self.states, k, sign);
-        self.counts.gain_all(pairs_at(&self.states, k));
+        let gained = self.counts.gain_all(pairs_at(&self.states, k));
+        lost | gained
     }
 
-    /// Gives the plane `k` a sign. Where it has that sign, nothing is done.
-    pub fn set(&mut self, k: u32, sign: Sign)
+    /// Gives the plane `k` a sign. Where it has that sign, nothing is done. Tells whether some pair may have positive
+    /// facets alone only before, or only now.
+    pub fn set(&mut self, k: u32, sign: Sign) -> bool
         requires { k < length self.old.states }
-        ensures { self.new ≡ with_plane_sign k sign self.old }
+        ensures signs { self.new ≡ with_plane_sign k sign self.old }
+        ensures same { result ≡ false → HaveSameFull self.old self.new }
     {
-        if !has_sign(&self.states, k, sign) {
-            self.change(k, sign);
+        if has_sign(&self.states, k, sign) {
+            return false;
         }
+        self.change(k, sign)
+    }
+
+    /// Whether all facets of the pair `q` are positive.
+    pub fn is_full(&self, q: u16) -> bool
+        requires { q < length self.now.pairs }
+        ensures { IsTrue result ↔ IsFull self.now q }
+    {
+        self.counts.is_full(q)
     }
 
     /// The graph in which an arc stands where all facets of some pair of pieces are positive.

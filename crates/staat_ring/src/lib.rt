@@ -18,12 +18,12 @@ mod nodes;
 mod order;
 mod pairs;
 mod rings;
+mod rounds;
 mod stop_list;
 mod vertex;
 mod walk;
 
-pub use block_counts::write_arc;
-pub use circle::HalfCircle;
+pub use circle::Circle;
 pub use counted_signs::CountedSigns;
 pub use entry::Entry;
 pub use rings::Rings;

@@ -1,10 +1,10 @@
 // How many facets of each ordered pair of pieces are positive.
 ghost use Rattle.std.specs.Prelude.{◌≡◌, ℕ, ◌+◌, ◌*◌, ◌<◌, ◌≤◌, ◌^◌, ◌↔◌};
-ghost use Rattle.std.specs.Prelude.{◌==◌, All, IfOk, IsTrue, if◌then◌else◌, length, not, replicate, slice_set, true};
+ghost use Rattle.std.specs.Prelude.{◌==◌, All, IfOk, IsTrue, false, if◌then◌else◌, length, not, replicate, slice_set, true};
 ghost use Rattle.staat_model.specs.Sets.{IsNonempty};
 ghost use Rattle.staat_graph.specs.Graphs.{IsStrong};
 ghost use Rattle.staat_ring.specs.BlockCounts.{IsGraphOf, part_pairs};
-ghost use Rattle.staat_ring.specs.Pairs.{CountBlocks, HasFullPair, fresh, gained, is_full};
+ghost use Rattle.staat_ring.specs.Pairs.{AreFullAlike, CountBlocks, HasFullPair, fresh, gained, is_full};
 ghost use Rattle.staat_ring.specs.Pairs.{no_pair, occurs, pair_at};
 
 use crate::block_counts::BlockCounts;
@@ -79,7 +79,8 @@ impl PairCounts {
         requires parts { pair.parts < part_pairs }
         requires home { is_full (pair_at self.old q) ≡ true → pair.parts ≡ (pair_at self.old q).parts }
         requires told { is_full pair ≡ (if told then not (is_full (pair_at self.old q)) else is_full (pair_at self.old q)) }
-        ensures { self.new ≡ slice_set self.old q pair }
+        ensures pairs { self.new ≡ slice_set self.old q pair }
+        ensures full { told ≡ false → AreFullAlike self.old self.new }
     {
         self.pairs[q as usize] = pair;
         if told {
@@ -106,54 +107,76 @@ impl PairCounts {
         self.write(q, pair, wanted == 0);
     }
 
-    // one more facet of the pair is positive
-    fn gain(&mut self, q: u16)
+    // One more facet of the pair is positive. Tells whether all of them are now.
+    fn gain(&mut self, q: u16) -> bool
         requires place { q < length self.old }
         requires room { (pair_at self.old q).positive + 1 < 2 ^ 16 }
         ensures length { length self.new ≡ length self.old }
         ensures each { (p : ℕ) → pair_at self.new p ≡ gained (if q == p then 1 else 0) (pair_at self.old p) }
+        ensures full { result ≡ false → AreFullAlike self.old self.new }
     {
         let mut pair = self.pair(q);
         pair.positive += 1;
         let told = pair.positive == pair.wanted;
         self.write(q, pair, told);
+        told
     }
 
-    // one less is
-    fn lose(&mut self, q: u16)
+    // One less is. Tells whether all of them were.
+    fn lose(&mut self, q: u16) -> bool
         requires place { q < length self.old }
         requires some { 0 < (pair_at self.old q).positive }
         ensures length { length self.new ≡ length self.old }
         ensures each { (p : ℕ) → pair_at self.old p ≡ gained (if q == p then 1 else 0) (pair_at self.new p) }
+        ensures full { result ≡ false → AreFullAlike self.old self.new }
     {
         let mut pair = self.pair(q);
         let told = pair.positive == pair.wanted;
         pair.positive -= 1;
         self.write(q, pair, told);
+        told
     }
 
-    /// One more facet of each pair in the list is positive, for a pair that stands twice two more.
-    pub fn gain_all(&mut self, qs: &[u16])
+    /// One more facet of each pair in the list is positive, for a pair that stands twice two more. Tells whether some
+    /// pair has come to positive facets alone.
+    pub fn gain_all(&mut self, qs: &[u16]) -> bool
         requires places { All (λ q. q < length self.old) qs.now }
         requires room { (q : ℕ) → (pair_at self.old q).positive + occurs q qs.now < 2 ^ 16 }
         ensures length { length self.new ≡ length self.old }
         ensures each { (q : ℕ) → pair_at self.new q ≡ gained (occurs q qs.now) (pair_at self.old q) }
+        ensures full { result ≡ false → AreFullAlike self.old self.new }
     {
+        let mut told = false;
         for q in qs {
-            self.gain(*q);
+            let full = self.gain(*q);
+            told = told | full;
         }
+        told
     }
 
-    /// One less of each is positive.
-    pub fn lose_all(&mut self, qs: &[u16])
+    /// One less of each is positive. Tells whether some pair has positive facets alone no more.
+    pub fn lose_all(&mut self, qs: &[u16]) -> bool
         requires places { All (λ q. q < length self.old) qs.now }
         requires some { (q : ℕ) → occurs q qs.now ≤ (pair_at self.old q).positive }
         ensures length { length self.new ≡ length self.old }
         ensures each { (q : ℕ) → pair_at self.old q ≡ gained (occurs q qs.now) (pair_at self.new q) }
+        ensures full { result ≡ false → AreFullAlike self.old self.new }
     {
+        let mut told = false;
         for q in qs {
-            self.lose(*q);
+            let full = self.lose(*q);
+            told = told | full;
         }
+        told
+    }
+
+    /// Whether all facets of the pair are positive.
+    pub fn is_full(&self, q: u16) -> bool
+        requires { q < length self.now }
+        ensures { IsTrue result ↔ ((pair_at self.now q).wanted ≤ (pair_at self.now q).positive) }
+    {
+        let pair = self.pairs[q as usize];
+        pair.wanted <= pair.positive
     }
 
     /// The graph in which an arc stands where some pair blocks.

@@ -64,14 +64,6 @@ fn start_of(ends: &[usize], k: usize) -> usize
 }
 
 impl Stops {
-    /// The stops of these entries, which end at these places.
-    pub fn of(entries: Vec<Entry>, ends: Vec<usize>) -> Stops
-        requires stops { AreStopsFrom 0 (length entries.items) ends.items }
-        ensures { result ≡ stops_from 0 ends.items entries.items }
-    {
-        Stops { entries, ends }
-    }
-
     /// The stops of a half circle, and their opposites.
     pub fn around(entries: Vec<Entry>, ends: Vec<usize>) -> Result<Stops, OutOfMemory>
         requires stops { AreStopsFrom 0 (length entries.items) ends.items }
@@ -86,8 +78,7 @@ impl Stops {
 
     /// The number of stops.
     pub fn len(&self) -> usize
-        ensures count { result ≡ length self.now }
-        ensures small { result < 2 ^ 63 }
+        ensures { result ≡ length self.now }
     {
         self.ends.len()
     }

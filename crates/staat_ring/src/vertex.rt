@@ -1,7 +1,7 @@
 // The vertex in which two planes cross.
 ghost use Rattle.std.specs.Prelude.{◌≡◌, ◌≢◌, ◌<◌, ◌↔◌, IsTrue, length};
 ghost use Rattle.staat_vec.specs.Primitives.{IsCanon, primitive};
-ghost use Rattle.staat_vec.specs.Vectors.{IsWithin, cross, negative};
+ghost use Rattle.staat_vec.specs.Vectors.{IsWithin, cross};
 ghost use Rattle.staat_ring.specs.Rings.{crossing, facet_by};
 ghost use Rattle.staat_ring.specs.Walked.{DoCross};
 
@@ -51,17 +51,6 @@ impl Vertex {
     {
         let _set = table.set();
         Vertex::new(table.plane(c), table.plane(entry.plane), entry.turned)
-    }
-
-    /// The opposite vertex.
-    pub fn opposite(self) -> Vertex
-        ensures { result ≡ negative self }
-    {
-        Vertex {
-            own: self.own,
-            other: self.other,
-            turned: !self.turned,
-        }
     }
 
     /// Whether the first component of the direction other than zero is positive. No more than that is computed of it.

@@ -16,7 +16,7 @@ pub loop-k-preserved : goal.loop-k-preserved
 loop-k-preserved g c = elim c.if-is_linked.branch [
   | then-is_linked w ↦
       let lt : c.loop-k.k < length c.loop-k.signs.states = (let s = c.loop-k.invariant.made.states in let a = c.loop-k.invariant.all in let t = c.loop-k-test.true in omega (arith, s, a, t)) in
-      let set : c.if-is_linked.signs ≡ with_plane_sign c.loop-k.k w.sign_at.result c.loop-k.signs = w.signs-is ∙ w.set.ensures in
+      let set : c.if-is_linked.signs ≡ with_plane_sign c.loop-k.k w.sign_at.result c.loop-k.signs = w.signs-is ∙ w.set.ensures.signs in
       record {
         all = c.loop-k.invariant.all;
         made = subst (BelongTo c.args.table.now) (sym set) (belong_same c.args.table.now c.loop-k.signs (with_plane_sign c.loop-k.k w.sign_at.result c.loop-k.signs) (signed_same c.loop-k.k w.sign_at.result c.loop-k.signs) c.loop-k.invariant.made);

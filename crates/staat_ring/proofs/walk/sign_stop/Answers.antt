@@ -40,14 +40,14 @@ set-requires c =
 
 pub loop-passed-preserved : goal.loop-passed-preserved
 loop-passed-preserved c = record {
-  size = ap (λ s. length s.states) c.set.ensures ∙ (length-set c.loop-passed.signs.states c.in-Some.entry.plane (with_sign c.stop_sign.result (state_at c.loop-passed.signs.states c.in-Some.entry.plane)) ∙ c.loop-passed.invariant.size);
+  size = ap (λ s. length s.states) c.set.ensures.signs ∙ (length-set c.loop-passed.signs.states c.in-Some.entry.plane (with_sign c.stop_sign.result (state_at c.loop-passed.signs.states c.in-Some.entry.plane)) ∙ c.loop-passed.invariant.size);
   left = λ m s at is.
       let l = c.loop-passed.invariant.left m s at is in
       let lt = slice_get_within s.entries c.loop-passed._passed c.in-Some.entry (c.in-Some.ensures m s at is c.loop-passed._passed l) in
       record { within = omega (arith, lt); is = c.next_entry-at.ensures c.args.circle m s c.loop-passed._passed at lt l };
   rest = λ m s at is.
       let e = c.in-Some.ensures m s at is c.loop-passed._passed (c.loop-passed.invariant.left m s at is) in
-      stop_sign_next c.args.leaves s.entries c.loop-passed._passed c.in-Some.entry c.stop_sign.result c.loop-passed.signs c.set.new.self (with_stop_signs c.args.leaves s.entries c.args.signs.now) e c.stop_sign.ensures c.set.ensures (c.loop-passed.invariant.rest m s at is);
+      stop_sign_next c.args.leaves s.entries c.loop-passed._passed c.in-Some.entry c.stop_sign.result c.loop-passed.signs c.set.new.self (with_stop_signs c.args.leaves s.entries c.args.signs.now) e c.stop_sign.ensures c.set.ensures.signs (c.loop-passed.invariant.rest m s at is);
 }
 
 pub returns : goal.returns

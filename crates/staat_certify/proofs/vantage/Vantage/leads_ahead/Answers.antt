@@ -1,11 +1,15 @@
-use Rattle.std.proofs.Common.{◌↔◌, subst, sym}
-use Rattle.std.specs.Prelude.{IsTrue}
-use Rattle.staat_pairs.specs.Tables.{IsTableArc}
-use Rattle.staat_passage.specs.Stretches.{IsAheadOfPair}
+use Rattle.std.proofs.Common.{◌<◌, length, subst, sym}
+use Rattle.staat_ring.specs.WholeCircles.{IsFull}
+use Rattle.staat_certify.proofs.SameWitness.{full_is_ahead}
 use Rattle.staat_certify.proofs.vantage.Vantage.leads_ahead.Goals as goal
 
-pub leads_ahead-requires-clause-across : goal.leads_ahead-requires-clause-across
-leads_ahead-requires-clause-across c = subst (λ t. IsTableArc t c.args.arc) (sym c.requires.at.table) c.requires.across
+pub is_full-requires : goal.is_full-requires
+is_full-requires c = subst (λ k. k < length c.args.self.now.signs.now.pairs) (sym c.slot.ensures.is) (c.requires.at.made.all c.args.arc c.requires.across).within
 
 pub returns : goal.returns
-returns c = subst (λ t. IsTrue c.leads_ahead.result ↔ IsAheadOfPair t c.args.self.now.d c.args.arc) c.requires.at.table (c.leads_ahead.ensures c.args.self.now.d c.requires.at.sees)
+returns c =
+    let law = full_is_ahead c.args.self.now.sound.now c.args.self.now.table.now c.args.self.now.signs.now c.args.self.now.d c.requires.at c.slot.ensures.table c.args.arc c.requires.across in
+    let at = c.slot.ensures.is in (
+      λ h. law.0 (subst (IsFull c.args.self.now.signs.now) at (c.is_full.ensures.0 h)),
+      λ ahead. c.is_full.ensures.1 (subst (IsFull c.args.self.now.signs.now) (sym at) (law.1 ahead)),
+    )

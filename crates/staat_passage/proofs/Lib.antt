@@ -1,4 +1,0 @@
-pub mod StretchLemmas
-pub mod PassageLemmas
-pub mod PairLemmas
-pub mod CrossingLemmas

@@ -1,4 +1,0 @@
-pub mod PairFacets
-pub mod Crossings
-pub mod Stretches
-pub mod Passages

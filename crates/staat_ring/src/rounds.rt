@@ -1,0 +1,73 @@
+// From vertex to vertex of a circle among all planes of a table, with their signs.
+ghost use Rattle.std.specs.Prelude.{◌≡◌, ◌-◌, ◌<◌, All, false, length};
+ghost use Rattle.staat_vec.specs.Vectors.{IsWithin};
+ghost use Rattle.staat_ring.specs.Belonging.{BelongTo};
+ghost use Rattle.staat_ring.specs.StopSigns.{with_stop_signs};
+ghost use Rattle.staat_ring.specs.WholeCircles.{AreSignsAt, HaveSameFull, IsWholeCircle, vertex_at};
+
+use crate::circle::Circle;
+use crate::counted_signs::CountedSigns;
+use crate::entry::Entry;
+use crate::walk::stop_sign;
+use staat_planes::PlaneTable;
+use staat_vec::{Course, DIRECTION, V3};
+
+// gives the planes through a vertex their signs, those there or those just after it
+fn sign_entries(signs: &mut CountedSigns, entries: &[Entry], leaves: bool) -> bool
+    requires { All (λ e. e.plane < length signs.old.states) entries.now }
+    ensures signs { signs.new ≡ with_stop_signs leaves entries.now signs.old }
+    ensures same { result ≡ false → HaveSameFull signs.old signs.new }
+{
+    let mut told = false;
+    for entry in entries {
+        let now = signs.set(entry.plane, stop_sign(leaves, entry.turned));
+        told = told | now;
+    }
+    told
+}
+
+// gives all planes their signs at a direction
+fn sign_table(signs: &mut CountedSigns, table: &PlaneTable, d: V3)
+    requires made { BelongTo table.now signs.old }
+    requires direction { IsWithin DIRECTION d }
+    ensures made { BelongTo table.now signs.new }
+    ensures signs { AreSignsAt table.now.planes signs.new d }
+{
+    let course = Course::of(d);
+    for k in 0..table.len() {
+        signs.set(k, course.sign(table.plane(k)));
+    }
+}
+
+impl CountedSigns {
+    /// Gives each plane its sign at the vertex `k` of a circle.
+    pub fn enter(&mut self, table: &PlaneTable, circle: &Circle, k: usize)
+        requires made { BelongTo table.now self.old }
+        requires circle { IsWholeCircle table.now.planes circle.now }
+        requires place { k < length circle.now.stops }
+        ensures made { BelongTo table.now self.new }
+        ensures signs { AreSignsAt table.now.planes self.new (vertex_at table.now.planes circle.now k) }
+    {
+        sign_table(self, table, circle.vertex(table, k).direction());
+    }
+
+    /// To the vertex `k` of a circle from the one before it: only the planes through the two get new signs.
+    ///
+    /// Where the answer is false, the same pairs of pieces have positive facets alone as before, so that the same
+    /// pieces meet along both vertices.
+    pub fn cross(&mut self, table: &PlaneTable, circle: &Circle, k: usize) -> bool
+        requires made { BelongTo table.now self.old }
+        requires circle { IsWholeCircle table.now.planes circle.now }
+        requires later { 0 < k }
+        requires place { k < length circle.now.stops }
+        requires signs { AreSignsAt table.now.planes self.old (vertex_at table.now.planes circle.now (k - 1)) }
+        ensures made { BelongTo table.now self.new }
+        ensures signs { AreSignsAt table.now.planes self.new (vertex_at table.now.planes circle.now k) }
+        ensures same { result ≡ false → HaveSameFull self.old self.new }
+    {
+        let _set = table.set();
+        let left = sign_entries(self, circle.stop(k - 1), true);
+        let reached = sign_entries(self, circle.stop(k), false);
+        left | reached
+    }
+}
