@@ -1,44 +1,26 @@
 -- The first step along representatives of cells, list by list.
 use Rattle.std.proofs.Common.{◌≡◌, ◌≢◌, inl, inr, ℕ, zero, suc, ◌<◌, ◌≤◌, false, true, if◌then◌else◌}
 use Rattle.std.proofs.Common.{refl, sym, ap, subst, ◌∙◌, arith, List, [], ◌∷◌, ◌++◌, length}
-use Rattle.std.proofs.Common.{get_or, map, take, All}
+use Rattle.std.proofs.{Common.{get_or, map, take, All}, lemmas.List.Elements.{All-append, All-head, All-nil, All-tail}}
 use Rattle.std.specs.Prelude.{Option, Some}
 use Rattle.std.specs.FinSet as set
-use Rattle.std.proofs.lemmas.List.Elements.{All-append, All-head, All-nil, All-tail}
-use Rattle.staat_vec.specs.declared.vector.V3.{V3}
-use Rattle.staat_vec.specs.Lists.{IsFirst}
-use Rattle.staat_vec.specs.Vectors.{origin}
-use Rattle.staat_vec.proofs.ListLaws.{first_left, first_right}
-use Rattle.staat_vec.proofs.Naturals.{lt_suc_cases}
-use Rattle.staat_model.specs.declared.assembly.Part.{Part}
-use Rattle.staat_model.specs.declared.set.PartSet.{PartSet}
-use Rattle.staat_model.specs.declared.tree.Kind.{Kind}
-use Rattle.staat_model.specs.declared.tree.Kind.TheVariants.{Open}
+use Rattle.staat_vec.specs.{Lists.IsFirst, Vectors.origin, declared.vector.V3.V3}
+use Rattle.staat_vec.proofs.{ListLaws.{first_left, first_right}, Naturals.lt_suc_cases}
 use Rattle.staat_model.specs.Cells.{AreCells, AreCellsOf, CellEntry, IsEntry, signs_of}
-use Rattle.staat_model.specs.Outcomes.{AreTries, HasNoStep, IsMovedSide, IsStep, Serves, try_cell}
-use Rattle.staat_model.specs.Planes.{ArePlanes}
-use Rattle.staat_model.specs.Plans.{IsStuck}
-use Rattle.staat_model.specs.Sets.{IsSubset}
-use Rattle.staat_model.proofs.Members.{all_back, all_front}
-use Rattle.staat_model.proofs.OneTable.{AreCellsOf-unique}
-use Rattle.staat_model.proofs.SomePlanes.{some_planes}
+use Rattle.staat_model.specs.{Outcomes.{AreTries, HasNoStep, IsMovedSide, IsStep, Serves, try_cell}, Planes.ArePlanes}
+use Rattle.staat_model.specs.{Plans.IsStuck, Sets.IsSubset, declared.assembly.Part.Part, declared.set.PartSet.PartSet}
+use Rattle.staat_model.specs.{declared.tree.Kind.Kind, declared.tree.Kind.TheVariants.Open}
+use Rattle.staat_model.proofs.{Members.{all_back, all_front}, OneTable.AreCellsOf-unique}
 use Rattle.staat_pairs.specs.Tables.{AreTablePlanes, Table, WasMadeFrom}
-use Rattle.staat_cells.specs.declared.cell.Cell.{Cell}
+use Rattle.staat_cells.specs.{Compositions.{begins_cell, composed_at, composed_up_to, entry_of}, FirstCell.first_entry}
+use Rattle.staat_cells.specs.{Skeletons.{IsComposedAt, IsSkeleton, opens_at, opens_before}, declared.cell.Cell.Cell}
 use Rattle.staat_cells.specs.declared.skeleton.Skeleton.{Skeleton}
-use Rattle.staat_cells.specs.Compositions.{begins_cell, composed_at, composed_up_to, entry_of}
-use Rattle.staat_cells.specs.FirstCell.{first_entry}
-use Rattle.staat_cells.specs.Skeletons.{IsComposedAt, IsSkeleton, opens_at, opens_before}
-use Rattle.staat_cells.proofs.LeastCell.{first_listed}
-use Rattle.staat_cells.proofs.SomeCells.{some_cells}
-use Rattle.staat_cells.proofs.TableRules.{holds_axes}
+use Rattle.staat_cells.proofs.{LeastCell.first_listed, SomeCells.some_cells, TableRules.holds_axes}
 use Rattle.staat_cells.proofs.WholeLists.{representative_in}
+use Rattle.staat_plan.specs.{CellSteps.IsTableCell, Planning.{IsFirstOf, IsFoundAmong, IsStepOf}}
 use Rattle.staat_plan.specs.declared.marked.Marked.{Marked}
-use Rattle.staat_plan.specs.CellSteps.{IsTableCell}
-use Rattle.staat_plan.specs.Planning.{IsFirstOf, IsFoundAmong, IsStepOf}
-use Rattle.staat_plan.proofs.Fewer.{fewer_planes_lemma}
-use Rattle.staat_plan.proofs.OutcomeSizes.{table_planes}
-use Rattle.staat_plan.proofs.StepLemmas.{first_mapped, some_then, step_found}
-use Rattle.staat_plan.proofs.Tries.{tries_decide_lemma, zero_alone}
+use Rattle.staat_plan.proofs.{Fewer.{few_inside, few_of_table}, OutcomeSizes.table_planes}
+use Rattle.staat_plan.proofs.{StepLemmas.{first_mapped, some_then, step_found}, Tries.{tries_decide_lemma, zero_alone}}
 
 -- ---- cells of a table
 
@@ -203,11 +185,11 @@ skeleton_step parts t s made whole found =
 pub stuck_step : (parts : List Part) (t : Table) (w : PartSet) → WasMadeFrom parts t → IsSubset w t.of
     → length t.planes ≤ 256 → 2 ≤ set.len w → IsStuck parts w → HasNoStep true parts w
 stuck_step parts t w made within most two stuck =
-    let (planes, are) = some_planes parts w in
-    let le = fewer_planes_lemma parts w t.of planes t.planes within are made.planes in
-    let (cells, all) = some_cells planes (table_planes parts made.assembly w planes are) (omega (arith, le, most)) in
-    let tries = cell_tries parts w planes are cells all in
-    let list = map try_cell (listed parts w planes are cells all) in
+    let few = few_inside parts w t.of 256 256 (omega arith) within (few_of_table parts t 256 made most) in
+    let are = few.planes_are in
+    let (cells, all) = some_cells few.planes (table_planes parts made.assembly w few.planes are) few.few in
+    let tries = cell_tries parts w few.planes are cells all in
+    let list = map try_cell (listed parts w few.planes are cells all) in
     record {
       tries = list;
       tries_are = tries;

@@ -2,51 +2,33 @@
 -- the step of the set is the first of v and its opposite.
 use Rattle.std.proofs.Common.{◌≡◌, ◌≢◌, ◌⊎◌, inl, inr, ⊎_elim, ◌<ℤ◌, ℤ, neg_ℤ, negsuc, pos, zero, suc}
 use Rattle.std.proofs.Common.{refl, sym, ap, subst, ◌∙◌, arith}
-use Rattle.std.proofs.Common.{List, [], ◌∷◌, ◌++◌, All, Contains, get_or, map, false, true}
-use Rattle.std.specs.Prelude.{Some}
-use Rattle.std.specs.FinSet as set
-use Rattle.std.specs.List.Sorted.{IsStrictlySortedBy}
-use Rattle.std.specs.Ordering.{ordering_reverse}
+use Rattle.std.proofs.{Common.{List, [], ◌∷◌, ◌++◌, All, Contains, get_or, map, false, true}, lemmas.Int.ints}
+use Rattle.std.proofs.{lemmas.List.Elements.{All-append, All-contains, All-head}, lemmas.Map.Views.All-after_first}
+use Rattle.std.specs.{List.Sorted.IsStrictlySortedBy, Ordering.ordering_reverse, Prelude.Some}
 use Rattle.std.specs.declared.cmp.Ordering.TheVariants.{Greater, Less}
-use Rattle.std.proofs.lemmas.Int.{ints}
-use Rattle.std.proofs.lemmas.List.Elements.{All-append, All-contains, All-head}
-use Rattle.std.proofs.lemmas.Map.Views.{All-after_first}
-use Rattle.staat_vec.specs.declared.vector.Sign.{Sign}
-use Rattle.staat_vec.specs.declared.vector.V3.{V3}
-use Rattle.staat_vec.specs.Lists.{IsFirst}
-use Rattle.staat_vec.specs.Primitives.{IsCanon, canon, or_next}
+use Rattle.std.specs.FinSet as set
+use Rattle.staat_vec.specs.{Lists.IsFirst, Primitives.{IsCanon, canon, or_next}}
 use Rattle.staat_vec.specs.Vectors.{cross, dot, minus, negative, origin, plus, sign, vector, vector_cmp}
+use Rattle.staat_vec.specs.{declared.vector.Sign.Sign, declared.vector.V3.V3}
 use Rattle.staat_vec.proofs.Canons.{IsCanon-canon, canon-either, negative-negative, same_canon}
-use Rattle.staat_vec.proofs.Primitives.{parallel_primitives}
-use Rattle.staat_vec.proofs.Signs.{zero_sign}
+use Rattle.staat_vec.proofs.{Primitives.parallel_primitives, Signs.zero_sign}
 use Rattle.staat_vec.proofs.Unique.{Contains-cases, Contains-front, Contains-later, Contains-nothing, IsFirst-in}
 use Rattle.staat_vec.proofs.VecRing.{dot_comm, negativeE, originE, plusE, ring3, scale, v0, values}
-use Rattle.staat_vec.proofs.VectorLaws.{cross_back, cross_twice, no_multiples, parallel_cross}
-use Rattle.staat_vec.proofs.VectorOrder.{less_apart}
-use Rattle.staat_model.specs.declared.assembly.Part.{Part}
-use Rattle.staat_model.specs.declared.set.PartSet.{PartSet}
-use Rattle.staat_model.specs.declared.tree.Kind.{Kind}
+use Rattle.staat_vec.proofs.{VectorLaws.{cross_back, cross_twice, no_multiples, parallel_cross}, VectorOrder.less_apart}
+use Rattle.staat_model.specs.{Assemblies.IsAssembly, Outcomes.{IsMovedSide, IsStep, Serves, Try, try_cell, try_vertex}}
+use Rattle.staat_model.specs.{Planes.{ArePlanes, axes, vertices}, declared.assembly.Part.Part}
+use Rattle.staat_model.specs.{declared.set.PartSet.PartSet, declared.tree.Kind.Kind}
 use Rattle.staat_model.specs.declared.tree.Kind.TheVariants.{Edge, Open, Point}
-use Rattle.staat_model.specs.Assemblies.{IsAssembly}
-use Rattle.staat_model.specs.Cells.{AreCells, AreCellsOf, CellEntry, IsBorder, IsCell, IsEnd, IsEntry, kind_of, signs_cmp, signs_of}
-use Rattle.staat_model.specs.Outcomes.{IsMovedSide, IsStep, Serves, Try, try_cell, try_vertex}
-use Rattle.staat_model.specs.Planes.{ArePlanes, axes, vertices}
-use Rattle.staat_model.proofs.CellLemmas.{open_cell_lemma}
-use Rattle.staat_model.proofs.Differences.{from_map}
-use Rattle.staat_model.proofs.ListedVertices.{vertex_some}
-use Rattle.staat_model.proofs.OneTable.{ArePlanes-unique}
-use Rattle.staat_model.proofs.PlaneLemmas.{NoneParallel, planes_apart}
+use Rattle.staat_model.proofs.{CellLemmas.open_cell_lemma, Differences.from_map, ListedVertices.vertex_some}
+use Rattle.staat_model.proofs.{OneTable.ArePlanes-unique, PlaneLemmas.{NoneParallel, planes_apart}}
 use Rattle.staat_model.proofs.PointLemmas.{edge_has_sum_lemma, point_zeros, representative_lemma}
-use Rattle.staat_model.proofs.RestrictLemmas.{rest_apart, rest_within}
-use Rattle.staat_model.proofs.VertexLemmas.{free_on_border, holds_axes}
-use Rattle.staat_cells.proofs.SignOrder.{not_below_itself, signs_total}
-use Rattle.staat_cells.proofs.VertexSigns.{vertex_point, vertex_primitive}
+use Rattle.staat_model.proofs.VertexLemmas.{holds_axes}
+use Rattle.staat_model.specs.Cells.{AreCells, AreCellsOf, CellEntry, IsBorder, IsCell, IsEnd, IsEntry, kind_of, signs_cmp, signs_of}
+use Rattle.staat_cells.proofs.{SignOrder.{not_below_itself, signs_total}, VertexSigns.{vertex_point, vertex_primitive}}
 use Rattle.staat_cells.proofs.Zeros.{two_planes}
-use Rattle.staat_plan.specs.declared.marked.Marked.{Marked}
-use Rattle.staat_plan.specs.LoneLines.{NoneServesOn, OnlyPlanesThroughServe}
-use Rattle.staat_plan.proofs.CellStepLemmas.{cell_step_is}
-use Rattle.staat_plan.proofs.StepLemmas.{none_then}
-use Rattle.staat_plan.proofs.Tries.{cell_serves, zero_alone}
+use Rattle.staat_plan.specs.{LoneLines.{NoneServesOn, OnlyPlanesThroughServe}, declared.marked.Marked.Marked}
+use Rattle.staat_plan.proofs.{CellStepLemmas.cell_step_is, StepLemmas.none_then}
+use Rattle.staat_plan.proofs.Tries.{border_serves, cell_serves, zero_alone}
 
 -- a vector on two planes is parallel to the vector in which they cross
 across : (u g h : V3) → dot g u ≡ pos 0 → dot h u ≡ pos 0 → cross (cross g h) u ≡ origin
@@ -67,18 +49,6 @@ module _ (parts : List Part) (is : IsAssembly parts) (w : PartSet) (planes : Lis
   through g d g_in on serves = ⊎_elim {C = dot g v ≡ pos 0} (λ e. e) (λ none. absurd (none d on serves))
       (All-contains (λ m. (dot m v ≡ pos 0) ⊎ NoneServesOn parts w m) planes g lone g_in)
 
-  -- what serves does so on the border of its cell too
-  border_serves : (d u : V3) → u ≢ origin → IsBorder (signs_of planes u) (signs_of planes d) → Serves parts w d
-      → Serves parts w u
-  border_serves d u nonzero border serves =
-      let side = serves.is_side in
-      record {
-        side = serves.side;
-        is_side = side;
-        free = free_on_border parts w serves.side (set.difference w serves.side) planes d u is are side.within
-            (rest_within w serves.side) (rest_apart w serves.side) nonzero border serves.free;
-      }
-
   point_along : (d : V3) → Serves parts w d → kind_of (signs_of planes d) ≡ Point → cross d v ≡ origin
   point_along d serves kind =
       let (g, h, g_in, h_in, independent, on_g, on_h) =
@@ -91,7 +61,7 @@ module _ (parts : List Part) (is : IsAssembly parts) (w : PartSet) (planes : Lis
   end_along : (d u : V3) → Serves parts w d → IsEnd planes (signs_of planes d) u → cross v u ≡ origin
   end_along d u serves end =
       cross_back u v (point_along u
-      (border_serves d u (vertex_some planes u apart end.vertex) end.border serves)
+      (border_serves parts w planes d u is are (vertex_some planes u apart end.vertex) end.border serves)
       (vertex_point planes u apart end.vertex))
 
   -- the two ends of an edge are not on one line
@@ -122,7 +92,7 @@ module _ (parts : List Part) (is : IsAssembly parts) (w : PartSet) (planes : Lis
       let edge = two.e_is in
       let cell = edge.cell in
       edge_serves_not cell.d
-      (border_serves d cell.d cell.nonzero
+      (border_serves parts w planes d cell.d is are cell.nonzero
       (subst (λ s. IsBorder s (signs_of planes d)) (sym cell.is) edge.border) serves)
       (ap kind_of cell.is ∙ edge.edge)
 
@@ -244,8 +214,7 @@ module _ (parts : List Part) (is : IsAssembly parts) (w : PartSet) (planes : Lis
       (IsFirst-in (λ u. signs_of planes u ≡ c.signs) (vertices planes) c.d entry.representative).1) in
       let (c, is_first, e) = first_below P (signs_of planes first) all.points listed.ascending
       (listed.all (signs_of planes first) (record { d = first; nonzero = free.moves; is = refl }, serves_point parts is w planes are v some lone first serves))
-      (λ x x_in same. cell_serves parts w serves.side planes first x.d is are serves.is_side free
-      (signs_in x x_in ∙ same))
+      (λ x x_in same. cell_serves parts w planes first x.d is are serves (signs_in x x_in ∙ same))
       (λ x x_in p. ⊎_elim {C = (x.signs ≡ signs_of planes first) ⊎ (signs_cmp (signs_of planes first) x.signs ≡ Less)}
       (λ same. inl (sym (signs_in x x_in) ∙ ap (signs_of planes) same)) (λ less. inr less)
       (at_point x (entry_of x x_in) p)) in

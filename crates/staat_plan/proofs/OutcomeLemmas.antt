@@ -1,30 +1,19 @@
 -- The outcome of a set from those of its two sides.
 use Rattle.std.proofs.Common.{◌≡◌, ℕ, ◌<◌, ◌≤◌, arith, sym, subst, refl, List, [], length}
-use Rattle.std.specs.Prelude.{Some}
+use Rattle.std.specs.Prelude.{Some, Bool}
 use Rattle.std.specs.FinSet as set
-use Rattle.staat_model.specs.declared.assembly.Part.{Part}
-use Rattle.staat_model.specs.declared.set.PartSet.{PartSet}
-use Rattle.std.specs.Prelude.{Bool}
-use Rattle.staat_plan.specs.declared.marked.Marked.{Marked}
-use Rattle.staat_model.specs.declared.tree.Outcome.{Outcome}
-use Rattle.staat_model.specs.Outcomes.{Finding, IsOutcome, both_planned, finding_of, moved_stuck, one_part, planned, rest_stuck, stuck}
-use Rattle.staat_model.specs.Plans.{leaf}
-use Rattle.staat_model.specs.Planes.{ArePlanes}
-use Rattle.staat_model.specs.Sets.{Has, IsNonempty, IsSide, IsSubset, below}
-use Rattle.staat_model.proofs.RestrictLemmas.{rest_within}
-use Rattle.staat_model.proofs.SomePlanes.{some_planes}
-use Rattle.staat_model.proofs.SetMembers.{has-difference}
+use Rattle.staat_model.specs.{Assemblies.IsAssembly, Plans.leaf, Sets.{Has, IsNonempty, IsSide, IsSubset, below}}
+use Rattle.staat_model.specs.{declared.assembly.Part.Part, declared.set.PartSet.PartSet, declared.tree.Outcome.Outcome}
+use Rattle.staat_model.proofs.{OtherSides.rest_some, RestrictLemmas.rest_within, SetMembers.has-difference}
 use Rattle.staat_model.proofs.SetSizes.{one_is, one_within}
+use Rattle.staat_model.specs.Outcomes.{Finding, IsOutcome, both_planned, finding_of, moved_stuck, one_part, planned, rest_stuck, stuck}
 use Rattle.staat_graph.proofs.Finite.{len_fewer, len_some}
+use Rattle.staat_pairs.specs.Tables.{Table}
 use Rattle.staat_planes.specs.Refusals.{IsTableWithin}
 use Rattle.staat_certify.specs.Certifying.{CanBeCertified, HasFewPlanes}
 use Rattle.staat_plan.specs.Planning.{IsOutcomeOf, Settles, IsSized, IsStepOf, joined_finding}
-use Rattle.staat_plan.proofs.OutcomeSizes.{outcome_sized}
-use Rattle.staat_pairs.specs.Tables.{Table}
-use Rattle.staat_model.specs.Assemblies.{IsAssembly}
-use Rattle.staat_plan.proofs.Right.{right_lemma}
-use Rattle.staat_plan.proofs.Fewer.{fewer_planes_lemma}
-use Rattle.staat_model.proofs.OtherSides.{rest_some}
+use Rattle.staat_plan.specs.declared.marked.Marked.{Marked}
+use Rattle.staat_plan.proofs.{Fewer.{few_inside, few_of_table}, OutcomeSizes.outcome_sized}
 
 -- both sides have fewer parts than the set
 pub side_fewer : (w s : PartSet) → IsSide w s → set.len s < set.len w
@@ -34,12 +23,6 @@ pub rest_fewer : (w s r : PartSet) → IsSide w s → r ≡ set.difference w s �
 rest_fewer w s r side e =
     let p = side.nonempty in
     subst (λ (t : PartSet). set.len t < set.len w) (sym e) (len_fewer (set.difference w s) w p.0 (rest_within w s) (side.within p.0 p.1) (λ h. ((has-difference w s p.0).0 h).1 p.1))
-
-pub rest_is_some : (w s r : PartSet) → IsSide w s → r ≡ set.difference w s → IsNonempty r
-rest_is_some w s r side e = subst (λ (t : PartSet). IsNonempty t) (sym e) (rest_some w s side)
-
-pub rest_inside : (w s r : PartSet) → r ≡ set.difference w s → IsSubset r w
-rest_inside w s r e q h = rest_within w s q (subst (λ (t : PartSet). Has t q) e h)
 
 -- a set with members that has not one has two or more
 pub many_parts : (w : PartSet) (n : ℕ) → IsNonempty w → n ≡ set.len w → (n ≡ 1 → ⊥) → 2 ≤ set.len w
@@ -73,27 +56,13 @@ module _ (robust : Bool) (parts : List Part) (is : IsAssembly parts) (limit : �
       → IsOutcome robust parts w (finding_of o) → IsOutcomeOf robust parts (below (length parts)) limit o
   all_found w t o all table outcome =
       let of = table.table in subst (λ (u : PartSet). IsOutcomeOf robust parts u limit o) all (record {
-        few = record {
-          planes = t.planes;
-          planes_are = subst (λ (u : PartSet). ArePlanes parts u t.planes) of.set of.made.planes;
-          few = table.few;
-        };
+        few = subst (λ (u : PartSet). HasFewPlanes parts u limit) of.set (few_of_table parts t limit of.made table.few);
         sized = sized w (finding_of o) outcome;
         is = outcome;
       })
 
-  certified : (f : Finding) → limit ≤ 1024 → Settles parts (below (length parts)) f → IsSized f
+  pub certified : (f : Finding) → limit ≤ 1024 → Settles parts (below (length parts)) f → IsSized f
       → HasFewPlanes parts (below (length parts)) limit → CanBeCertified parts f
   certified (planned plan marks) most right small few = (right, small)
   certified (stuck a) most right small few =
-      let (planes, are) = some_planes parts a in
-      let le = fewer_planes_lemma parts a (below (length parts)) planes few.planes right.0 are few.planes_are in
-      (right.1, record { planes = planes; planes_are = are; few = omega (arith, le, few.few, most) })
-
-  pub all_right : (o : Outcome) → IsOutcomeOf robust parts (below (length parts)) limit o
-      → Settles parts (below (length parts)) (finding_of o)
-  all_right o of = right_lemma robust parts is (below (length parts)) (finding_of o) of.is
-
-  pub all_certified : (o : Outcome) → limit ≤ 1024 → IsOutcomeOf robust parts (below (length parts)) limit o
-      → CanBeCertified parts (finding_of o)
-  all_certified o most of = certified (finding_of o) most (all_right o of) of.sized of.few
+      (right.1, few_inside parts a (below (length parts)) limit 1024 most right.0 few)

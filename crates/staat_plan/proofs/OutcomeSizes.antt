@@ -1,41 +1,26 @@
 -- The directions of a plan that is found are within the bound, so that its certificate is never too long.
+use Rattle.std.proofs.lemmas.List.Elements.{All-append, All-contains, All-map, Contains-append_cases}
 use Rattle.std.proofs.Common.{inl, inr, ℕ, ◌≤◌, lit≤, sym, subst, Bool, true, false, List, ◌++◌, length, All, Contains, get_or}
 use Rattle.std.specs.FinSet as set
-use Rattle.std.proofs.lemmas.List.Elements.{All-append, All-contains, All-map, Contains-append_cases}
+use Rattle.staat_limits.specs.{Versions.IsVersion, declared.limits.TheConstants.TEXT_LIMIT}
+use Rattle.staat_vec.specs.{Vectors.IsWithin, declared.vector.TheConstants.{DIRECTION, NORMAL, VERTEX}}
 use Rattle.staat_vec.specs.declared.vector.V3.{V3}
-use Rattle.staat_vec.specs.declared.vector.TheConstants.{DIRECTION, NORMAL, VERTEX}
-use Rattle.staat_vec.specs.Vectors.{IsWithin}
-use Rattle.staat_vec.proofs.Bounds.{IsWithin-wider}
-use Rattle.staat_vec.proofs.Canons.{IsWithin-canon}
-use Rattle.staat_vec.proofs.Unique.{IsFirst-in}
-use Rattle.staat_limits.specs.Versions.{IsVersion}
-use Rattle.staat_limits.specs.declared.limits.TheConstants.{TEXT_LIMIT}
-use Rattle.staat_cone.proofs.SourceSizes.{facet_within}
-use Rattle.staat_model.specs.declared.assembly.Part.{Part}
-use Rattle.staat_model.specs.declared.certificate.Certificate.{Certificate}
-use Rattle.staat_model.specs.declared.set.PartSet.{PartSet}
-use Rattle.staat_model.specs.declared.tree.Kind.{Kind}
-use Rattle.staat_model.specs.declared.tree.Kind.TheVariants.{Edge, Open, Point}
-use Rattle.staat_model.specs.Assemblies.{IsAssembly}
-use Rattle.staat_model.specs.Cells.{AreCellsOf, CellEntry}
-use Rattle.staat_model.specs.Certify.{IsCertificateOf}
+use Rattle.staat_vec.proofs.{Bounds.IsWithin-wider, Canons.IsWithin-canon, Unique.IsFirst-in}
+use Rattle.staat_model.specs.{Assemblies.IsAssembly, Cells.{AreCellsOf, CellEntry}, Certify.IsCertificateOf}
 use Rattle.staat_model.specs.Outcomes.{AreTries, IsOutcome, Serves, Try, both_planned, one_part, planned}
-use Rattle.staat_model.specs.Outcomes.{try_cell, try_vertex}
-use Rattle.staat_model.specs.Planes.{ArePlanes, axes, vertices}
-use Rattle.staat_model.specs.Plans.{IsGood, Plan}
-use Rattle.staat_model.specs.Sets.{below}
-use Rattle.staat_model.specs.Texts.{text_of}
-use Rattle.staat_model.proofs.GraphLemmas.{piece_is}
-use Rattle.staat_model.proofs.Members.{All-from_members}
+use Rattle.staat_model.specs.{Outcomes.{try_cell, try_vertex}, Planes.{ArePlanes, axes, vertices}, Plans.{IsGood, Plan}}
+use Rattle.staat_model.specs.{Sets.below, Texts.text_of, declared.assembly.Part.Part}
+use Rattle.staat_model.specs.{declared.certificate.Certificate.Certificate, declared.set.PartSet.PartSet}
+use Rattle.staat_model.specs.{declared.tree.Kind.Kind, declared.tree.Kind.TheVariants.{Edge, Open, Point}}
+use Rattle.staat_model.proofs.{GraphLemmas.piece_is, Members.All-from_members}
 use Rattle.staat_model.proofs.PlaneLemmas.{IsNormal, plane_normal, planes_apart}
+use Rattle.staat_cone.proofs.SourceSizes.{facet_within}
 use Rattle.staat_pairs.specs.Tables.{AreTablePlanes, IsPlaneNormal}
 use Rattle.staat_pairs.proofs.BuildLemmas.{none_parallel, axis_within}
-use Rattle.staat_cells.proofs.TableRules.{vertex_small}
-use Rattle.staat_cells.proofs.WholeLists.{cell_small}
+use Rattle.staat_cells.proofs.{TableRules.vertex_small, WholeLists.cell_small}
 use Rattle.staat_certify.specs.Plans.{AreWithin}
-use Rattle.staat_certify.proofs.CertificateSizes.{plan_text_short}
+use Rattle.staat_certify.proofs.{CertificateSizes.plan_text_short, SomeCertificate.some_plan_certificate}
 use Rattle.staat_plan.proofs.Right.{right_lemma}
-use Rattle.staat_certify.proofs.SomeCertificate.{some_plan_certificate}
 
 -- ---- the planes of a set of parts are those of a table
 

@@ -2,17 +2,11 @@
 use Rattle.std.proofs.Common.{◌≡◌, ◌⊎◌, inl, inr, ⊎_elim, ◌≤◌, Bool, sym, ◌∙◌, subst, List}
 use Rattle.std.specs.FinSet as set
 use Rattle.staat_vec.specs.declared.vector.V3.{V3}
-use Rattle.staat_model.specs.declared.assembly.Part.{Part}
-use Rattle.staat_model.specs.declared.set.PartSet.{PartSet}
-use Rattle.staat_model.specs.Assemblies.{IsAssembly}
+use Rattle.staat_model.specs.{Assemblies.IsAssembly, Plans.{IsGood, IsStuck, Plan, parts_of, split}, Removal.IsFree}
+use Rattle.staat_model.specs.{Sets.{AreApart, Has, IsSubset}, declared.assembly.Part.Part, declared.set.PartSet.PartSet}
+use Rattle.staat_model.proofs.{FreeSides.member_or, RestrictLemmas.{rest_apart, rest_within}}
+use Rattle.staat_model.proofs.{SetMembers.{has-difference, has-union}, SetWords.same_members}
 use Rattle.staat_model.specs.Outcomes.{Finding, HasNoStep, IsOutcome, both_planned, moved_stuck, no_step, one_part, planned, rest_stuck, stuck}
-use Rattle.staat_model.specs.Plans.{IsGood, IsStuck, Plan, parts_of, split}
-use Rattle.staat_model.specs.Removal.{IsFree}
-use Rattle.staat_model.specs.Sets.{AreApart, Has, IsSubset}
-use Rattle.staat_model.proofs.FreeSides.{member_or}
-use Rattle.staat_model.proofs.RestrictLemmas.{rest_apart, rest_within}
-use Rattle.staat_model.proofs.SetMembers.{has-difference, has-union}
-use Rattle.staat_model.proofs.SetWords.{same_members}
 use Rattle.staat_plan.specs.Planning.{Settles}
 use Rattle.staat_plan.proofs.Tries.{tries_held}
 

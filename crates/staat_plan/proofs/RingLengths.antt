@@ -1,15 +1,12 @@
 -- The lengths of the circles so far.
-use Rattle.std.proofs.Common.{◌≡◌, ⊎_elim, ℕ, ◌+◌, ◌<◌, ◌≤◌, arith, ap, sym, subst, ◌∙◌, refl, List, [], ◌∷◌, length, Contains, cond}
-use Rattle.std.specs.Prelude.{nat_lt}
-use Rattle.std.specs.Ordering.{nat_cmp}
-use Rattle.std.specs.List.Sorted.{IsStrictlySortedBy}
+use Rattle.std.specs.{List.Sorted.IsStrictlySortedBy, Ordering.nat_cmp, Prelude.nat_lt}
 use Rattle.std.proofs.lemmas.List.Sums.{sum_by-cons, sum_by-le-sum_by}
+use Rattle.std.proofs.Common.{◌≡◌, ⊎_elim, ℕ, ◌+◌, ◌<◌, ◌≤◌, arith, ap, sym, subst, ◌∙◌, refl, List, [], ◌∷◌, length, Contains, cond}
+use Rattle.staat_vec.proofs.{Comparisons.{head_less, tail_sorted}, ListLaws.Contains-map}
+use Rattle.staat_vec.proofs.Naturals.{lt_test_false, lt_test, lt_or_le, trichotomy}
 use Rattle.staat_vec.proofs.Unique.{Contains-cases, Contains-front, Contains-later, Contains-nothing}
 use Rattle.staat_ring.specs.Rings.{Ring, linked_of}
 use Rattle.staat_plan.specs.RingSearches.{lengths_below}
-use Rattle.staat_vec.proofs.Naturals.{lt_test_false, lt_test, lt_or_le, trichotomy}
-use Rattle.staat_vec.proofs.ListLaws.{Contains-map}
-use Rattle.staat_vec.proofs.Comparisons.{head_less, tail_sorted}
 
 abbrev share : ℕ → Ring → ℕ
 share k r = cond (nat_lt r.plane k) (length r.stops) 0

@@ -1,34 +1,21 @@
 -- What the walk finds at its vertex.
-use Rattle.std.proofs.Common.{◌≡◌, ◌≢◌, ◌↔◌, inl, inr, ⊎_elim, ℕ, ◌+◌, ◌<◌, ◌≤◌, arith, ap, sym, subst, ◌∙◌, List, [], ◌∷◌, length, Contains}
-use Rattle.std.specs.Prelude.{Option, Some, map, slice_get}
-use Rattle.std.specs.Ordering.{nat_cmp}
-use Rattle.std.specs.List.Sorted.{IsStrictlySortedBy}
+use Rattle.std.specs.{List.Sorted.IsStrictlySortedBy, Ordering.nat_cmp, Prelude.{Option, Some, map, slice_get}}
 use Rattle.std.proofs.lemmas.Option.{same_Some}
-use Rattle.staat_vec.specs.declared.vector.V3.{V3}
-use Rattle.staat_vec.specs.Lists.{IsFirst}
-use Rattle.staat_vec.specs.Vectors.{origin}
-use Rattle.staat_vec.proofs.Unique.{Contains-cases, IsFirst-in}
-use Rattle.staat_model.specs.declared.assembly.Part.{Part}
+use Rattle.std.proofs.Common.{◌≡◌, ◌≢◌, ◌↔◌, inl, inr, ⊎_elim, ℕ, ◌+◌, ◌<◌, ◌≤◌, arith, ap, sym, subst, ◌∙◌, List, [], ◌∷◌, length, Contains}
+use Rattle.staat_vec.specs.{Lists.IsFirst, Vectors.origin, declared.vector.V3.V3}
+use Rattle.staat_vec.proofs.{Comparisons.{head_less, tail_sorted}, ListLaws.Contains-map}
+use Rattle.staat_vec.proofs.{Naturals.{le_from_not_lt, lt_one_more_cases}, Unique.{Contains-cases, IsFirst-in}}
+use Rattle.staat_model.specs.{Outcomes.Serves, Removal.Blocks, declared.assembly.Part.Part}
 use Rattle.staat_model.specs.declared.set.PartSet.{PartSet}
-use Rattle.staat_model.specs.Outcomes.{Serves}
-use Rattle.staat_model.specs.Removal.{Blocks}
-use Rattle.staat_graph.specs.Blocking.{ShowsBlocking}
-use Rattle.staat_graph.specs.Graphs.{HasArc, IsFirstSink, IsStrong}
+use Rattle.staat_graph.specs.{Blocking.ShowsBlocking, Graphs.{HasArc, IsFirstSink, IsStrong}}
 use Rattle.staat_graph.proofs.Sides.{moved_of_first, serves_of_weak, weak_of_serves}
-use Rattle.staat_ring.specs.declared.entry.Entry.{Entry}
 use Rattle.staat_pairs.specs.Tables.{AreTablePlanes}
-use Rattle.staat_ring.specs.Places.{IsStopAt}
-use Rattle.staat_ring.specs.Rings.{Ring, RingStop, vertex_of}
-use Rattle.staat_ring.specs.Rings.{AreRings}
-use Rattle.staat_ring.specs.Walked.{IsEntered, Walked}
-use Rattle.staat_ring.proofs.StopLemmas.{entries_ascend, entry_small, one_stop, vertex_some}
-use Rattle.staat_ring.proofs.Strength.{strong_same}
-use Rattle.staat_plan.specs.declared.ring_step.Serving.{Serving}
+use Rattle.staat_ring.specs.{Places.IsStopAt, Rings.{Ring, RingStop, vertex_of, AreRings}, Walked.{IsEntered, Walked}}
+use Rattle.staat_ring.specs.declared.entry.Entry.{Entry}
+use Rattle.staat_ring.proofs.{StopLemmas.{entries_ascend, entry_small, one_stop, vertex_some}, Strength.strong_same}
 use Rattle.staat_plan.specs.RingSearches.{IsBest, IsLater, IsNoLater, IsServing, pair_key}
-use Rattle.staat_vec.proofs.Naturals.{le_from_not_lt, lt_one_more_cases}
+use Rattle.staat_plan.specs.declared.ring_step.Serving.{Serving}
 use Rattle.staat_plan.proofs.RingPairs.{order_less}
-use Rattle.staat_vec.proofs.ListLaws.{Contains-map}
-use Rattle.staat_vec.proofs.Comparisons.{head_less, tail_sorted}
 
 -- of ascending entries the first beyond i comes before any other beyond i
 pub first_least : (i : ℕ) (es : List Entry) (x e : Entry) → IsStrictlySortedBy nat_cmp (map (λ e. e.plane) es) → IsFirst (λ x. i < x.plane) es x → Contains es e → i < e.plane → pair_key x ≤ pair_key e
@@ -46,8 +33,8 @@ first_least i (y ∷ es) x e s (inr h) c lt = ⊎_elim {C = pair_key x ≤ pair_
     (Contains-cases y es e c)
 
 -- one stop more: what is found is right, no later than what was found before, and no later than what serves there
-module _ (parts : List Part) (planes : List V3) (w : PartSet) (i : ℕ) (stops : List RingStop) (m : ℕ)
-    (best : Option Serving) (s : RingStop) (is : IsBest parts planes w i stops m best) (at : slice_get stops m ≡ Some s)
+module _ {parts : List Part} {planes : List V3} {w : PartSet} {i : ℕ} {stops : List RingStop} {m : ℕ}
+    {best : Option Serving} {s : RingStop} (is : IsBest parts planes w i stops m best) (at : slice_get stops m ≡ Some s)
   where
     pub one_more : (result : Option Serving)
         → ((f : Serving) → result ≡ Some f → (t : RingStop) × Contains stops t × IsServing parts planes w i t f)
@@ -103,8 +90,8 @@ pub record StandsAt (planes : List V3) (rings : List Ring) (w : Walked) (i : ℕ
   pub ascend : IsStrictlySortedBy nat_cmp (map (λ e. e.plane) s.entries)
   pub at : IsStopAt rings w.circle w.place s
 
-module _ (planes : List V3) (rings : List Ring) (out : List ℕ) (table : AreTablePlanes planes)
-    (are : AreRings planes rings out) (w : Walked) (i : ℕ) (circle : w.circle ≡ i)
+module _ {planes : List V3} {rings : List Ring} {out : List ℕ} {w : Walked} {i : ℕ} (table : AreTablePlanes planes)
+    (are : AreRings planes rings out) (circle : w.circle ≡ i)
     (entered : IsEntered planes rings w) where
   abbrev stop_at : IsStopAt rings i w.place entered.stop
   stop_at = subst (λ c. IsStopAt rings c w.place entered.stop) circle entered.at

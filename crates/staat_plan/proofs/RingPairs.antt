@@ -1,18 +1,12 @@
 -- The first vertex in the order of pairs, by the numbers of the two planes.
-use Rattle.std.proofs.Common.{◌≡◌, inl, inr, ⊎_elim, ℕ, ◌+◌, ◌*◌, ◌<◌, ◌≤◌, Bool, true, false, if◌then◌else◌, arith, ap, sym, subst, refl, List, [], ◌∷◌, ◌++◌, All, Contains}
-use Rattle.std.specs.Prelude.{map}
-use Rattle.std.specs.Ordering.{nat_cmp}
-use Rattle.std.specs.List.Sorted.{IsStrictlySortedBy}
+use Rattle.std.specs.{List.Sorted.IsStrictlySortedBy, Ordering.nat_cmp, Prelude.map}
 use Rattle.std.proofs.lemmas.List.Elements.{All-append, All-cons, All-nil}
-use Rattle.staat_vec.specs.declared.vector.V3.{V3}
-use Rattle.staat_vec.specs.Lists.{IsFirst}
-use Rattle.staat_vec.specs.Primitives.{primitive}
-use Rattle.staat_vec.specs.Vectors.{cross}
+use Rattle.std.proofs.Common.{◌≡◌, inl, inr, ⊎_elim, ℕ, ◌+◌, ◌*◌, ◌<◌, ◌≤◌, Bool, true, false, if◌then◌else◌, arith, ap, sym, subst, refl, List, [], ◌∷◌, ◌++◌, All, Contains}
+use Rattle.staat_vec.specs.{Lists.IsFirst, Primitives.primitive, Vectors.cross, declared.vector.V3.V3}
+use Rattle.staat_vec.proofs.{Comparisons.{head_less, tail_sorted}, ListLaws.{first_right, first_left}}
 use Rattle.staat_vec.proofs.Unique.{Contains-cases, Contains-front, Contains-later, Contains-nothing}
 use Rattle.staat_model.specs.Planes.{crossings, vertices}
 use Rattle.staat_ring.specs.Rings.{facet_by}
-use Rattle.staat_vec.proofs.Comparisons.{head_less, tail_sorted}
-use Rattle.staat_vec.proofs.ListLaws.{first_right, first_left}
 
 -- a crossing with a lesser plane comes before
 pub order_less : (k j : ℕ) (c b : Bool) → k < j → 2 * j + (if b then 1 else 0) ≤ 2 * k + (if c then 1 else 0) → ⊥

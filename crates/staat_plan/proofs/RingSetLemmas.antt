@@ -1,17 +1,13 @@
 -- Which planes are linked while those that are none of a set of parts are taken out.
 use Rattle.std.proofs.Common.{◌≡◌, ◌≢◌, inl, inr, ℕ, ◌+◌, Bool, not, arith, ap, sym, subst, ◌∙◌, List, []}
 use Rattle.std.proofs.Common.{length, Contains}
-use Rattle.std.specs.Prelude.{◌==◌}
-use Rattle.std.specs.List.{filter}
-use Rattle.staat_vec.proofs.Naturals.{apart_from_test, eq_test_false, lt_or_le, same_or}
-use Rattle.staat_vec.proofs.Unique.{Contains-nothing}
+use Rattle.std.specs.{List.filter, Prelude.◌==◌}
+use Rattle.staat_vec.proofs.{Naturals.{apart_from_test, eq_test_false, lt_or_le, same_or}, Unique.Contains-nothing}
 use Rattle.staat_model.specs.declared.set.PartSet.{PartSet}
 use Rattle.staat_pairs.specs.Tables.{Table}
 use Rattle.staat_planes.specs.MarkedPlanes.{AreUsedMarks, IsPlaneMarked}
-use Rattle.staat_ring.specs.Rings.{Arrangement, WereMadeFrom, linked_of, unlinked_of}
-use Rattle.staat_ring.specs.Without.{IsUnlinked}
-use Rattle.staat_ring.proofs.RingsWithout.{linked_without}
-use Rattle.staat_ring.proofs.WithoutLemmas.{filter_from, filter_in}
+use Rattle.staat_ring.specs.{Rings.{Arrangement, WereMadeFrom, linked_of, unlinked_of}, Without.IsUnlinked}
+use Rattle.staat_ring.proofs.{RingsWithout.linked_without, WithoutLemmas.{filter_from, filter_in}}
 use Rattle.staat_plan.specs.RingSets.{AreLinkedOrPast}
 
 -- all planes are linked at first, and the coordinate planes are marked

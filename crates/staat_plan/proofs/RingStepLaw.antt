@@ -1,33 +1,22 @@
 -- The first vertex that serves, from what is found on the circles.
-use Rattle.std.proofs.Common.{◌≡◌, ◌↔◌, ⊎_elim, ℕ, ◌+◌, ◌*◌, ◌<◌, ◌≤◌, false, arith, ap, sym, subst, ◌∙◌, refl, List, length, Contains}
 use Rattle.std.specs.Prelude.{MatchOption, Option, Some, None, if◌then◌else◌, map, slice_get}
+use Rattle.std.proofs.{lemmas.List.Elements.All-contains, lemmas.Option.{slice_get-get_or, slice_get_within, same_Some}}
+use Rattle.std.proofs.Common.{◌≡◌, ◌↔◌, ⊎_elim, ℕ, ◌+◌, ◌*◌, ◌<◌, ◌≤◌, false, arith, ap, sym, subst, ◌∙◌, refl, List, length, Contains}
 use Rattle.std.specs.FinSet as set
-use Rattle.std.proofs.lemmas.List.Elements.{All-contains}
-use Rattle.std.proofs.lemmas.Option.{slice_get-get_or, slice_get_within, same_Some}
-use Rattle.staat_vec.specs.declared.vector.V3.{V3}
-use Rattle.staat_vec.specs.Vectors.{origin}
-use Rattle.staat_model.specs.declared.assembly.Part.{Part}
+use Rattle.staat_vec.specs.{Vectors.origin, declared.vector.V3.V3}
+use Rattle.staat_vec.proofs.{ListLaws.{Contains-from_map, Contains-map}, Naturals.lt_one_more_cases, Options.none_some}
+use Rattle.staat_model.specs.{Circles.IsLinked, Outcomes.{HasNoStep, IsMovedSide, IsStep, Serves, try_vertex}}
+use Rattle.staat_model.specs.{Planes.ArePlanes, Sets.IsSubset, declared.assembly.Part.Part}
 use Rattle.staat_model.specs.declared.set.PartSet.{PartSet}
-use Rattle.staat_model.specs.Circles.{IsLinked}
-use Rattle.staat_model.specs.Outcomes.{HasNoStep, IsMovedSide, IsStep, Serves, try_vertex}
-use Rattle.staat_model.specs.Planes.{ArePlanes}
-use Rattle.staat_model.specs.Sets.{IsSubset}
 use Rattle.staat_pairs.specs.Tables.{IsTable, Table, WasMadeFrom}
-use Rattle.staat_planes.specs.Tables.{IsPlaneOf}
-use Rattle.staat_ring.specs.declared.entry.Entry.{Entry}
-use Rattle.staat_ring.specs.Rings.{IsRingOf, Ring, RingStop, crossing, linked_of, vertex_of}
-use Rattle.staat_ring.specs.Rings.{AreRings}
-use Rattle.staat_planes.specs.PairOrder.{plane_at}
-use Rattle.staat_ring.proofs.CircleStops.{entry_there, entry_vertex}
-use Rattle.staat_ring.proofs.Stops.{none_parallel}
-use Rattle.staat_plan.specs.declared.ring_step.Serving.{Serving}
-use Rattle.staat_plan.specs.RingSearches.{HasServing, IsBest, IsServing, NoneServes, pair_key}
+use Rattle.staat_planes.specs.{PairOrder.plane_at, Tables.IsPlaneOf}
 use Rattle.staat_planes.proofs.UsedPlanes.{numbered_planes}
-use Rattle.staat_plan.proofs.RingPairs.{first_pair, no_pairs}
-use Rattle.staat_vec.proofs.Naturals.{lt_one_more_cases}
-use Rattle.staat_vec.proofs.Options.{none_some}
-use Rattle.staat_plan.proofs.StepLemmas.{no_step, step_is}
-use Rattle.staat_vec.proofs.ListLaws.{Contains-from_map, Contains-map}
+use Rattle.staat_ring.specs.Rings.{IsRingOf, Ring, RingStop, crossing, linked_of, vertex_of, AreRings}
+use Rattle.staat_ring.specs.declared.entry.Entry.{Entry}
+use Rattle.staat_ring.proofs.{CircleStops.{entry_there, entry_vertex}, Stops.none_parallel}
+use Rattle.staat_plan.specs.RingSearches.{HasServing, IsBest, IsServing, NoneServes, pair_key}
+use Rattle.staat_plan.specs.declared.ring_step.Serving.{Serving}
+use Rattle.staat_plan.proofs.{RingPairs.{first_pair, no_pairs}, StepLemmas.{no_step, step_is}}
 
 module _ (parts : List Part) (t : Table) (w : PartSet) (rules : IsTable t) (rings : List Ring) (out : List ℕ) (are : AreRings t.planes rings out) (made : WasMadeFrom parts t) (within : IsSubset w t.of)
     (linked : (k : ℕ) (n : V3) → slice_get t.planes k ≡ Some n → Contains (linked_of rings) k ↔ IsPlaneOf parts w n) where

@@ -1,17 +1,12 @@
 -- The facets that stand in a table are those of pieces with the same points.
-use Rattle.std.proofs.Common.{◌≡◌, ◌∙◌, List, sym, subst}
-use Rattle.std.proofs.Common.{rules, true}
+use Rattle.std.proofs.Common.{◌≡◌, ◌∙◌, List, sym, subst, rules, true}
 use Rattle.std.specs.Prelude.{Some}
 use lib.Pointwise.{pointwise, pointwise_decides}
-use Rattle.staat_vec.specs.contracts.vector.V3PartialEq.TheImpl.{eq-value}
+use Rattle.staat_vec.specs.{Lists.Lists, Vectors.vector_cmp, contracts.vector.V3PartialEq.TheImpl.eq-value}
 use Rattle.staat_vec.specs.declared.vector.V3.{V3}
-use Rattle.staat_vec.specs.Lists.{Lists}
-use Rattle.staat_vec.specs.Vectors.{vector_cmp}
 use Rattle.staat_vec.proofs.Options.{some_injective}
-use Rattle.staat_model.specs.declared.assembly.Part.{Part}
+use Rattle.staat_model.specs.{Assemblies.piece_at, Facets.IsFacet, declared.assembly.Part.Part}
 use Rattle.staat_model.specs.declared.certificate.Arc.{Arc}
-use Rattle.staat_model.specs.Assemblies.{piece_at}
-use Rattle.staat_model.specs.Facets.{IsFacet}
 use Rattle.staat_pairs.specs.Tables.{IsTableArc, Table, WasMadeFrom, facets_of}
 
 pub facets_listed : (parts : List Part) (t : Table) (arc : Arc) (p q list : List V3) → WasMadeFrom parts t → IsTableArc t arc → piece_at parts arc.a arc.i ≡ Some p → piece_at parts arc.b arc.j ≡ Some q → list ≡ facets_of t arc → Lists vector_cmp (IsFacet p q) list

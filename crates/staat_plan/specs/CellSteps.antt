@@ -1,12 +1,9 @@
 -- The first step along representatives of cells.
 use Rattle.std.specs.Prelude.{◌≡◌, ◌≢◌, List, Option}
 use Rattle.staat_vec.specs.Vectors.{origin}
-use Rattle.staat_model.specs.declared.assembly.Part.{Part}
-use Rattle.staat_model.specs.Cells.{CellEntry, signs_of}
-use Rattle.staat_model.specs.Outcomes.{try_cell}
+use Rattle.staat_model.specs.{Cells.{CellEntry, signs_of}, Outcomes.try_cell, declared.assembly.Part.Part}
 use Rattle.staat_pairs.specs.Tables.{Table, WasMadeFrom}
-use Rattle.staat_plan.specs.declared.marked.Marked.{Marked}
-use Rattle.staat_plan.specs.Planning.{IsFoundAmong}
+use Rattle.staat_plan.specs.{Planning.IsFoundAmong, declared.marked.Marked.Marked}
 
 -- the representative lies in the cell
 pub record IsTableCell (t : Table) (c : CellEntry) : Type 0 where

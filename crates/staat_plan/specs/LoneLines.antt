@@ -1,10 +1,7 @@
 -- Sets of parts that come apart along one line alone.
 use Rattle.std.specs.Prelude.{◌≡◌, ◌⊎◌, List, All, pos}
-use Rattle.staat_vec.specs.declared.vector.V3.{V3}
-use Rattle.staat_vec.specs.Vectors.{dot}
-use Rattle.staat_model.specs.declared.assembly.Part.{Part}
-use Rattle.staat_model.specs.declared.set.PartSet.{PartSet}
-use Rattle.staat_model.specs.Outcomes.{Serves}
+use Rattle.staat_vec.specs.{Vectors.dot, declared.vector.V3.V3}
+use Rattle.staat_model.specs.{Outcomes.Serves, declared.assembly.Part.Part, declared.set.PartSet.PartSet}
 
 -- along no direction on the plane with the normal g some side of w is free of the rest
 abbrev pub NoneServesOn : List Part → PartSet → V3 → Type 0

@@ -1,16 +1,11 @@
 -- What the marks of a robust plan say.
 use Rattle.std.specs.Prelude.{◌≡◌, ◌≢◌, ℕ, List, [], ◌∷◌, ◌++◌, All, Contains, pos}
 use Rattle.std.specs.FinSet as set
-use Rattle.staat_vec.specs.declared.vector.V3.{V3}
-use Rattle.staat_vec.specs.Primitives.{IsPrimitiveOf}
-use Rattle.staat_vec.specs.Vectors.{dot}
-use Rattle.staat_model.specs.declared.assembly.Part.{Part}
-use Rattle.staat_model.specs.declared.set.PartSet.{PartSet}
-use Rattle.staat_model.specs.declared.tree.Kind.{Kind}
+use Rattle.staat_vec.specs.{Primitives.IsPrimitiveOf, Vectors.dot, declared.vector.V3.V3}
+use Rattle.staat_model.specs.{Outcomes.{Finding, Serves, Try, planned, stuck}, Planes.{ArePlanes, vertices}}
+use Rattle.staat_model.specs.{Plans.{Plan, leaf, parts_of, split}, declared.assembly.Part.Part}
+use Rattle.staat_model.specs.{declared.set.PartSet.PartSet, declared.tree.Kind.Kind}
 use Rattle.staat_model.specs.declared.tree.Kind.TheVariants.{Edge, Open, Point}
-use Rattle.staat_model.specs.Outcomes.{Finding, Serves, Try, planned, stuck}
-use Rattle.staat_model.specs.Planes.{ArePlanes, vertices}
-use Rattle.staat_model.specs.Plans.{Plan, leaf, parts_of, split}
 
 -- the direction lies off all planes of w
 abbrev pub IsOffPlanes : List Part → PartSet → V3 → Type 0

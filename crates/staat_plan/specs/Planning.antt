@@ -1,28 +1,16 @@
 -- What the planner finds for a set of parts.
-use Rattle.std.specs.Prelude.{◌≡◌, ◌≤◌, ◌++◌, ℕ, List, Option, Bool, All}
-use Rattle.std.specs.Prelude.{MatchOption, false, length, true, ⊤}
 use Rattle.std.specs.Option.{option_to_list}
-use Rattle.staat_vec.specs.declared.vector.TheConstants.{DIRECTION}
-use Rattle.staat_vec.specs.declared.vector.V3.{V3}
-use Rattle.staat_vec.specs.Lists.{IsFirst}
-use Rattle.staat_model.specs.declared.assembly.Part.{Part}
-use Rattle.staat_model.specs.declared.set.PartSet.{PartSet}
-use Rattle.staat_model.specs.declared.tree.Outcome.{Outcome}
-use Rattle.staat_model.specs.declared.tree.Step.{Step}
+use Rattle.std.specs.Prelude.{◌≡◌, ◌≤◌, ◌++◌, ℕ, List, Option, Bool, All, MatchOption, false, length, true, ⊤}
 use Rattle.staat_limits.specs.declared.limits.TheConstants.{LEAST_PLANES, MOST_CELL_PLANES, MOST_PLANES}
+use Rattle.staat_vec.specs.{Lists.IsFirst, declared.vector.TheConstants.DIRECTION, declared.vector.V3.V3}
 use Rattle.staat_model.specs.Outcomes.{Finding, HasNoStep, IsMovedSide, IsOutcome, IsStep, Serves, Try, finding_of}
-use Rattle.staat_model.specs.Outcomes.{planned, stuck, try_vertex}
-use Rattle.staat_model.specs.Planes.{ArePlanes, vertices}
-use Rattle.staat_model.specs.Plans.{IsGood, IsStuck, split}
-use Rattle.staat_model.specs.Sets.{IsSubset, below}
+use Rattle.staat_model.specs.{Outcomes.{planned, stuck, try_vertex}, Planes.{ArePlanes, vertices}}
+use Rattle.staat_model.specs.{Plans.{IsGood, IsStuck, split}, Sets.{IsSubset, below}, declared.assembly.Part.Part}
+use Rattle.staat_model.specs.{declared.set.PartSet.PartSet, declared.tree.Outcome.Outcome, declared.tree.Step.Step}
 use Rattle.staat_pairs.specs.Tables.{Table, WasMadeFrom}
-use Rattle.staat_planes.specs.declared.search.Search.{Search}
-use Rattle.staat_planes.specs.Refusals.{IsTableWithin}
-use Rattle.staat_planes.specs.VertexSearch.{IsFirstUnless}
-use Rattle.staat_certify.specs.Certifying.{HasFewPlanes}
-use Rattle.staat_certify.specs.Plans.{AreWithin}
-use Rattle.staat_plan.specs.declared.marked.Marked.{Marked}
-use Rattle.staat_plan.specs.declared.planner.Options.{Options}
+use Rattle.staat_planes.specs.{Refusals.IsTableWithin, VertexSearch.IsFirstUnless, declared.search.Search.Search}
+use Rattle.staat_certify.specs.{Certifying.HasFewPlanes, Plans.AreWithin}
+use Rattle.staat_plan.specs.{declared.marked.Marked.Marked, declared.planner.Options.Options}
 
 -- the table is that of all parts and has no more planes than are allowed, and so many are within the limits
 pub record IsPlanner (parts : List Part) (t : Table) (options : Options) : Type 0 where

@@ -1,25 +1,9 @@
 -- What a walk along a circle finds: the first of the vertices that serve, in the order of pairs of planes.
-use Rattle.std.specs.Prelude.{
-  ◌≡◌,
-  ℕ,
-  ◌+◌,
-  ◌*◌,
-  ◌<◌,
-  ◌≤◌,
-  ◌==◌,
-  List,
-  Option,
-  Some,
-  Contains,
-}
+use Rattle.std.specs.{List.sum_by, Prelude.{◌≡◌, ℕ, ◌+◌, ◌*◌, ◌<◌, ◌≤◌, ◌==◌, List, Option, Some, Contains}}
 use Rattle.std.specs.Prelude.{cond, if◌then◌else◌, length, nat_lt, slice_get}
-use Rattle.std.specs.List.{sum_by}
 use Rattle.staat_vec.specs.declared.vector.V3.{V3}
-use Rattle.staat_model.specs.declared.assembly.Part.{Part}
-use Rattle.staat_model.specs.declared.set.PartSet.{PartSet}
-use Rattle.staat_model.specs.Outcomes.{IsMovedSide, Serves}
-use Rattle.staat_ring.specs.declared.entry.Entry.{Entry}
-use Rattle.staat_ring.specs.Rings.{Ring, RingStop, crossing, vertex_of}
+use Rattle.staat_model.specs.{Outcomes.{IsMovedSide, Serves}, declared.assembly.Part.Part, declared.set.PartSet.PartSet}
+use Rattle.staat_ring.specs.{Rings.{Ring, RingStop, crossing, vertex_of}, declared.entry.Entry.Entry}
 use Rattle.staat_plan.specs.declared.ring_step.Serving.{Serving}
 
 -- the order of the vertices on one circle: by the number of the plane, and the crossing before its negative

@@ -1,11 +1,9 @@
 -- Rings of a table from which the planes that are none of a set of parts are taken out in their turn.
-use Rattle.std.specs.Prelude.{◌≡◌, ◌⊎◌, ◌↔◌, ℕ, ◌<◌, ◌≤◌, Bool}
-use Rattle.std.specs.Prelude.{List, [], Contains, Option, IfSome}
+use Rattle.std.specs.Prelude.{◌≡◌, ◌⊎◌, ◌↔◌, ℕ, ◌<◌, ◌≤◌, Bool, List, [], Contains, Option, IfSome}
 use Rattle.staat_pairs.specs.Tables.{Table}
 use Rattle.staat_planes.specs.MarkedPlanes.{IsPlaneMarked}
+use Rattle.staat_ring.specs.{Rings.{Arrangement, WereMadeFrom}, Walked.{WalkWasMadeFrom, Walked}}
 use Rattle.staat_plan.specs.declared.walker.Walker.{Walker}
-use Rattle.staat_ring.specs.Rings.{Arrangement, WereMadeFrom}
-use Rattle.staat_ring.specs.Walked.{WalkWasMadeFrom, Walked}
 
 -- of so many planes those from k on are linked and those that are marked, and no others
 abbrev pub AreLinkedOrPast : ℕ → List Bool → List ℕ → ℕ → Type 0

@@ -1,12 +1,9 @@
 // The step of a set of parts in a robust plan.
 ghost use Rattle.std.specs.Prelude.{◌≤◌, ◌<◌, [], ◌∷◌, All, IfOk, IfSome, Some, length, map, true};
 ghost use Rattle.staat_model.specs.Sets.{IsNonempty, IsSubset};
-ghost use Rattle.staat_cells.specs.CellGraphs.{HasArcsOf};
-ghost use Rattle.staat_cells.specs.Compositions.{entry_of};
-ghost use Rattle.staat_cells.specs.Skeletons.{IsSkeleton, opens_before};
 ghost use Rattle.staat_pairs.specs.Tables.{AreTablePlanes};
-ghost use Rattle.staat_plan.specs.CellSteps.{IsStepAmong, IsTableCell};
-ghost use Rattle.staat_plan.specs.Planning.{IsSetStep};
+ghost use Rattle.staat_cells.specs.{CellGraphs.HasArcsOf, Compositions.entry_of, Skeletons.{IsSkeleton, opens_before}};
+ghost use Rattle.staat_plan.specs.{CellSteps.{IsStepAmong, IsTableCell}, Planning.IsSetStep};
 
 use crate::marked::{Marked, side_of};
 use staat_cells::{Cell, CellGraphs, Skeleton, first_open};

@@ -1,27 +1,17 @@
 //! Laws on what the planner finds. Each is a function that does nothing, and its contract is the law.
-ghost use Rattle.std.specs.Prelude.{◌≡◌, ◌≢◌, ◌↔◌, ◌≤◌, ℕ, All, Bool, List};
-ghost use Rattle.std.specs.Prelude.{length, true};
+ghost use Rattle.std.specs.Prelude.{◌≡◌, ◌≢◌, ◌↔◌, ◌≤◌, ℕ, All, Bool, List, length, true};
 ghost use Rattle.std.specs.FinSet as set;
-ghost use Rattle.staat_limits.specs.Versions.{IsVersion};
-ghost use Rattle.staat_limits.specs.declared.limits.TheConstants.{TEXT_LIMIT};
+ghost use Rattle.staat_limits.specs.{Versions.IsVersion, declared.limits.TheConstants.TEXT_LIMIT};
+ghost use Rattle.staat_vec.specs.{Vectors.{cross, negative, origin}, declared.vector.TheConstants.DIRECTION};
 ghost use Rattle.staat_vec.specs.declared.vector.V3.{V3 as Vector};
-ghost use Rattle.staat_vec.specs.declared.vector.TheConstants.{DIRECTION};
-ghost use Rattle.staat_vec.specs.Vectors.{cross, negative, origin};
+ghost use Rattle.staat_model.specs.{Assemblies.IsAssembly, Certify.IsCertificateOf};
+ghost use Rattle.staat_model.specs.Outcomes.{AreTries, Finding, IsOutcome, IsStep, Serves, Try, planned, stuck};
+ghost use Rattle.staat_model.specs.{Planes.ArePlanes, Plans.{IsStuck, Plan}, Sets.{IsSubset, below}, Texts.text_of};
 ghost use Rattle.staat_model.specs.declared.assembly.Part.{Part as PartValue};
 ghost use Rattle.staat_model.specs.declared.certificate.Certificate.{Certificate as CertificateValue};
-ghost use Rattle.staat_model.specs.declared.set.PartSet.{PartSet as PartSetValue};
-ghost use Rattle.staat_model.specs.Assemblies.{IsAssembly};
-ghost use Rattle.staat_model.specs.Certify.{IsCertificateOf};
-ghost use Rattle.staat_model.specs.declared.tree.Kind.{Kind as KindValue};
-ghost use Rattle.staat_model.specs.Outcomes.{AreTries, Finding, IsOutcome, IsStep, Serves, Try, planned, stuck};
-ghost use Rattle.staat_model.specs.Planes.{ArePlanes};
-ghost use Rattle.staat_model.specs.Plans.{IsStuck, Plan};
-ghost use Rattle.staat_model.specs.Sets.{IsSubset, below};
-ghost use Rattle.staat_model.specs.Texts.{text_of};
+ghost use Rattle.staat_model.specs.{declared.set.PartSet.PartSet as PartSetValue, declared.tree.Kind.Kind as KindValue};
 ghost use Rattle.staat_certify.specs.Plans.{AreWithin};
-ghost use Rattle.staat_plan.specs.LoneLines.{OnlyPlanesThroughServe};
-ghost use Rattle.staat_plan.specs.Marks.{HasOneMark, MarksHold};
-ghost use Rattle.staat_plan.specs.Planning.{Settles};
+ghost use Rattle.staat_plan.specs.{LoneLines.OnlyPlanesThroughServe, Marks.{HasOneMark, MarksHold}, Planning.Settles};
 
 /// Some side of a set is free of the rest along a direction exactly where one is along the opposite direction.
 #[tactic(auto, using(crate::proofs::Opposites::serves_both))]

@@ -1,12 +1,10 @@
 // The step of a set of parts that comes apart along one line alone.
 ghost use Rattle.std.specs.Prelude.{◌≢◌, ◌≤◌, List, IfOk, IfSome, IsTrue, Some, false, length, true};
 ghost use Rattle.staat_vec.specs.Vectors.{IsWithin, origin};
+ghost use Rattle.staat_model.specs.{Outcomes.{IsStep, try_vertex}, Sets.{IsNonempty, IsSubset}};
 ghost use Rattle.staat_model.specs.declared.assembly.Part.{Part as PartValue};
-ghost use Rattle.staat_model.specs.Outcomes.{IsStep, try_vertex};
-ghost use Rattle.staat_model.specs.Sets.{IsNonempty, IsSubset};
 ghost use Rattle.staat_pairs.specs.Tables.{WasMadeFrom};
-ghost use Rattle.staat_plan.specs.LoneLines.{OnlyPlanesThroughServe};
-ghost use Rattle.staat_plan.specs.Planning.{IsSetStep};
+ghost use Rattle.staat_plan.specs.{LoneLines.OnlyPlanesThroughServe, Planning.IsSetStep};
 
 use crate::marked::{Marked, side_of};
 use crate::side_trial::SideTrial;

@@ -1,10 +1,8 @@
 // A step, with the mark that it has in a robust plan, and the side that moves in it.
 ghost use Rattle.std.specs.Prelude.{◌≢◌, List, IfSome, MatchOption};
-ghost use Rattle.staat_vec.specs.declared.vector.V3.{V3 as Vector};
-ghost use Rattle.staat_vec.specs.Vectors.{origin};
+ghost use Rattle.staat_vec.specs.{Vectors.origin, declared.vector.V3.V3 as Vector};
+ghost use Rattle.staat_model.specs.{Outcomes.{IsMovedSide, Serves}, Sets.{IsNonempty, IsSide}};
 ghost use Rattle.staat_model.specs.declared.assembly.Part.{Part as PartValue};
-ghost use Rattle.staat_model.specs.Outcomes.{IsMovedSide, Serves};
-ghost use Rattle.staat_model.specs.Sets.{IsNonempty, IsSide};
 ghost use Rattle.staat_graph.specs.Blocking.{ShowsBlocking};
 
 use staat_graph::{Graph, is_strong, sink_of};

@@ -1,19 +1,14 @@
 // The outcome of an assembly.
-ghost use Rattle.std.specs.Prelude.{◌≡◌, ◌≤◌, ◌++◌, []};
-ghost use Rattle.std.specs.Prelude.{IfOk, MatchResult, length, true};
+ghost use Rattle.std.specs.{Option.option_to_list, Prelude.{◌≡◌, ◌≤◌, ◌++◌, [], IfOk, MatchResult, length, true}};
 ghost use Rattle.std.specs.FinSet as set;
-ghost use Rattle.std.specs.Option.{option_to_list};
-ghost use Rattle.staat_model.specs.Outcomes.{IsOutcome, finding_of, planned};
-ghost use Rattle.staat_model.specs.Plans.{leaf, plan_of, split};
+ghost use Rattle.staat_model.specs.{Outcomes.{IsOutcome, finding_of, planned}, Plans.{leaf, plan_of, split}};
 ghost use Rattle.staat_model.specs.Sets.{IsNonempty, IsSubset, below};
 ghost use Rattle.staat_pairs.specs.Tables.{IsTableOf};
-ghost use Rattle.staat_planes.specs.declared.refusal.PlanesRefusal.TheVariants.{OutOfMemory as NoMemory};
 ghost use Rattle.staat_planes.specs.Refusals.{IsPlanesRefusal};
 ghost use Rattle.staat_certify.specs.Certifying.{CanBeCertified, HasFewPlanes};
 ghost use Rattle.staat_plan.specs.Marks.{AreMarksRight};
 ghost use Rattle.staat_plan.specs.Planning.{IsOutcomeOf, IsPlanner, IsSized, IsStepOf, IsVertexStep};
-ghost use Rattle.staat_plan.specs.Planning.{Settles, joined_finding};
-ghost use Rattle.staat_plan.specs.RingSets.{IsReadyFor};
+ghost use Rattle.staat_plan.specs.{Planning.{Settles, joined_finding}, RingSets.IsReadyFor};
 
 use crate::cell_steps::{cell_step, first_open_step};
 use crate::lone_step::lone_step;
@@ -108,37 +103,14 @@ fn joined(
     Ok(Marks::from_vec(marks))
 }
 
-// the plans of two sides as one
-fn join(
-    alloc: Global,
-    d: V3,
-    mark: Option<Kind>,
-    moved: Tree,
-    moved_marks: &Marks,
-    rest: Tree,
-    rest_marks: &Marks,
-) -> Result<Outcome, OutOfMemory>
-    ensures { IfOk result (λ o. finding_of o ≡ planned (split d (plan_of moved) (plan_of rest))
-        (option_to_list mark ++ moved_marks.now ++ rest_marks.now)) }
-{
-    let marks = joined(alloc, mark, moved_marks, rest_marks)?;
-    let moved = Box::new(alloc, moved)?;
-    let rest = Box::new(alloc, rest)?;
-    Ok(Outcome::Plan {
-        tree: Tree::Split { d, moved, rest },
-        marks,
-    })
-}
-
 // the outcome of a set from those of its two sides
 fn join_sides(
     alloc: Global,
     found: Marked,
     moved: Outcome,
     rest: Outcome,
-) -> Result<Outcome, PlanRefusal>
-    ensures { MatchResult result (λ o. finding_of o ≡ joined_finding found (finding_of moved) (finding_of rest))
-        (λ e. e ≡ NoMemory) }
+) -> Result<Outcome, OutOfMemory>
+    ensures { IfOk result (λ o. finding_of o ≡ joined_finding found (finding_of moved) (finding_of rest)) }
 {
     match moved {
         Outcome::Stuck(a) => Ok(Outcome::Stuck(a)),
@@ -148,16 +120,14 @@ fn join_sides(
                 tree: rest,
                 marks: rest_marks,
             } => {
-                let both = join(
-                    alloc,
-                    found.step.d,
-                    found.mark,
-                    tree,
-                    &marks,
-                    rest,
-                    &rest_marks,
-                )?;
-                Ok(both)
+                let marks = joined(alloc, found.mark, &marks, &rest_marks)?;
+                let moved = Box::new(alloc, tree)?;
+                let rest = Box::new(alloc, rest)?;
+                let d = found.step.d;
+                Ok(Outcome::Plan {
+                    tree: Tree::Split { d, moved, rest },
+                    marks,
+                })
             }
         },
     }
@@ -176,29 +146,32 @@ struct Planner<'a, F: FacetSource> {
 impl<'a, F: FacetSource> Planner<'a, F> {
     // the step of a set of parts by all cells of its planes, which are those of a table of its own: its facets are
     // those of the table
-    fn own_step(&self, w: PartSet) -> Result<Option<Marked>, PlanRefusal>
+    fn own_step(&self, w: PartSet) -> Result<Option<Marked>, OutOfMemory>
         requires planner { IsPlanner self.now.sound.now self.now.table.now self.now.options }
         requires robust { self.now.options.robust ≡ true }
         requires some { IsNonempty w }
         requires within { IsSubset w self.now.table.now.of }
-        ensures { MatchResult result (IsStepOf true self.now.sound.now w) (λ e. e ≡ NoMemory) }
+        ensures { IfOk result (IsStepOf true self.now.sound.now w) }
     {
         let source = Tabulated::of(self.source, self.sound, self.table);
-        let own = tabulate(self.alloc, &source, self.sound, w, self.options.planes)?;
-        Ok(cell_step(self.alloc, &own)?)
+        match tabulate(self.alloc, &source, self.sound, w, self.options.planes) {
+            Ok(own) => cell_step(self.alloc, &own),
+            Err(PlanesRefusal::OutOfMemory) => Err(OutOfMemory),
+            Err(PlanesRefusal::TooManyPlanes(_)) => unreachable!(),
+        }
     }
 
     // The step of a set of parts of the table in a robust plan. Most sets that come apart do so in their first open
     // cell; where no vertex serves a set, no cell does, by the law `tries_decide`; and where it comes apart along one
     // line alone, no other vertex is looked at. For all three the one table is enough. Only where none of them decides
     // are all cells made.
-    fn robust_step(&self, w: PartSet) -> Result<Option<Marked>, PlanRefusal>
+    fn robust_step(&self, w: PartSet) -> Result<Option<Marked>, OutOfMemory>
         requires planner { IsPlanner self.now.sound.now self.now.table.now self.now.options }
         requires robust { self.now.options.robust ≡ true }
         requires some { IsNonempty w }
         requires two { 2 ≤ set.len w }
         requires within { IsSubset w self.now.table.now.of }
-        ensures { MatchResult result (IsStepOf true self.now.sound.now w) (λ e. e ≡ NoMemory) }
+        ensures { IfOk result (IsStepOf true self.now.sound.now w) }
     {
         if let Some(found) = first_open_step(self.alloc, self.table, w)? {
             return Ok(Some(found));
@@ -210,7 +183,7 @@ impl<'a, F: FacetSource> Planner<'a, F> {
             return Ok(Some(found));
         }
         if self.table.set().within(w) {
-            return Ok(cell_step(self.alloc, self.table)?);
+            return cell_step(self.alloc, self.table);
         }
         self.own_step(w)
     }
@@ -220,14 +193,14 @@ impl<'a, F: FacetSource> Planner<'a, F> {
         &self,
         walker: &mut Option<Walker>,
         w: PartSet,
-    ) -> Result<Option<Marked>, PlanRefusal>
+    ) -> Result<Option<Marked>, OutOfMemory>
         requires planner { IsPlanner self.now.sound.now self.now.table.now self.now.options }
         requires ready { IsReadyFor self.now.table.now walker.old }
         requires some { IsNonempty w }
         requires two { 2 ≤ set.len w }
         requires within { IsSubset w self.now.table.now.of }
         ensures ready { IsReadyFor self.now.table.now walker.new }
-        ensures step { MatchResult result (IsStepOf self.now.options.robust self.now.sound.now w) (λ e. e ≡ NoMemory) }
+        ensures step { IfOk result (IsStepOf self.now.options.robust self.now.sound.now w) }
     {
         if self.options.robust {
             return self.robust_step(w);
@@ -243,14 +216,14 @@ impl<'a, F: FacetSource> Planner<'a, F> {
         &self,
         walker: &mut Option<Walker>,
         w: PartSet,
-    ) -> Result<Outcome, PlanRefusal>
+    ) -> Result<Outcome, OutOfMemory>
         requires planner { IsPlanner self.now.sound.now self.now.table.now self.now.options }
         requires ready { IsReadyFor self.now.table.now walker.old }
         requires some { IsNonempty w }
         requires within { IsSubset w self.now.table.now.of }
         ensures ready { IsReadyFor self.now.table.now walker.new }
-        ensures outcome { MatchResult result
-            (λ o. IsOutcome self.now.options.robust self.now.sound.now w (finding_of o)) (λ e. e ≡ NoMemory) }
+        ensures outcome { IfOk result
+            (λ o. IsOutcome self.now.options.robust self.now.sound.now w (finding_of o)) }
     {
         if w.count() == 1 {
             return Ok(leaf(self.alloc, w.least()));

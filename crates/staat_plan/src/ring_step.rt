@@ -1,34 +1,17 @@
 // The step of a set of parts, by a walk along the circles of its planes.
-ghost use Rattle.std.specs.Prelude.{
-  ◌≡◌,
-  ◌↔◌,
-  ℕ,
-  ◌+◌,
-  ◌-◌,
-  ◌*◌,
-  ◌^◌,
-  ◌<◌,
-  ◌≤◌,
-  List,
-  Contains,
-};
+ghost use Rattle.std.specs.Prelude.{◌≡◌, ◌↔◌, ℕ, ◌+◌, ◌-◌, ◌*◌, ◌^◌, ◌<◌, ◌≤◌, List, Contains};
 ghost use Rattle.std.specs.Prelude.{IfSome, IsTrue, MatchOption, None, Some, false, length, min, slice_get};
 ghost use Rattle.std.specs.FinSet as set;
-ghost use Rattle.staat_vec.specs.declared.vector.V3.{V3 as Vector};
-ghost use Rattle.staat_vec.specs.Vectors.{IsWithin};
-ghost use Rattle.staat_model.specs.declared.assembly.Part.{Part as PartValue};
-ghost use Rattle.staat_model.specs.Outcomes.{HasNoStep, IsStep, try_vertex};
-ghost use Rattle.staat_model.specs.Plans.{IsStuck};
-ghost use Rattle.staat_model.specs.Sets.{IsNonempty, IsSubset};
+ghost use Rattle.staat_vec.specs.{Vectors.IsWithin, declared.vector.V3.V3 as Vector};
+ghost use Rattle.staat_model.specs.{Outcomes.{HasNoStep, IsStep, try_vertex}, Plans.IsStuck};
+ghost use Rattle.staat_model.specs.{Sets.{IsNonempty, IsSubset}, declared.assembly.Part.Part as PartValue};
 ghost use Rattle.staat_pairs.specs.Tables.{WasMadeFrom};
 ghost use Rattle.staat_planes.specs.Tables.{IsPlaneOf};
+ghost use Rattle.staat_ring.specs.{Belonging.HasAll, Places.IsStopAt};
+ghost use Rattle.staat_ring.specs.{Rings.{RingStop, WereMadeFrom, crossing, linked_of}, Stepping.count_below};
+ghost use Rattle.staat_ring.specs.Walked.{IsEntered, WalkWasMadeFrom};
 ghost use Rattle.staat_plan.specs.RingSearches.{HasServing, IsBest, IsLater, IsNoLater, NoStopServes, NoneServes};
 ghost use Rattle.staat_plan.specs.RingSearches.{lengths_below, pair_key};
-ghost use Rattle.staat_ring.specs.Belonging.{HasAll};
-ghost use Rattle.staat_ring.specs.Places.{IsStopAt};
-ghost use Rattle.staat_ring.specs.Rings.{RingStop, WereMadeFrom, crossing, linked_of};
-ghost use Rattle.staat_ring.specs.Stepping.{count_below};
-ghost use Rattle.staat_ring.specs.Walked.{IsEntered, WalkWasMadeFrom};
 
 use staat_graph::sink_of;
 use staat_model::{PartSet, Step};
@@ -45,17 +28,14 @@ struct Serving {
 }
 
 // where a plane and its sense stand in the order of the vertices of a circle
-fn pair_key(e: Entry) -> u32
-    requires { e.plane < 1024 }
+fn pair_key(e: Entry) -> u64
     ensures { result ≡ pair_key e }
 {
-    2 * e.plane + e.turned as u32
+    2 * e.plane as u64 + e.turned as u64
 }
 
 // whether what was found before comes no later than an entry
 fn is_before(best: &Option<Serving>, entry: &Entry) -> bool
-    requires small { entry.now.plane < 1024 }
-    requires best { (h : Serving) → best.now ≡ Some h → h.entry.plane < 1024 }
     ensures yes { IsTrue result → IsNoLater best.now entry.now }
     ensures no { result ≡ false → (h : Serving) → best.now ≡ Some h → pair_key entry.now ≤ pair_key h.entry }
 {

@@ -1,9 +1,8 @@
 // The trial that looks for a side of a set of parts that is free of the rest.
 ghost use Rattle.std.specs.Prelude.{◌≢◌, List};
 ghost use Rattle.staat_vec.specs.Vectors.{IsWithin, origin};
+ghost use Rattle.staat_model.specs.{Outcomes.{IsMovedSide, Serves}, Sets.{IsNonempty, IsSide, IsSubset}};
 ghost use Rattle.staat_model.specs.declared.assembly.Part.{Part as PartValue};
-ghost use Rattle.staat_model.specs.Outcomes.{IsMovedSide, Serves};
-ghost use Rattle.staat_model.specs.Sets.{IsNonempty, IsSide, IsSubset};
 ghost use Rattle.staat_pairs.specs.Tables.{Table, WasMadeFrom};
 ghost use Rattle.staat_planes.specs.VertexSearch.{IfFound, IsFirstOfTwo};
 ghost use Rattle.staat_core.specs.TableCores.{IsSetCore};

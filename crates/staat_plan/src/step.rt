@@ -1,12 +1,9 @@
 // The step of a set of parts.
-ghost use Rattle.std.specs.Prelude.{◌≡◌, ◌≤◌, ◌↔◌, List, IfSome};
-ghost use Rattle.std.specs.Prelude.{MatchOption, None, false};
+ghost use Rattle.std.specs.Prelude.{◌≡◌, ◌≤◌, ◌↔◌, List, IfSome, MatchOption, None, false};
 ghost use Rattle.std.specs.FinSet as set;
 ghost use Rattle.staat_vec.specs.Vectors.{IsWithin};
-ghost use Rattle.staat_model.specs.declared.assembly.Part.{Part as PartValue};
-ghost use Rattle.staat_model.specs.Outcomes.{HasNoStep, IsStep, try_vertex};
-ghost use Rattle.staat_model.specs.Plans.{IsStuck};
-ghost use Rattle.staat_model.specs.Sets.{IsNonempty, IsSide, IsSubset};
+ghost use Rattle.staat_model.specs.{Outcomes.{HasNoStep, IsStep, try_vertex}, Plans.IsStuck};
+ghost use Rattle.staat_model.specs.{Sets.{IsNonempty, IsSide, IsSubset}, declared.assembly.Part.Part as PartValue};
 ghost use Rattle.staat_pairs.specs.Tables.{WasMadeFrom};
 ghost use Rattle.staat_plan.specs.Planning.{IsSideSearch};
 
@@ -86,6 +83,7 @@ pub(crate) fn early_search(table: &PlaneTable, w: PartSet) -> Search<PartSet>
 ///
 /// `w` is the table's set, and has at least two parts. The vertices are taken in the order of the pairs of planes. It
 /// takes no memory.
+#[tactic(auto, using(staat_certify::proofs::SomeMember::some_member))]
 pub fn part_step(table: &PlaneTable, w: PartSet) -> Option<Step>
     requires set { w ≡ table.now.of }
     requires two { 2 ≤ set.len w }

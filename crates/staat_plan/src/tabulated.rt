@@ -1,7 +1,6 @@
 // The facets that stand in a table, as a source.
 ghost use Rattle.std.specs.Prelude.{◌≡◌, ◌<◌, ℕ, IfOk, IfSome, MatchOption, Some, length};
-ghost use Rattle.staat_model.specs.Assemblies.{piece_at};
-ghost use Rattle.staat_model.specs.Sets.{Has};
+ghost use Rattle.staat_model.specs.{Assemblies.piece_at, Sets.Has};
 ghost use Rattle.staat_pairs.specs.Tables.{IsTableArc, WasMadeFrom, facets_of};
 
 use staat_cone::FacetSource;

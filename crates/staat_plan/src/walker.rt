@@ -3,10 +3,8 @@ ghost use Rattle.std.specs.Prelude.{◌≡◌, ◌<◌, ◌≤◌, IfOk, length}
 ghost use Rattle.std.specs.FinSet as set;
 ghost use Rattle.staat_model.specs.Sets.{IsSubset};
 ghost use Rattle.staat_planes.specs.MarkedPlanes.{AreUsedMarks};
-ghost use Rattle.staat_plan.specs.Planning.{IsVertexStep};
-ghost use Rattle.staat_plan.specs.RingSets.{AreForTable, AreLinkedOrPast};
-ghost use Rattle.staat_ring.specs.Rings.{WereMadeFrom, linked_of};
-ghost use Rattle.staat_ring.specs.Walked.{WalkWasMadeFrom};
+ghost use Rattle.staat_ring.specs.{Rings.{WereMadeFrom, linked_of}, Walked.WalkWasMadeFrom};
+ghost use Rattle.staat_plan.specs.{Planning.IsVertexStep, RingSets.{AreForTable, AreLinkedOrPast}};
 
 use crate::ring_step::part_step_rings;
 use staat_limits::LEAST_PLANES;

@@ -1,14 +1,10 @@
 use Rattle.std.proofs.Common.{◌++◌, List, All, length, map, subst, sym}
 use Rattle.std.specs.Prelude.{None, Some}
-use Rattle.staat_model.specs.declared.tree.Kind.TheVariants.{Edge, Point}
-use Rattle.staat_model.specs.Outcomes.{try_cell}
-use Rattle.staat_cells.specs.declared.cell.Cell.{Cell}
-use Rattle.staat_cells.specs.Compositions.{entry_of}
-use Rattle.staat_cells.specs.Skeletons.{opens_before}
+use Rattle.staat_model.specs.{Outcomes.try_cell, declared.tree.Kind.TheVariants.{Edge, Point}}
 use Rattle.staat_pairs.specs.Tables.{AreTablePlanes}
+use Rattle.staat_cells.specs.{Compositions.entry_of, Skeletons.opens_before, declared.cell.Cell.Cell}
 use Rattle.staat_plan.specs.CellSteps.{IsTableCell}
-use Rattle.staat_plan.proofs.CellStepLemmas.{cells_in, skeleton_step}
-use Rattle.staat_plan.proofs.StepLemmas.{none_then, some_then}
+use Rattle.staat_plan.proofs.{CellStepLemmas.{cells_in, skeleton_step}, StepLemmas.{none_then, some_then}}
 use Rattle.staat_plan.proofs.cell_steps.cell_step.Goals as goal
 
 pub returns-in-Some : goal.returns-in-Some
@@ -24,11 +20,10 @@ returns-in-Some c parts made =
 
 pub step_among-requires-clause-cells : goal.step_among-requires-clause-cells
 step_among-requires-clause-cells c =
-    let t = c.args.table.now in
-    let s = c.in_ok-skeleton.skeleton in
     let whole = c.in_ok-skeleton.ensures in
-    subst (λ (l : List Cell). All (IsTableCell t) (map entry_of l)) (sym c.edges.ensures)
-    (cells_in t (subst AreTablePlanes c.planes-planes.ensures.is c.planes-planes.ensures.rules) Edge (map entry_of s.edges.items) whole.edges)
+    subst (λ (l : List Cell). All (IsTableCell c.args.table.now) (map entry_of l)) (sym c.edges.ensures)
+    (cells_in c.args.table.now (subst AreTablePlanes c.planes-planes.ensures.is c.planes-planes.ensures.rules) Edge
+    (map entry_of c.in_ok-skeleton.skeleton.edges.items) whole.edges)
 
 pub returns-in-Some-step_among : goal.returns-in-Some-step_among
 returns-in-Some-step_among c parts made =
@@ -44,11 +39,10 @@ returns-in-Some-step_among c parts made =
 
 pub step_among-requires-2-clause-cells : goal.step_among-requires-2-clause-cells
 step_among-requires-2-clause-cells c =
-    let t = c.args.table.now in
-    let s = c.in_ok-skeleton.skeleton in
     let whole = c.in_ok-skeleton.ensures in
-    subst (λ (l : List Cell). All (IsTableCell t) (map entry_of l)) (sym c.points.ensures)
-    (cells_in t (subst AreTablePlanes c.planes-planes.ensures.is c.planes-planes.ensures.rules) Point (map entry_of s.points.items) whole.points)
+    subst (λ (l : List Cell). All (IsTableCell c.args.table.now) (map entry_of l)) (sym c.points.ensures)
+    (cells_in c.args.table.now (subst AreTablePlanes c.planes-planes.ensures.is c.planes-planes.ensures.rules) Point
+    (map entry_of c.in_ok-skeleton.skeleton.points.items) whole.points)
 
 pub returns : goal.returns
 returns c parts made =

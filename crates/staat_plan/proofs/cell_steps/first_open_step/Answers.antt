@@ -6,12 +6,6 @@ use Rattle.staat_cells.proofs.SomeCells.{some_cells}
 use Rattle.staat_plan.proofs.CellStepLemmas.{cell_some, first_step_is}
 use Rattle.staat_plan.proofs.cell_steps.first_open_step.Goals as goal
 
-pub first_open-d-requires : goal.first_open-d-requires
-first_open-d-requires c =
-    let are : ArePlanesIn c.args.table.now c.args.w c.as_slice.result.now =
-    subst (ArePlanesIn c.args.table.now c.args.w) (sym c.as_slice.ensures.value) c.in_ok-planes.ensures in
-    are.rules
-
 pub returns : goal.returns
 returns c parts made =
     let w = c.args.w in

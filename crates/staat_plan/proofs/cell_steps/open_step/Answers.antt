@@ -1,15 +1,12 @@
-use Rattle.std.proofs.Common.{inl, inr, arith, length, subst, sym}
+use Rattle.std.proofs.{Common.{inl, inr, arith, length, subst, sym}, lemmas.List.Elements.All-nil}
 use Rattle.std.specs.Prelude.{None}
-use Rattle.std.proofs.lemmas.List.Elements.{All-nil}
 use Rattle.staat_vec.proofs.Naturals.{lt_one_more_cases}
-use Rattle.staat_model.specs.Cells.{CellEntry}
-use Rattle.staat_model.specs.Outcomes.{Serves, try_cell}
+use Rattle.staat_model.specs.{Cells.CellEntry, Outcomes.{Serves, try_cell}}
 use Rattle.staat_cells.specs.Skeletons.{opens_at}
-use Rattle.staat_plan.specs.CellSteps.{IsStepAmong}
-use Rattle.staat_plan.specs.Planning.{IsFirstOf}
+use Rattle.staat_plan.specs.{CellSteps.IsStepAmong, Planning.IsFirstOf}
 use Rattle.staat_plan.proofs.CellStepLemmas.{at_all_places, first_open_at, no_open, one_open, open_in}
-use Rattle.staat_plan.proofs.cell_steps.open_step.Goals as goal
 use Rattle.staat_plan.proofs.cell_steps.open_step.Goals.{in-Some+in_default-step_in, in_default}
+use Rattle.staat_plan.proofs.cell_steps.open_step.Goals as goal
 
 pub step_in-requires-clause-cell : goal.step_in-requires-clause-cell
 step_in-requires-clause-cell c =

@@ -1,10 +1,7 @@
-use Rattle.std.proofs.Common.{[], subst, sym}
-use Rattle.std.proofs.lemmas.List.Elements.{All-head, All-map, All-more}
+use Rattle.std.proofs.{Common.{[], subst, sym}, lemmas.List.Elements.{All-head, All-map, All-more}}
 use Rattle.staat_vec.proofs.ListLaws.{All-taken}
-use Rattle.staat_model.specs.Cells.{CellEntry}
-use Rattle.staat_model.specs.Outcomes.{Serves}
-use Rattle.staat_cells.specs.declared.cell.Cell.{Cell}
-use Rattle.staat_cells.specs.Compositions.{entry_of}
+use Rattle.staat_model.specs.{Cells.CellEntry, Outcomes.Serves}
+use Rattle.staat_cells.specs.{Compositions.entry_of, declared.cell.Cell.Cell}
 use Rattle.staat_cells.proofs.WholeLists.{of_cells}
 use Rattle.staat_plan.specs.CellSteps.{IsTableCell}
 use Rattle.staat_plan.proofs.CellStepLemmas.{first_cell_at}

@@ -1,6 +1,5 @@
 use Rattle.std.proofs.Common.{All, List, take}
-use Rattle.staat_model.specs.declared.assembly.Part.{Part}
-use Rattle.staat_model.specs.Outcomes.{Serves}
+use Rattle.staat_model.specs.{Outcomes.Serves, declared.assembly.Part.Part}
 use Rattle.staat_pairs.specs.Tables.{WasMadeFrom}
 use Rattle.staat_cells.specs.declared.cell.Cell.{Cell}
 use Rattle.staat_plan.proofs.cell_steps.step_among.Given as goal

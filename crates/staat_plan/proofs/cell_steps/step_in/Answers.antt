@@ -1,7 +1,5 @@
-use Rattle.std.proofs.Common.{◌∙◌, [], inl, refl, sym}
-use Rattle.std.proofs.lemmas.List.Elements.{All-cons, All-nil}
-use Rattle.staat_model.specs.Cells.{CellEntry}
-use Rattle.staat_model.specs.Outcomes.{Serves}
+use Rattle.std.proofs.{Common.{◌∙◌, [], inl, refl, sym}, lemmas.List.Elements.{All-cons, All-nil}}
+use Rattle.staat_model.specs.{Cells.CellEntry, Outcomes.Serves}
 use Rattle.staat_cells.specs.Compositions.{entry_of}
 use Rattle.staat_plan.proofs.cell_steps.step_in.Goals as goal
 

@@ -1,17 +1,13 @@
 use Rattle.std.proofs.Common.{rules, ◌≡◌, ◌≢◌, ◌⊎◌, ◌+◌, ◌∙◌, inl, inr, List, All, pos, subst, sym, take}
-use Rattle.std.proofs.lemmas.List.{take_all}
-use Rattle.std.proofs.lemmas.List.Elements.{All-more}
-use Rattle.staat_vec.specs.declared.vector.V3.{V3}
-use Rattle.staat_vec.specs.Vectors.{dot, origin}
+use Rattle.std.proofs.{lemmas.List.take_all, lemmas.List.Elements.All-more}
+use Rattle.staat_vec.specs.{Vectors.{dot, origin}, declared.vector.V3.V3}
 use Rattle.staat_vec.proofs.Signs.{zero_sign}
-use Rattle.staat_model.specs.declared.assembly.Part.{Part}
+use Rattle.staat_model.specs.{Outcomes.Serves, declared.assembly.Part.Part}
 use Rattle.staat_pairs.specs.Tables.{WasMadeFrom}
-use Rattle.staat_model.specs.Outcomes.{Serves}
 use Rattle.staat_core.specs.TableCores.{IsSetCore}
-use Rattle.staat_plan.specs.declared.side_trial.SideTrial.{SideTrial}
-use Rattle.staat_plan.specs.LoneLines.{NoneServesOn}
-use Rattle.staat_plan.proofs.lone_step.is_lone.Goals as goal
+use Rattle.staat_plan.specs.{LoneLines.NoneServesOn, declared.side_trial.SideTrial.SideTrial}
 use Rattle.staat_plan.proofs.lone_step.is_lone.Goals.{else-ne-via-then-ne+else-not-rules_out, else-ne-via-else-ne}
+use Rattle.staat_plan.proofs.lone_step.is_lone.Goals as goal
 
 abbrev plane : goal.Joined-else-ne → V3
 plane c = c.vector-g.result

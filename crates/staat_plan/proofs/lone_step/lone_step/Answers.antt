@@ -1,15 +1,11 @@
 use Rattle.std.proofs.Common.{[], ◌∷◌, true, pos, ◌<ℤ◌, ◌≡◌, ◌≢◌, ◌∙◌, ◌≤◌, ap, arith, length, subst, sym}
-use Rattle.staat_vec.specs.declared.vector.TheConstants.{DIRECTION}
 use Rattle.std.proofs.lemmas.Int.{ints}
-use Rattle.staat_vec.specs.declared.vector.V3.{V3}
-use Rattle.staat_vec.specs.Primitives.{IsCanon, canon}
-use Rattle.staat_vec.proofs.Canons.{IsCanon-canon}
-use Rattle.staat_vec.specs.Vectors.{negative, origin}
-use Rattle.staat_model.specs.declared.tree.Kind.TheVariants.{Point}
-use Rattle.staat_model.specs.Outcomes.{IsStep}
+use Rattle.staat_vec.specs.{Primitives.{IsCanon, canon}, Vectors.{negative, origin}}
+use Rattle.staat_vec.specs.{declared.vector.TheConstants.DIRECTION, declared.vector.V3.V3}
+use Rattle.staat_vec.proofs.{Canons.IsCanon-canon, VectorLaws.negative_some}
+use Rattle.staat_model.specs.{Outcomes.IsStep, declared.tree.Kind.TheVariants.Point}
 use Rattle.staat_planes.specs.SetPlanes.{ArePlanesIn}
 use Rattle.staat_cells.proofs.SomeCells.{some_cells}
-use Rattle.staat_vec.proofs.VectorLaws.{negative_some}
 use Rattle.staat_plan.specs.LoneLines.{OnlyPlanesThroughServe}
 use Rattle.staat_plan.proofs.LoneLineLemmas.{first_vertex, line_step}
 use Rattle.staat_plan.proofs.lone_step.lone_step.Goals as goal
@@ -17,10 +13,6 @@ use Rattle.staat_plan.proofs.lone_step.lone_step.Goals as goal
 canon_some : (v : V3) → IsCanon v → v ≢ origin
 canon_some v canonical e =
     let none : pos 0 <ℤ pos 0 = subst IsCanon e canonical in absurd (omega (arith, ints, none))
-
-pub graph_in-graph-requires-clause-direction : goal.graph_in-graph-requires-clause-direction
-graph_in-graph-requires-clause-direction c =
-    c.neg-d.ensures.size DIRECTION (c.canon.ensures.size DIRECTION c.requires.size)
 
 pub returns : goal.returns
 returns c parts made =
@@ -40,3 +32,7 @@ returns c parts made =
     subst (λ d. IsStep true parts w (record { d = d; mark = Point ∷ [] }) c.in-Some.moved) (sym d_is)
     (line_step parts made.assembly w planes are v c.requires.nonzero lone
     (first_vertex parts w c.args.first.moved planes v are step) moves.0 cells all c.in-Some.moved moves.1)
+
+pub graph_in-graph-requires-clause-direction : goal.graph_in-graph-requires-clause-direction
+graph_in-graph-requires-clause-direction c =
+    c.neg-d.ensures.size DIRECTION (c.canon.ensures.size DIRECTION c.requires.size)

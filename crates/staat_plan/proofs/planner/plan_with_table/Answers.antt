@@ -1,10 +1,7 @@
-use Rattle.std.proofs.Common.{◌≡◌, length, subst}
-use Rattle.std.proofs.lemmas.Result.{err_from_is_err_and}
-use Rattle.staat_model.specs.declared.set.PartSet.{PartSet}
-use Rattle.staat_model.specs.Assemblies.{IsAssembly}
-use Rattle.staat_model.specs.Sets.{below}
+use Rattle.std.proofs.{Common.{◌≡◌, length, subst}, lemmas.Result.err_from_is_err_and}
+use Rattle.staat_model.specs.{Assemblies.IsAssembly, Outcomes.finding_of, Sets.below, declared.set.PartSet.PartSet}
 use Rattle.staat_planes.specs.Refusals.{IsPlanesRefusal}
-use Rattle.staat_plan.proofs.OutcomeLemmas.{all_certified, all_found, all_right}
+use Rattle.staat_plan.proofs.{OutcomeLemmas.{all_found, certified}, Right.right_lemma}
 use Rattle.staat_plan.proofs.planner.plan_with_table.Goals as goal
 
 pub returns-clause-outcome : goal.returns-clause-outcome
@@ -17,14 +14,16 @@ returns-clause-outcome g c =
 
 pub returns-clause-right : goal.returns-clause-right
 returns-clause-right g c =
-    all_right c.args.options.robust c.args.sound.now (subst IsAssembly c.assembly.ensures.assembly c.parts.ensures.assembly)
-    c.args.options.planes c.in_ok-outcome.outcome (returns-clause-outcome g c)
+    let outcome = returns-clause-outcome g c in
+    right_lemma c.args.options.robust c.args.sound.now
+    (subst IsAssembly c.assembly.ensures.assembly c.parts.ensures.assembly) (below (length c.args.sound.now)) (finding_of c.in_ok-outcome.outcome) outcome.is
 
 pub returns-clause-certified : goal.returns-clause-certified
 returns-clause-certified g c =
-    all_certified c.args.options.robust c.args.sound.now
-    (subst IsAssembly c.assembly.ensures.assembly c.parts.ensures.assembly)
-    c.args.options.planes c.in_ok-outcome.outcome c.requires.most (returns-clause-outcome g c)
+    let outcome = returns-clause-outcome g c in
+    certified c.args.options.robust c.args.sound.now
+    (subst IsAssembly c.assembly.ensures.assembly c.parts.ensures.assembly) c.args.options.planes
+    (finding_of c.in_ok-outcome.outcome) c.requires.most (returns-clause-right g c) outcome.sized outcome.few
 
 pub returns-in_err-table-clause-outcome : goal.returns-in_err-table-clause-outcome
 returns-in_err-table-clause-outcome g c =
@@ -36,4 +35,4 @@ returns-in_err-table-clause-outcome g c =
 pub returns-in_err-outcome-clause-outcome : goal.returns-in_err-outcome-clause-outcome
 returns-in_err-outcome-clause-outcome g c =
     let p = err_from_is_err_and c.from_residual-in_err-outcome.result c.from_residual-in_err-outcome.ensures.1 in
-    rw (p.1, p.2, c.in_err-outcome.ensures.outcome) tt
+    rw (p.1, p.2) tt

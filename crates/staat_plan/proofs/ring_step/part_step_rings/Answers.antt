@@ -1,18 +1,14 @@
-use Rattle.staat_ring.specs.Rings.{unlinked_of}
 use Rattle.std.proofs.Common.{◌≡◌, ℕ, ◌+◌, ◌*◌, ◌<◌, ◌≤◌, min, arith, sym, subst, refl, List, length, ⊎_elim}
+use Rattle.std.proofs.{Math.Nat.mul-le-mul_right, lemmas.List.length-map}
 use Rattle.std.specs.Prelude.{None, Some}
-use Rattle.std.proofs.lemmas.List.{length-map}
-use Rattle.std.proofs.Math.Nat.{mul-le-mul_right}
-use Rattle.staat_ring.specs.Rings.{linked_of}
-use Rattle.staat_ring.specs.Stepping.{count_below}
+use Rattle.staat_vec.proofs.Naturals.{min_at_start, lt_or_le}
+use Rattle.staat_ring.specs.{Rings.{unlinked_of, linked_of}, Stepping.count_below}
 use Rattle.staat_ring.proofs.SignAll.{count_all}
-use Rattle.staat_plan.specs.RingSearches.{lengths_below}
 use Rattle.staat_certify.proofs.SomeMember.{some_member}
-use Rattle.staat_plan.proofs.RingLengths.{lengths_past, lengths_rise}
-use Rattle.staat_plan.proofs.RingStepLaw.{has_no_step}
+use Rattle.staat_plan.specs.RingSearches.{lengths_below}
+use Rattle.staat_plan.proofs.{RingLengths.{lengths_past, lengths_rise}, RingStepLaw.has_no_step}
 use Rattle.staat_plan.proofs.StepLemmas.{none_if_stuck}
 use Rattle.staat_plan.proofs.ring_step.part_step_rings.Goals as goal
-use Rattle.staat_vec.proofs.Naturals.{min_at_start, lt_or_le}
 
 pub loop-i-init : goal.loop-i-init
 loop-i-init g c = record {
@@ -22,12 +18,6 @@ loop-i-init g c = record {
   steps = omega arith;
   crossed = min_at_start c.args.walk.now.crossed (lengths_below 0 c.args.rings.now.rings) 18446744073709551615 (lengths_past 0 c.args.rings.now.rings (λ r cr. omega arith));
 }
-
-pub step_of-requires-clause-plane : goal.step_of-requires-clause-plane
-step_of-requires-clause-plane g c = (c.in-Some.ensures.placed c.in-Some.found refl).small
-
-pub step_of-requires-clause-later : goal.step_of-requires-clause-later
-step_of-requires-clause-later g c = (c.in-Some.ensures.placed c.in-Some.found refl).later
 
 in_all : (start now n k : ℕ) (ks : List ℕ) → length ks ≡ n → now ≤ start + count_below k ks * n → now ≤ start + n * n
 in_all start now n k ks e h =
@@ -79,8 +69,10 @@ returns-clause-steps g c =
 pub returns-clause-crossed : goal.returns-clause-crossed
 returns-clause-crossed g c parts k made lt none =
     let rings = c.args.rings.now.rings in
-    less_crossed c.args.walk.now.crossed (lengths_below (k + 1) rings) (lengths_below c.loop-i.i rings) c.loop-i.walk.crossed 18446744073709551615
-    (lengths_rise (k + 1) c.loop-i.i rings (let a = c.loop-i.invariant.all in let t = c.loop-i-test.false in omega (arith, lt, a, t))) c.loop-i.invariant.crossed
+    let a = c.loop-i.invariant.all in
+    let t = c.loop-i-test.false in
+    less_crossed c.args.walk.now.crossed (lengths_below (k + 1) rings) (lengths_below c.loop-i.i rings) c.loop-i.walk.crossed
+    18446744073709551615 (lengths_rise (k + 1) c.loop-i.i rings (omega (arith, lt, a, t))) c.loop-i.invariant.crossed
 
 pub returns-clause-step : goal.returns-clause-step
 returns-clause-step g c parts made =
@@ -99,3 +91,9 @@ returns-in-Some-clause-stuck g c parts made =
 
 pub search-requires-clause-some : goal.search-requires-clause-some
 search-requires-clause-some g c = some_member c.args.w (let two = c.requires.two in omega (arith, two))
+
+pub step_of-requires-clause-plane : goal.step_of-requires-clause-plane
+step_of-requires-clause-plane g c = (c.in-Some.ensures.placed c.in-Some.found refl).small
+
+pub step_of-requires-clause-later : goal.step_of-requires-clause-later
+step_of-requires-clause-later g c = (c.in-Some.ensures.placed c.in-Some.found refl).later

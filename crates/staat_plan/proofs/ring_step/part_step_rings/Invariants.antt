@@ -1,9 +1,7 @@
 use Rattle.std.proofs.Common.{◌≡◌, ◌+◌, ◌*◌, ◌-◌, ◌≤◌, ◌^◌, min, List, length}
 use Rattle.staat_model.specs.declared.assembly.Part.{Part}
 use Rattle.staat_pairs.specs.Tables.{WasMadeFrom}
-use Rattle.staat_ring.specs.Rings.{linked_of}
-use Rattle.staat_ring.specs.Stepping.{count_below}
-use Rattle.staat_ring.specs.Walked.{WalkWasMadeFrom}
+use Rattle.staat_ring.specs.{Rings.linked_of, Stepping.count_below, Walked.WalkWasMadeFrom}
 use Rattle.staat_plan.specs.RingSearches.{NoneServes, lengths_below}
 use Rattle.staat_plan.proofs.ring_step.part_step_rings.Given as goal
 

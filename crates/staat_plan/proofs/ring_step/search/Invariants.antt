@@ -2,10 +2,8 @@ use Rattle.std.proofs.Common.{◌≡◌, ◌+◌, ◌-◌, ◌^◌, min, List, C
 use Rattle.std.specs.Prelude.{Some}
 use Rattle.staat_model.specs.declared.assembly.Part.{Part}
 use Rattle.staat_pairs.specs.Tables.{WasMadeFrom}
-use Rattle.staat_ring.specs.Rings.{Ring}
-use Rattle.staat_ring.specs.Walked.{IsEntered, WalkWasMadeFrom}
-use Rattle.staat_plan.specs.declared.ring_step.Serving.{Serving}
-use Rattle.staat_plan.specs.RingSearches.{IsBest, IsLater, length_at}
+use Rattle.staat_ring.specs.{Rings.Ring, Walked.{IsEntered, WalkWasMadeFrom}}
+use Rattle.staat_plan.specs.{RingSearches.{IsBest, IsLater, length_at}, declared.ring_step.Serving.Serving}
 use Rattle.staat_plan.proofs.ring_step.search.Given as goal
 
 abbrev pub invariant-stops : goal.invariant-stops

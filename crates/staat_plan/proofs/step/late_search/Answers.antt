@@ -1,14 +1,10 @@
 use Rattle.std.proofs.Common.{refl}
 use Rattle.std.specs.Prelude.{length, ◌*◌, ◌≤◌, ⊤}
 use Rattle.staat_vec.specs.declared.vector.V3.{V3}
-use Rattle.staat_model.specs.Outcomes.{IsMovedSide, Serves}
-use Rattle.staat_model.specs.Planes.{vertices}
+use Rattle.staat_model.specs.{Outcomes.{IsMovedSide, Serves}, Planes.vertices}
 use Rattle.staat_model.proofs.Members.{All-from_members}
 use Rattle.staat_planes.proofs.SearchSteps.{unless_as}
 use Rattle.staat_plan.proofs.step.late_search.Goals as goal
-
-pub rules_out_all-requires-clause-fits : goal.rules_out_all-requires-clause-fits
-rules_out_all-requires-clause-fits c = (c.requires.some, c.new-trial.ensures c.args.table.now)
 
 pub returns-then-rules_out_all : goal.returns-then-rules_out_all
 returns-then-rules_out_all c parts planes made are =

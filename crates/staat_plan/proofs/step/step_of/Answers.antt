@@ -2,9 +2,6 @@ use Rattle.staat_model.proofs.SomePlanes.{some_planes}
 use Rattle.staat_plan.proofs.StepLemmas.{no_step, step_is}
 use Rattle.staat_plan.proofs.step.step_of.Goals as goal
 
-pub first_vertex-requires-clause-fits : goal.first_vertex-requires-clause-fits
-first_vertex-requires-clause-fits c = (c.requires.some, c.new-trial.ensures c.args.table.now)
-
 pub returns-in-None-clause-step : goal.returns-in-None-clause-step
 returns-in-None-clause-step c parts made =
     let (planes, are) = some_planes parts c.args.w in

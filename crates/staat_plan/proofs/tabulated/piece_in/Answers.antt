@@ -1,7 +1,6 @@
 use Rattle.std.proofs.Common.{◌≡◌, inl, inr, ◌∙◌, ap, arith, sym, subst, true≢false}
 use Rattle.std.specs.Prelude.{Some}
-use Rattle.staat_vec.proofs.Naturals.{lt_one_more_cases}
-use Rattle.staat_vec.proofs.Options.{some_injective}
+use Rattle.staat_vec.proofs.{Naturals.lt_one_more_cases, Options.some_injective}
 use Rattle.staat_model.specs.Assemblies.{piece_at}
 use Rattle.staat_model.proofs.PlanLemmas.{piece_within}
 use Rattle.staat_plan.proofs.TableFacets.{same_points}

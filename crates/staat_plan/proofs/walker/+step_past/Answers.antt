@@ -1,7 +1,6 @@
-use Rattle.std.proofs.Common.{inl, inr, ◌<◌, ◌-◌, ◌+◌, ◌∙◌, ap, arith, length, subst, sym, true≢false}
+use Rattle.std.proofs.Common.{inl, inr, ◌≤◌, ◌+◌, ◌∙◌, ap, arith, length, subst, sym, true≢false}
 use Rattle.std.proofs.lemmas.Option.{slice_get_within}
-use Rattle.staat_ring.specs.Rings.{Arrangement, linked_of}
-use Rattle.staat_ring.specs.Without.{IsRelinked}
+use Rattle.staat_ring.specs.{Rings.{Arrangement, linked_of}, Without.IsRelinked}
 use Rattle.staat_ring.proofs.Made.{relinked_back}
 use Rattle.staat_plan.proofs.RingSetLemmas.{marked_past, unlinked_past}
 use Rattle.staat_plan.proofs.walker.+step_past.Goals as goal
@@ -21,74 +20,25 @@ part_step_rings-requires-clause-linked g t c parts made k n at =
 pub step_past-requires : goal.step_past-requires
 step_past-requires g t c κs within =
     let n = length c.args.table.now.planes in
-    let lt : c.args.k < n = omega (arith, c.if-k-len.false, c.len.ensures.is) in
-    let less : n - (c.args.k + 1) < n - c.args.k = omega (arith, lt) in
-    let axes = c.requires.axes in (
-      omega (arith, less, c.decreases),
-      (
-        within,
-        (
-          c.requires.made,
-          (
-            c.requires.rings,
-            (
-              c.requires.within,
-              (
-                c.requires.marks,
-                (
-                  c.requires.two,
-                  (
-                    omega (arith, axes),
-                    (
-                      omega (arith, lt),
-                      marked_past n c.args.marks.now (linked_of c.args.rings.now.rings) c.args.k c.if-marks-k.true c.requires.linked,
-                    ),
-                  ),
-                ),
-              ),
-            ),
-          ),
-        ),
-      ),
-    )
-
-pub unlink-requires-clause-linked : goal.unlink-requires-clause-linked
-unlink-requires-clause-linked g t c = (c.requires.linked c.args.k (omega (arith, c.if-k-len.false, c.len.ensures.is))).1 (inl (omega arith))
+    let q = c.requires in
+    let axes = q.axes in
+    let high : 3 ≤ c.args.k + 1 = omega (arith, axes) in
+    let lt : c.args.k + 1 ≤ n = omega (arith, c.if-k-len.false, c.len.ensures.is) in
+    let ks = linked_of c.args.rings.now.rings in
+    let links = marked_past n c.args.marks.now ks c.args.k c.if-marks-k.true q.linked in
+    (omega (arith, lt, c.decreases), (within, (q.made, (q.rings, (q.within, (q.marks, (q.two, (high, (lt, links)))))))))
 
 pub step_past-step-requires : goal.step_past-step-requires
 step_past-step-requires g t c κs within =
     let n = length c.args.table.now.planes in
-    let lt : c.args.k < n = omega (arith, c.if-k-len.false, c.len.ensures.is) in
-    let less : n - (c.args.k + 1) < n - c.args.k = omega (arith, lt) in
-    let axes = c.requires.axes in (
-      omega (arith, less, c.decreases),
-      (
-        within,
-        (
-          c.requires.made,
-          (
-            c.unlink.ensures.made c.args.table.now.planes c.len.ensures.rules.planes c.requires.rings,
-            (
-              c.requires.within,
-              (
-                c.requires.marks,
-                (
-                  c.requires.two,
-                  (
-                    omega (arith, axes),
-                    (
-                      omega (arith, lt),
-                      unlinked_past n c.args.marks.now c.args.k c.args.rings.now c.unlink.new.self c.unlink.ensures.is
-                          (λ m. true≢false (sym m ∙ c.if-marks-k.false)) c.requires.linked,
-                    ),
-                  ),
-                ),
-              ),
-            ),
-          ),
-        ),
-      ),
-    )
+    let q = c.requires in
+    let axes = q.axes in
+    let high : 3 ≤ c.args.k + 1 = omega (arith, axes) in
+    let lt : c.args.k + 1 ≤ n = omega (arith, c.if-k-len.false, c.len.ensures.is) in
+    let rings = c.unlink.ensures.made c.args.table.now.planes c.len.ensures.rules.planes q.rings in
+    let links = unlinked_past n c.args.marks.now c.args.k c.args.rings.now c.unlink.new.self c.unlink.ensures.is
+    (λ m. true≢false (sym m ∙ c.if-marks-k.false)) q.linked in
+    (omega (arith, lt, c.decreases), (within, (q.made, (rings, (q.within, (q.marks, (q.two, (high, (lt, links)))))))))
 
 pub relink-requires : goal.relink-requires
 relink-requires g t c = record {
@@ -97,19 +47,7 @@ relink-requires g t c = record {
   is = ap (λ (rings : Arrangement). rings.unlinked) c.step_past-step.ensures.rings ∙ c.unlink.ensures.is.unlinked;
 }
 
-pub returns-then-marks-k-clause-rings : goal.returns-then-marks-k-clause-rings
-returns-then-marks-k-clause-rings g t c = c.step_past.ensures.rings
-
-pub returns-then-marks-k-clause-step : goal.returns-then-marks-k-clause-step
-returns-then-marks-k-clause-step g t c = c.step_past.ensures.step
-
-pub returns-then-k-len-clause-step : goal.returns-then-k-len-clause-step
-returns-then-k-len-clause-step g t c = c.part_step_rings.ensures.step
-
 pub returns-clause-rings : goal.returns-clause-rings
 returns-clause-rings g t c =
     relinked_back c.args.k c.args.rings.now c.unlink.new.self c.relink.new.self c.unlink.ensures.is
     (subst (λ (m : Arrangement). IsRelinked c.args.k m c.relink.new.self) c.step_past-step.ensures.rings c.relink.ensures.is)
-
-pub returns-clause-step : goal.returns-clause-step
-returns-clause-step g t c = c.step_past-step.ensures.step

@@ -1,10 +1,10 @@
-use Rattle.std.proofs.Common.{◌≡◌, ◌∙◌, ◌<◌, arith, subst, sym}
-use Rattle.std.proofs.lemmas.Result.{MatchResult-weaker}
+use Rattle.std.proofs.{Common.{◌≡◌, ◌∙◌, ◌<◌, arith, subst, sym}, lemmas.Result.IfOk-weaker}
 use Rattle.std.specs.FinSet as set
-use Rattle.staat_model.specs.Outcomes.{IsOutcome, finding_of, moved_stuck, no_step}
-use Rattle.staat_model.specs.Sets.{IsSubset}
-use Rattle.staat_plan.specs.Planning.{try_of}
-use Rattle.staat_plan.proofs.OutcomeLemmas.{leaf_found, many_parts, rest_fewer, rest_inside, rest_is_some, side_fewer, sides_found}
+use Rattle.staat_model.specs.{Outcomes.{IsOutcome, finding_of, moved_stuck, no_step}, Sets.{IsNonempty, IsSubset}}
+use Rattle.staat_model.specs.declared.set.PartSet.{PartSet}
+use Rattle.staat_model.proofs.{OtherSides.rest_some, RestrictLemmas.rest_within}
+use Rattle.staat_plan.specs.Planning.{joined_finding, try_of}
+use Rattle.staat_plan.proofs.OutcomeLemmas.{leaf_found, many_parts, rest_fewer, side_fewer, sides_found}
 use Rattle.staat_plan.proofs.StepLemmas.{step_side}
 use Rattle.staat_plan.proofs.planner.Planner.+outcome_of_set.Goals as goal
 
@@ -36,9 +36,11 @@ outcome_of_set-requires-2 g t c κs within =
     let side = step_side c.args.self.now.options.robust c.args.self.now.sound.now c.args.w (try_of found) found.step.moved
     (rw c.in-Some.is at c.in_ok-found.ensures.step) in
     let same : r ≡ set.difference c.args.w found.step.moved = c.without-other.ensures.is in
-    let inside : IsSubset r c.args.w = rest_inside c.args.w found.step.moved r same in
+    let some = subst IsNonempty (sym same) (rest_some c.args.w found.step.moved side) in
+    let inside = subst (λ (t : PartSet). IsSubset t c.args.w) (sym same) (rest_within c.args.w found.step.moved) in
     let less : set.len r < set.len c.args.w = rest_fewer c.args.w found.step.moved r side same in
-    (omega (arith, less, c.decreases), (within, (c.requires.planner, (c.in_ok-moved.ensures.ready, (rest_is_some c.args.w found.step.moved r side same, λ p h. c.requires.within p (inside p h))))))
+    let all : IsSubset r c.args.self.now.table.now.of = λ p h. c.requires.within p (inside p h) in
+    (omega (arith, less, c.decreases), (within, (c.requires.planner, (c.in_ok-moved.ensures.ready, (some, all)))))
 
 pub returns-in-Stuck-clause-outcome : goal.returns-in-Stuck-clause-outcome
 returns-in-Stuck-clause-outcome g t c =
@@ -49,11 +51,11 @@ pub returns-clause-outcome : goal.returns-clause-outcome
 returns-clause-outcome g t c =
     let robust = c.args.self.now.options.robust in
     let parts = c.args.self.now.sound.now in
-    let moved = c.in_ok-moved.ensures.outcome in
-    let rest = c.in_ok-rest.ensures.outcome in
-    MatchResult-weaker c.join_sides.result c.join_sides.ensures
-    (λ o e. subst (IsOutcome robust parts c.args.w) (sym e) (sides_found robust parts c.args.w c.without-other.result
-    c.in-Some.found (finding_of c.in_ok-moved.moved) (finding_of c.in_ok-rest.rest)
+    let moved = finding_of c.in_ok-moved.moved in
+    let rest = finding_of c.in_ok-rest.rest in
+    IfOk-weaker c.join_sides.result (λ o. finding_of o ≡ joined_finding c.in-Some.found moved rest)
+    (λ o. IsOutcome robust parts c.args.w (finding_of o)) (λ o e. subst (IsOutcome robust parts c.args.w) (sym e)
+    (sides_found robust parts c.args.w c.without-other.result c.in-Some.found moved rest
     (many_parts c.args.w c.count.result c.requires.some c.count.ensures.is c.if-count-eq1.false)
-    (rw c.in-Some.is at c.in_ok-found.ensures.step) c.without-other.ensures.is moved rest))
-    (λ e same. same)
+    (rw c.in-Some.is at c.in_ok-found.ensures.step) c.without-other.ensures.is c.in_ok-moved.ensures.outcome
+    c.in_ok-rest.ensures.outcome)) c.join_sides.ensures

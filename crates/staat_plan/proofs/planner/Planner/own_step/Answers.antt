@@ -1,28 +1,31 @@
-use Rattle.std.proofs.Common.{length, refl, subst, true}
-use Rattle.std.proofs.lemmas.Result.{err_from_is_err_and}
-use Rattle.staat_model.specs.declared.set.PartSet.{PartSet}
-use Rattle.staat_model.specs.Sets.{Has}
+use Rattle.std.proofs.{Common.{arith, length, subst, true}, lemmas.Result.IfOk-weaker}
+use Rattle.staat_model.specs.{Sets.Has, declared.set.PartSet.PartSet}
 use Rattle.staat_model.proofs.SetBits.{has-below}
-use Rattle.staat_plan.specs.Planning.{IsStepOf}
-use Rattle.staat_plan.proofs.Fewer.{only_memory}
+use Rattle.staat_planes.specs.Refusals.{IsPlanesRefusal, IsTableWithin}
+use Rattle.staat_certify.proofs.CertificateLemmas.{none_refused}
+use Rattle.staat_plan.specs.Planning.{IsSetStep, IsStepOf}
+use Rattle.staat_plan.proofs.Fewer.{few_inside, few_of_table}
 use Rattle.staat_plan.proofs.planner.Planner.own_step.Goals as goal
 
 pub tabulate-requires-clause-parts : goal.tabulate-requires-clause-parts
 tabulate-requires-clause-parts g c p h =
     (has-below (length c.args.self.now.sound.now) p).0 (subst (λ (u : PartSet). Has u p) c.requires.planner.all.table.set (c.requires.within p h))
 
-pub returns-in_err-own : goal.returns-in_err-own
-returns-in_err-own g c =
-    let p = err_from_is_err_and c.from_residual.result c.from_residual.ensures.1 in
-    rw (p.1, p.2) (only_memory c.args.self.now.sound.now c.args.self.now.table.now c.args.w c.args.self.now.options.planes
-    c.in_err-own.field-0.0 c.requires.planner.all.table.made c.requires.within c.requires.planner.all.few c.in_err-own.ensures)
+pub unreachable-requires : goal.unreachable-requires
+unreachable-requires g c =
+    let parts = c.args.self.now.sound.now in
+    let t = c.args.self.now.table.now in
+    let limit = c.args.self.now.options.planes in
+    let all = c.requires.planner.all in
+    none_refused parts c.args.w limit c.in-Err-TooManyPlanes.field-0-0
+    (few_inside parts c.args.w t.of limit limit (omega arith) c.requires.within
+    (few_of_table parts t limit all.table.made all.few))
+    (subst (IsPlanesRefusal parts c.args.w limit) c.in-Err-TooManyPlanes.field-0-is c.in-Err-TooManyPlanes.ensures)
 
-pub returns-in_err-cell_step : goal.returns-in_err-cell_step
-returns-in_err-cell_step g c =
-    let p = err_from_is_err_and c.from_residual-in_err-cell_step.result c.from_residual-in_err-cell_step.ensures.1 in rw (p.1, p.2) refl
-
-pub returns : goal.returns
-returns g c =
-    let own = c.in_ok-own.ensures in
-    subst (λ (u : PartSet). IsStepOf true c.args.self.now.sound.now u c.in_ok-cell_step.field-0) own.table.set
-    (c.in_ok-cell_step.ensures c.args.self.now.sound.now own.table.made)
+pub returns-in-Ok : goal.returns-in-Ok
+returns-in-Ok g c =
+    let parts = c.args.self.now.sound.now in
+    let own : IsTableWithin parts c.args.w c.args.self.now.options.planes c.in-Ok.own = c.in-Ok.ensures in
+    IfOk-weaker c.cell_step.result (IsSetStep true c.in-Ok.own c.in-Ok.own.of) (IsStepOf true parts c.args.w)
+    (λ found step. subst (λ (u : PartSet). IsStepOf true parts u found) own.table.set (step parts own.table.made))
+    c.cell_step.ensures

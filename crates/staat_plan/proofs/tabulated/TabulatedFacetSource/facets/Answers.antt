@@ -1,5 +1,4 @@
-use Rattle.std.proofs.Common.{◌∙◌, ap}
-use Rattle.std.proofs.lemmas.Result.{IfOk-weaker}
+use Rattle.std.proofs.{Common.{◌∙◌, ap}, lemmas.Result.IfOk-weaker}
 use Rattle.std.specs.Prelude.{Some}
 use Rattle.staat_cone.proofs.Sources.{listed_within, overlap_by_list}
 use Rattle.staat_plan.proofs.TableFacets.{facets_listed}
