@@ -2,7 +2,7 @@
 use Rattle.std.proofs.Common.{◌≡◌, ℕ, ◌<◌, ◌≤◌, arith, sym, subst, refl, List, [], length}
 use Rattle.std.specs.Prelude.{Some, Bool}
 use Rattle.std.specs.FinSet as set
-use Rattle.staat_model.specs.{Assemblies.IsAssembly, Plans.leaf, Sets.{Has, IsNonempty, IsSide, IsSubset, below}}
+use Rattle.staat_model.specs.{Assemblies.IsAssembly, Plans.leaf, Sets.{Has, IsNonempty, IsSide, below}}
 use Rattle.staat_model.specs.{declared.assembly.Part.Part, declared.set.PartSet.PartSet, declared.tree.Outcome.Outcome}
 use Rattle.staat_model.proofs.{OtherSides.rest_some, RestrictLemmas.rest_within, SetMembers.has-difference}
 use Rattle.staat_model.proofs.SetSizes.{one_is, one_within}

@@ -16,7 +16,8 @@ pub returns-clause-right : goal.returns-clause-right
 returns-clause-right g c =
     let outcome = returns-clause-outcome g c in
     right_lemma c.args.options.robust c.args.sound.now
-    (subst IsAssembly c.assembly.ensures.assembly c.parts.ensures.assembly) (below (length c.args.sound.now)) (finding_of c.in_ok-outcome.outcome) outcome.is
+    (subst IsAssembly c.assembly.ensures.assembly c.parts.ensures.assembly)
+    (below (length c.args.sound.now)) (finding_of c.in_ok-outcome.outcome) outcome.is
 
 pub returns-clause-certified : goal.returns-clause-certified
 returns-clause-certified g c =

@@ -4,7 +4,7 @@ use Rattle.std.specs.Prelude.{IsTrue, Some}
 use Rattle.staat_vec.proofs.{Truth.false_test_clash, Unique.from_place}
 use Rattle.staat_model.specs.Removal.{Blocks}
 use Rattle.staat_graph.specs.{Blocking.ShowsBlocking, Graphs.IsStrong}
-use Rattle.staat_ring.specs.{Rings.unlinked_of, declared.entry.Entry.Entry}
+use Rattle.staat_ring.specs.declared.entry.Entry.{Entry}
 use Rattle.staat_plan.specs.{RingSearches.{IsLater, IsServing}, declared.ring_step.Serving.Serving}
 use Rattle.staat_plan.proofs.RingLooking.{entry_placed, first_least, kept, one_more, right_is, stands_at, strong_serves_not}
 use Rattle.staat_plan.proofs.ring_step.look.Goals as goal
@@ -40,8 +40,8 @@ returns-then-is_strong-clause-best c parts made s at is before =
     (c.is_strong.ensures parts a.table.now rings made c.len-len.ensures.rules c.requires.made c.requires.entered
     c.requires.set (c.requires.linked parts made)) in
     kept before at.is
-    (λ serves e ce later. absurd (strong_serves_not parts a.table.now.planes a.w a.i s c.graph-graph.result.rows on.moves
-    shows (told.0 c.if-is_strong.true) serves))
+    (λ serves e ce later. absurd (strong_serves_not parts a.table.now.planes a.w a.i s c.graph-graph.result.rows
+    on.moves shows (told.0 c.if-is_strong.true) serves))
 
 pub returns-clause-placed : goal.returns-clause-placed
 returns-clause-placed c h e =

@@ -71,8 +71,8 @@ returns-clause-crossed g c parts k made lt none =
     let rings = c.args.rings.now.rings in
     let a = c.loop-i.invariant.all in
     let t = c.loop-i-test.false in
-    less_crossed c.args.walk.now.crossed (lengths_below (k + 1) rings) (lengths_below c.loop-i.i rings) c.loop-i.walk.crossed
-    18446744073709551615 (lengths_rise (k + 1) c.loop-i.i rings (omega (arith, lt, a, t))) c.loop-i.invariant.crossed
+    less_crossed c.args.walk.now.crossed (lengths_below (k + 1) rings) (lengths_below c.loop-i.i rings)
+    c.loop-i.walk.crossed 18446744073709551615 (lengths_rise (k + 1) c.loop-i.i rings (omega (arith, lt, a, t))) c.loop-i.invariant.crossed
 
 pub returns-clause-step : goal.returns-clause-step
 returns-clause-step g c parts made =
@@ -91,9 +91,3 @@ returns-in-Some-clause-stuck g c parts made =
 
 pub search-requires-clause-some : goal.search-requires-clause-some
 search-requires-clause-some g c = some_member c.args.w (let two = c.requires.two in omega (arith, two))
-
-pub step_of-requires-clause-plane : goal.step_of-requires-clause-plane
-step_of-requires-clause-plane g c = (c.in-Some.ensures.placed c.in-Some.found refl).small
-
-pub step_of-requires-clause-later : goal.step_of-requires-clause-later
-step_of-requires-clause-later g c = (c.in-Some.ensures.placed c.in-Some.found refl).later

@@ -38,8 +38,8 @@ stops-init g c = record {
   best = λ parts made r cr plane. nothing_yet c.enter.ensures.place;
 }
 
-counts : (old p : ℕ) {now next q : ℕ} → now ≡ min (old + p) 18446744073709551615 → next ≡ min (now + 1) 18446744073709551615
-    → p + 1 ≡ q → next ≡ min (old + q) 18446744073709551615
+counts : (old p : ℕ) {now next q : ℕ} → now ≡ min (old + p) 18446744073709551615
+    → next ≡ min (now + 1) 18446744073709551615 → p + 1 ≡ q → next ≡ min (old + q) 18446744073709551615
 counts old p e f h = omega arith
 
 rounds : (start old new a b n : ℕ) → old ≤ start + a * n → new ≤ old + n → a + 1 ≤ b → new ≤ start + b * n
@@ -99,7 +99,8 @@ stops-preserved g c =
       entered = c.cross.ensures.entered;
       circle = c.cross.ensures.circle ∙ c.stops.invariant.circle;
       placed = c.look-best.ensures.placed;
-      crossed = counts c.args.walk.now.crossed c.stops.walk.place c.stops.invariant.crossed c.cross.ensures.crossed (sym (goes f.0 f.1 f.2));
+      crossed = counts c.args.walk.now.crossed c.stops.walk.place c.stops.invariant.crossed c.cross.ensures.crossed
+          (sym (goes f.0 f.1 f.2));
       best = λ parts made r cr plane.
           subst (λ m. IsBest parts c.args.table.now.planes c.args.w c.args.i r.stops m c.look-best.result) (sym (goes r cr plane))
           (c.look-best.ensures.best parts made c.stops.invariant.entered.stop

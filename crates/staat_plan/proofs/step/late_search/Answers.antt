@@ -1,5 +1,5 @@
 use Rattle.std.proofs.Common.{refl}
-use Rattle.std.specs.Prelude.{length, ◌*◌, ◌≤◌, ⊤}
+use Rattle.std.specs.Prelude.{⊤}
 use Rattle.staat_vec.specs.declared.vector.V3.{V3}
 use Rattle.staat_model.specs.{Outcomes.{IsMovedSide, Serves}, Planes.vertices}
 use Rattle.staat_model.proofs.Members.{All-from_members}

@@ -1,5 +1,4 @@
 use Rattle.std.proofs.{Common.{◌∙◌, ap, sym, [], ◌∷◌, ◌++◌, arith}, lemmas.List.take_all}
-use Rattle.std.proofs.lemmas.Result.{err_from_is_err_and}
 use Rattle.staat_vec.proofs.ListLaws.{take_next}
 use Rattle.staat_pairs.specs.Tables.{facets_of}
 use Rattle.staat_plan.proofs.tabulated.facets_in.Goals as goal
