@@ -6,7 +6,6 @@ use Rattle.std.proofs.{Common.{List, [], ◌∷◌, ◌++◌, All, Contains, get
 use Rattle.std.proofs.{lemmas.List.Elements.{All-append, All-contains, All-head}, lemmas.Map.Views.All-after_first}
 use Rattle.std.specs.{List.Sorted.IsStrictlySortedBy, Ordering.ordering_reverse, Prelude.Some}
 use Rattle.std.specs.declared.cmp.Ordering.TheVariants.{Greater, Less}
-use Rattle.std.specs.FinSet as set
 use Rattle.staat_vec.specs.{Lists.IsFirst, Primitives.{IsCanon, canon, or_next}}
 use Rattle.staat_vec.specs.Vectors.{cross, dot, minus, negative, origin, plus, sign, vector, vector_cmp}
 use Rattle.staat_vec.specs.{declared.vector.Sign.Sign, declared.vector.V3.V3}

@@ -1,4 +1,4 @@
-use Rattle.std.proofs.Common.{◌≡◌, ℕ, ◌+◌, ◌*◌, ◌<◌, ◌≤◌, min, arith, sym, subst, refl, List, length, ⊎_elim}
+use Rattle.std.proofs.Common.{◌≡◌, ℕ, ◌+◌, ◌*◌, ◌<◌, ◌≤◌, min, arith, sym, subst, List, length, ⊎_elim}
 use Rattle.std.proofs.{Math.Nat.mul-le-mul_right, lemmas.List.length-map}
 use Rattle.std.specs.Prelude.{None, Some}
 use Rattle.staat_vec.proofs.Naturals.{min_at_start, lt_or_le}
@@ -72,7 +72,8 @@ returns-clause-crossed g c parts k made lt none =
     let a = c.loop-i.invariant.all in
     let t = c.loop-i-test.false in
     less_crossed c.args.walk.now.crossed (lengths_below (k + 1) rings) (lengths_below c.loop-i.i rings)
-    c.loop-i.walk.crossed 18446744073709551615 (lengths_rise (k + 1) c.loop-i.i rings (omega (arith, lt, a, t))) c.loop-i.invariant.crossed
+    c.loop-i.walk.crossed 18446744073709551615 (lengths_rise (k + 1) c.loop-i.i rings (omega (arith, lt, a, t)))
+    c.loop-i.invariant.crossed
 
 pub returns-clause-step : goal.returns-clause-step
 returns-clause-step g c parts made =
