@@ -37,9 +37,6 @@ use Rattle.staat_vec.proofs.Integers.{product_zero}
 use Rattle.staat_vec.proofs.VectorLaws.{dot_minus}
 use Rattle.staat_vec.proofs.Options.{one_answer}
 
-not_below : (p q r : ℤ) → p ≡ neg_ℤ q → q ≡ r → r ≡ pos 0 → p <ℤ pos 0 → ⊥
-not_below p q r e f g h = omega (arith, ints)
-
 module _ (p q : List V3) (is_p : IsPiece p) (is_q : IsPiece q) where
   abbrev vs : List V3
   vs = differences p q
@@ -71,13 +68,12 @@ module _ (p q : List V3) (is_p : IsPiece p) (is_q : IsPiece q) where
           let (g, h, (g_in, h_in, some, above), side) = edge_below vs x (negative w) (pieces_span p q is_p is_q) up low in
           let n = primitive (cross g h) in
           let r = primitive-is (cross g h) some in
-          not_below (dot (negative w) (cross g h)) (dot w (cross g h)) (pos r.factor *ℤ dot w n) (negative_dot w (cross g h)) (dot_multiple w (cross g h) n r.factor r.multiple)
-          (product_zero (pos r.factor) (dot w n) (across n (facet_of g h g_in h_in some above))) side
+          let turned = negative_dot w (cross g h) in
+          let multiple = dot_multiple w (cross g h) n r.factor r.multiple in
+          let level = product_zero (pos r.factor) (dot w n) (across n (facet_of g h g_in h_in some above)) in
+          omega (arith, ints, turned, multiple, level, side)
 
 module _ (p q facets : List V3) (is_p : IsPiece p) (is_q : IsPiece q) (are : (n : V3) → Contains facets n ↔ IsFacet p q n) where
-  difference : (b a c : ℤ) → c ≡ b -ℤ a → b ≤ℤ a → c ≤ℤ pos 0
-  difference b a c e h = omega (arith, ints)
-
   -- no farther along their sum: across each of them
   pub contact_where_near : (a b : V3) → Contains p a → Contains q b → dot b (total facets) ≤ℤ dot a (total facets) → Contact p q
   contact_where_near a b a_in b_in near =
@@ -85,35 +81,26 @@ module _ (p q facets : List V3) (is_p : IsPiece p) (is_q : IsPiece q) (are : (n 
       let w_in : Contains (differences p q) (minus b a) = in_differences p q a b a_in b_in in
       let up : All (λ n. pos 0 ≤ℤ dot (minus b a) n) facets = All-from_members (λ n. pos 0 ≤ℤ dot (minus b a) n) facets
       (λ n n_in. All-contains (λ v. pos 0 ≤ℤ dot v n) (differences p q) (minus b a) (beyond_is_above p q (differences p q) n (differences_are p q) ((are n).0 n_in).beyond) w_in) in
-      let low = difference (dot b (total facets)) (dot a (total facets)) (dot w (total facets)) (dot_minus b a (total facets)) near in
+      let low : dot (minus b a) (total facets) ≤ℤ pos 0 = (let e = dot_minus b a (total facets) in omega (arith, ints, e, near)) in
       contact_across p q is_p is_q w w_in (λ n f. All-contains (λ n. dot (minus b a) n ≡ pos 0) facets n (all_level (minus b a) facets up low) ((are n).1 f))
 
 -- where all of q lies farther along some vector than all of p
 past_where_far : (p q : List V3) (n : V3) (m : ℤ) → All (λ v. dot v n ≤ℤ m) p → ((b : V3) → Contains q b → dot b n ≤ℤ m → ⊥) → IsPastAt p q n m
 past_where_far p q n m most far = record { first = most; second = All-from_members (λ v. (m +ℤ pos 1) ≤ℤ dot v n) q (λ v v_in. beyond (dot v n) (far v v_in)) }
   where
-    next : (z : ℤ) → m <ℤ z → (m +ℤ pos 1) ≤ℤ z
-    next z h = omega (arith, ints)
-
     beyond : (z : ℤ) → (z ≤ℤ m → ⊥) → (m +ℤ pos 1) ≤ℤ z
-    beyond z not = by_lt_z {P = (m +ℤ pos 1) ≤ℤ z} m z (next z) (λ low. absurd (not low))
+    beyond z not = by_lt_z {P = (m +ℤ pos 1) ≤ℤ z} m z (λ up. omega (arith, ints, up)) (λ low. absurd (not low))
 
 -- ---- what starts to collide touches
-
-itself : (z : ℤ) → z ≤ℤ z
-itself z = omega (arith, ints)
-
-below : (a m v : ℤ) → a ≤ℤ m → m <ℤ v → a ≤ℤ v
-below a m v h up = omega (arith, ints)
 
 -- a point that lies farthest along n
 farthest : (n : V3) (p : List V3) → 1 ≤ length p → (m : V3) × Contains p m × All (λ v. dot v n ≤ℤ dot m n) p
 farthest n [] some = absurd (omega arith)
-farthest n (v ∷ []) some = (v, Contains-front v [], All-cons (λ w. dot w n ≤ℤ dot v n) v [] (itself (dot v n)) (All-nil (λ w. dot w n ≤ℤ dot v n)))
+farthest n (v ∷ []) some = (v, Contains-front v [], All-cons (λ w. dot w n ≤ℤ dot v n) v [] (omega (arith, ints)) (All-nil (λ w. dot w n ≤ℤ dot v n)))
 farthest n (v ∷ u ∷ us) some =
     let (m, m_in, most) = farthest n (u ∷ us) (omega arith) in
     by_lt_z {P = (m : V3) × Contains (v ∷ u ∷ us) m × All (λ v. dot v n ≤ℤ dot m n) (v ∷ u ∷ us)} (dot m n) (dot v n)
-    (λ up. (v, Contains-front v (u ∷ us), All-cons (λ w. dot w n ≤ℤ dot v n) v (u ∷ us) (itself (dot v n)) (All-weaker (λ w. dot w n ≤ℤ dot m n) (λ w. dot w n ≤ℤ dot v n) (λ w h. below (dot w n) (dot m n) (dot v n) h up) (u ∷ us) most)))
+    (λ up. (v, Contains-front v (u ∷ us), All-cons (λ w. dot w n ≤ℤ dot v n) v (u ∷ us) (omega (arith, ints)) (All-weaker (λ w. dot w n ≤ℤ dot m n) (λ w. dot w n ≤ℤ dot v n) (λ w h. omega (arith, ints, h, up)) (u ∷ us) most)))
     (λ low. (m, Contains-there v m (u ∷ us) m_in, All-cons (λ w. dot w n ≤ℤ dot m n) v (u ∷ us) low most))
 
 contact_of_start : (p q : List V3) (d : V3) → IsPiece p → IsPiece q → Starts p q d → Contact p q

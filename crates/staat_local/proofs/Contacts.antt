@@ -54,14 +54,8 @@ module _ (p q : List V3) where
 join_low : (a b c d e f : ℤ) → e ≡ a +ℤ b → f ≡ c +ℤ d → a ≤ℤ c → b ≤ℤ d → e ≤ℤ f
 join_low a b c d e f p q h g = omega (arith, ints)
 
-nothing_least : (m : ℤ) (x : V3) → (pos 0 *ℤ m) ≤ℤ dot origin x
-nothing_least m x = omega (arith, ints)
-
-nothing_most : (m : ℤ) (x : V3) → dot origin x ≤ℤ (pos 0 *ℤ m)
-nothing_most m x = omega (arith, ints)
-
 pub mix_least : (x : V3) (m : ℤ) (ws : List ℕ) (vs : List V3) → length ws ≡ length vs → All (λ v. m ≤ℤ dot v x) vs → (pos (sum ws) *ℤ m) ≤ℤ dot (mix ws vs) x
-mix_least x m [] vs e h = nothing_least m x
+mix_least x m [] vs e h = omega (arith, ints)
 mix_least x m (w ∷ ws) [] e h = absurd (omega arith)
 mix_least x m (w ∷ ws) (v ∷ vs) e h =
     join_low (pos w *ℤ m) (pos (sum ws) *ℤ m) (pos w *ℤ dot v x) (dot (mix ws vs) x) (pos (sum (w ∷ ws)) *ℤ m) (dot (mix (w ∷ ws) (v ∷ vs)) x)
@@ -69,7 +63,7 @@ mix_least x m (w ∷ ws) (v ∷ vs) e h =
     (mix_least x m ws vs (omega arith) (All-tail (λ v. m ≤ℤ dot v x) v vs h))
 
 pub mix_most : (x : V3) (m : ℤ) (ws : List ℕ) (vs : List V3) → length ws ≡ length vs → All (λ v. dot v x ≤ℤ m) vs → dot (mix ws vs) x ≤ℤ (pos (sum ws) *ℤ m)
-mix_most x m [] vs e h = nothing_most m x
+mix_most x m [] vs e h = omega (arith, ints)
 mix_most x m (w ∷ ws) [] e h = absurd (omega arith)
 mix_most x m (w ∷ ws) (v ∷ vs) e h =
     join_low (pos w *ℤ dot v x) (dot (mix ws vs) x) (pos w *ℤ m) (pos (sum ws) *ℤ m) (dot (mix (w ∷ ws) (v ∷ vs)) x) (pos (sum (w ∷ ws)) *ℤ m)
@@ -94,10 +88,9 @@ gap p q x m a b past la lb same =
 
 pub past_no_contact : (p q : List V3) (x : V3) (m : ℤ) → IsPastAt p q x m → Contact p q → ⊥
 past_no_contact p q x m past c =
-    clash (sum c.a) (dot (mix c.a p) x) (dot (mix c.b q) x) c.some (ap (λ v. dot v x) c.same_place) (gap p q x m c.a c.b past c.a_each c.b_each c.same_sum)
-  where
-    clash : (s : ℕ) (a b : ℤ) → 1 ≤ s → a ≡ b → (a +ℤ pos s) ≤ℤ b → ⊥
-    clash s a b one e h = omega (arith, ints)
+    let far = gap p q x m c.a c.b past c.a_each c.b_each c.same_sum in
+    let same = ap (λ v. dot v x) c.same_place in
+    let some = c.some in omega (arith, ints, far, same, some)
 
 -- ---- what is kept apart does not collide soon
 

@@ -49,16 +49,10 @@ total_next (u ∷ vs) zero v e = ap (λ w. plus w origin) (same e) ∙ nothing_b
 total_next (u ∷ vs) (suc m) v e = ap (plus u) (total_next vs m v e) ∙ plus_assoc u (total (take m vs)) v
 
 pub total_more : (vs : List V3) (m : ℕ) (v : V3) → slice_get vs m ≡ Some v → total (take (m + 1) vs) ≡ plus (total (take m vs)) v
-total_more vs m v e = ap (λ k. total (take k vs)) (next m) ∙ total_next vs m v e
-  where
-    next : (m : ℕ) → m + 1 ≡ suc m
-    next m = omega arith
+total_more vs m v e = let next : m + 1 ≡ suc m = omega arith in ap (λ k. total (take k vs)) next ∙ total_next vs m v e
 
 pub sum_within : (m size : ℕ) (s v t : V3) → t ≡ plus s v → IsWithin (m * size) s → IsWithin size v → IsWithin ((m + 1) * size) t
-sum_within m size s v t e h g = subst (IsWithin ((m + 1) * size)) (sym e) (IsWithin-wider (m * size + size) ((m + 1) * size) (plus s v) (once_more m size) (IsWithin-plus (m * size) size s v h g))
-  where
-    once_more : (m size : ℕ) → m * size + size ≤ (m + 1) * size
-    once_more m size = omega arith
+sum_within m size s v t e h g = subst (IsWithin ((m + 1) * size)) (sym e) (IsWithin-wider (m * size + size) ((m + 1) * size) (plus s v) (omega arith) (IsWithin-plus (m * size) size s v h g))
 
 total_up : (v : V3) (fs : List V3) → All (λ f. pos 0 ≤ℤ dot v f) fs → pos 0 ≤ℤ dot v (total fs)
 total_up v [] h = nonneg_is (dot v origin) (pos 0) (ring (values (v ∷ []) []) (dotE v0 originE) (num (pos 0)) tt) (nonneg_pos 0)

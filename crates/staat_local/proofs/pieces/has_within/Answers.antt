@@ -1,4 +1,4 @@
-use Rattle.std.proofs.Common.{◌≡◌, ◌∙◌, ◌≤ℤ◌, ℤ, IsTrue, arith, of_z, subst, sym, to_z}
+use Rattle.std.proofs.Common.{◌∙◌, ◌≤ℤ◌, ℤ, IsTrue, arith, of_z, subst, sym, to_z}
 use Rattle.std.specs.Int.{w128}
 use Rattle.std.specs.Int.Signed.{le_z}
 use Rattle.std.proofs.lemmas.Bool.{false≢true}
