@@ -4,6 +4,7 @@ use Rattle.std.proofs.lemmas.List.Elements.{All-contains}
 use Rattle.std.specs.Prelude.{◌↔◌, MatchOption, None, Option, Some}
 use Rattle.std.specs.FinSet as set
 use Rattle.staat_vec.specs.declared.vector.V3.{V3}
+use Rattle.staat_vec.specs.Vectors.{negative}
 use Rattle.staat_model.specs.declared.assembly.Part.{Part}
 use Rattle.staat_model.specs.declared.set.PartSet.{PartSet}
 use Rattle.staat_model.specs.Assemblies.{IsAssembly}
@@ -11,16 +12,18 @@ use Rattle.staat_model.specs.Planes.{ArePlanes, vertices}
 use Rattle.staat_model.specs.Sets.{Has, IsSubset, single}
 use Rattle.staat_model.proofs.RestrictLemmas.{rest_apart, rest_within}
 use Rattle.staat_model.proofs.SetMembers.{has-difference, has-single}
-use Rattle.staat_model.proofs.SetSizes.{one_is, one_within}
+use Rattle.staat_model.proofs.SomePlanes.{some_planes}
 use Rattle.staat_model.proofs.VertexLemmas.{vertices_decide_lemma}
 use Rattle.staat_graph.proofs.Finite.{len_fewer}
 use Rattle.staat_planes.specs.declared.search.Served.{Served}
 use Rattle.staat_planes.specs.VertexSearch.{IsFirstServed}
+use Rattle.staat_core.specs.LastAxis.{last_axis}
+use Rattle.staat_core.proofs.FirstVertices.{axis_first}
 use Rattle.staat_linear.specs.declared.order.Leave.{Leave}
 use Rattle.staat_linear.specs.declared.order.Order.{Order}
 use Rattle.staat_linear.specs.declared.order.Order.TheVariants.{Whole, Locked}
 use Rattle.staat_linear.specs.Holding.{IsLeastLeaving}
-use Rattle.staat_linear.specs.Orders.{HasNoLeave, IsChosen, IsLeave, IsLocked, LetsLeave, SettlesOrder, no_leave, one_part, then_locked, then_whole, all_but}
+use Rattle.staat_linear.specs.Orders.{HasNoLeave, IsChosen, IsLeave, IsLocked, LetsLeave, SettlesOrder, no_leave, after, all_but, one_part, then_on}
 
 -- ---- one step
 
@@ -40,9 +43,16 @@ locked_if_none parts w None is two none = (λ e. locked_at_vertices parts w is t
 locked_if_none parts w (Some leave) is two step =
     (λ e. absurd cc, λ locked. absurd (locked.held leave.part leave.d step.leaves.member step.leaves.free))
 
--- what a search has found is the step
-pub served_is_leave : (parts : List Part) (w : PartSet) (planes : List V3) (s : Served ℕ) → ArePlanes parts w planes → IsFirstServed (LetsLeave parts w) (IsLeastLeaving parts w) (vertices planes) s → IsLeave parts w (record { part = s.found; d = s.d })
-served_is_leave parts w planes s are h = record { planes = planes; planes_are = are; first = h.first; leaves = h.found_is.leaves; least = h.found_is.least }
+-- the first vertex that serves, with the part that leaves there, is the step
+pub served_is_leave : (parts : List Part) (w : PartSet) (s : Served ℕ) → ((planes : List V3) → ArePlanes parts w planes → IsFirstServed (LetsLeave parts w) (IsLeastLeaving parts w) (vertices planes) s) → IsLeave parts w (record { part = s.found; d = s.d })
+served_is_leave parts w s first =
+    let (planes, are) = some_planes parts w in
+    let h = first planes are in
+    record { planes = planes; planes_are = are; first = h.first; leaves = h.found_is.leaves; least = h.found_is.least }
+
+-- the first two vertices are the last axis and its opposite
+pub axis_is_leave : (parts : List Part) (w : PartSet) (s : Served ℕ) → IsFirstServed (LetsLeave parts w) (IsLeastLeaving parts w) (last_axis ∷ negative last_axis ∷ []) s → IsLeave parts w (record { part = s.found; d = s.d })
+axis_is_leave parts w s h = served_is_leave parts w s (λ planes are. axis_first (LetsLeave parts w) (IsLeastLeaving parts w) parts w planes are (Some s) h)
 
 -- ---- the order
 
@@ -58,15 +68,11 @@ one_more parts w (first ∷ leaves) u leave down two is = (down.0, down.1, one_m
 
 pub down_to_last : (parts : List Part) (w : PartSet) (leaves : List Leave) (u : PartSet) (last : ℕ) → ComesDown parts w leaves u → u ≡ single last → IsChosen parts w (Whole leaves last)
 down_to_last parts w [] u last down one = one_part (down ∙ one)
-down_to_last parts w (leave ∷ leaves) u last down one = then_whole down.0 down.1 (down_to_last parts (all_but w leave.part) leaves u last down.2 one)
+down_to_last parts w (leave ∷ leaves) u last down one = then_on down.0 down.1 (down_to_last parts (all_but w leave.part) leaves u last down.2 one) refl
 
 pub down_to_locked : (parts : List Part) (w : PartSet) (leaves : List Leave) (u : PartSet) → ComesDown parts w leaves u → 2 ≤ set.len u → HasNoLeave parts u → IsChosen parts w (Locked u)
 down_to_locked parts w [] u down two none = subst (λ (s : PartSet). IsChosen parts s (Locked u)) (sym down) (no_leave two none)
-down_to_locked parts w (leave ∷ leaves) u down two none = then_locked down.0 down.1 (down_to_locked parts (all_but w leave.part) leaves u down.2 two none)
-
--- a set with one part alone, which is its least
-pub alone_is : (u : PartSet) (p : ℕ) → Has u p → set.len u ≤ 1 → u ≡ single p
-alone_is u p has le = one_is u p has (one_within u p has le)
+down_to_locked parts w (leave ∷ leaves) u down two none = then_on down.0 down.1 (down_to_locked parts (all_but w leave.part) leaves u down.2 two none) refl
 
 -- without one part a set of two is smaller, and has others
 pub fewer : (w u : PartSet) (p : ℕ) → Has w p → u ≡ all_but w p → set.len u < set.len w
@@ -77,12 +83,11 @@ inside w u z p within e q h = within q (rest_within w (single p) q (subst (λ (t
 
 -- ---- what is chosen is right
 
+settles_after : (parts : List Part) (w : PartSet) (leave : Leave) (rest : Order) → IsLeave parts w leave → SettlesOrder parts (all_but w leave.part) rest → SettlesOrder parts w (after leave rest)
+settles_after parts w leave (Whole leaves last) step good = record { order = (step.leaves.member, good.order); free = (step.leaves.free, good.free) }
+settles_after parts w leave (Locked a) step t = ((λ q h. rest_within w (single leave.part) q (t.0 q h)), t.1)
+
 pub chosen_settles : (parts : List Part) (w : PartSet) (order : Order) → IsAssembly parts → IsChosen parts w order → SettlesOrder parts w order
 chosen_settles parts w order is (one_part e) = record { order = e; free = tt }
 chosen_settles parts w order is (no_leave two none) = ((λ q h. h), locked_at_vertices parts w is two none)
-chosen_settles parts w order is (then_whole {leave} {leaves} {last} two step later) =
-    let good = chosen_settles parts (all_but w leave.part) (Whole leaves last) is later in
-    record { order = (step.leaves.member, good.order); free = (step.leaves.free, good.free) }
-chosen_settles parts w order is (then_locked {a} {leave} two step later) =
-    let t = chosen_settles parts (all_but w leave.part) (Locked a) is later in
-    ((λ q h. rest_within w (single leave.part) q (t.0 q h)), t.1)
+chosen_settles parts w order is (then_on {leave} {rest} two step later e) = subst (SettlesOrder parts w) (sym e) (settles_after parts w leave rest step (chosen_settles parts (all_but w leave.part) rest is later))

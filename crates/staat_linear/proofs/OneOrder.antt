@@ -1,5 +1,5 @@
 -- A set of parts has one chosen order.
-use Rattle.std.proofs.Common.{◌≡◌, ◌≤◌, ℕ, List, [], ◌∷◌, Contains, arith, ap, sym, ◌∙◌, subst, refl}
+use Rattle.std.proofs.Common.{◌≡◌, ◌≤◌, List, [], Contains, arith, ap, sym, ◌∙◌, subst, refl}
 use Rattle.std.proofs.lemmas.List.Elements.{All-contains}
 use Rattle.staat_vec.specs.Lists.{IsFirst}
 use Rattle.staat_vec.proofs.Unique.{IsFirst-in, IsFirst-unique}
@@ -9,8 +9,8 @@ use Rattle.staat_model.specs.Planes.{vertices}
 use Rattle.staat_model.proofs.OneTable.{ArePlanes-unique}
 use Rattle.staat_linear.specs.declared.order.Leave.{Leave}
 use Rattle.staat_linear.specs.declared.order.Order.{Order}
-use Rattle.staat_linear.specs.declared.order.Order.TheVariants.{Whole, Locked}
-use Rattle.staat_linear.specs.Orders.{HasNoLeave, IsChosen, IsLeave, LeavesAlong, LetsLeave, no_leave, one_part, then_locked, then_whole, all_but}
+use Rattle.staat_linear.specs.declared.order.Order.TheVariants.{Whole}
+use Rattle.staat_linear.specs.Orders.{HasNoLeave, IsChosen, IsLeave, LeavesAlong, LetsLeave, after, all_but, no_leave, one_part, then_on}
 use Rattle.staat_model.proofs.OneOutcome.{one_alone, not_single}
 
 module _ (parts : List Part) where
@@ -32,29 +32,17 @@ module _ (parts : List Part) where
   along : (w : PartSet) (x y : Leave) (o : Order) → x ≡ y → IsChosen parts (all_but w y.part) o → IsChosen parts (all_but w x.part) o
   along w x y o e = subst (λ (l : Leave). IsChosen parts (all_but w l.part) o) (sym e)
 
-  whole_is : (x y : Leave) (xs ys : List Leave) (p q : ℕ) → x ≡ y → Whole xs p ≡ Whole ys q → Whole (x ∷ xs) p ≡ Whole (y ∷ ys) q
-  whole_is x y xs ys p q e f = cc
-
   -- a set has one chosen order
   pub IsChosen-unique : {w : PartSet} {o p : Order} → IsChosen parts w o → IsChosen parts w p → o ≡ p
   IsChosen-unique (one_part {p = p} e) (one_part {p = q} e') = ap (λ n. Whole [] n) (one_alone p q (sym e ∙ e'))
   IsChosen-unique (one_part {p = p} e) (no_leave two' none') = absurd (not_single _ p e two')
-  IsChosen-unique (one_part {p = p} e) (then_whole two' s' l') = absurd (not_single _ p e two')
-  IsChosen-unique (one_part {p = p} e) (then_locked two' s' l') = absurd (not_single _ p e two')
+  IsChosen-unique (one_part {p = p} e) (then_on two' s' l' is') = absurd (not_single _ p e two')
   IsChosen-unique (no_leave two none) (one_part {p = q} e') = absurd (not_single _ q e' two)
   IsChosen-unique (no_leave two none) (no_leave two' none') = refl
-  IsChosen-unique (no_leave two none) (then_whole two' s' l') = absurd (no_leave_and_leave _ _ none s')
-  IsChosen-unique (no_leave two none) (then_locked two' s' l') = absurd (no_leave_and_leave _ _ none s')
-  IsChosen-unique (then_whole two s l) (one_part {p = q} e') = absurd (not_single _ q e' two)
-  IsChosen-unique (then_whole two s l) (no_leave two' none') = absurd (no_leave_and_leave _ _ none' s)
-  IsChosen-unique {w = w} (then_whole {leave = x} {leaves = xs} {last = p} two s l) (then_whole {leave = y} {leaves = ys} {last = q} two' s' l') =
+  IsChosen-unique (no_leave two none) (then_on two' s' l' is') = absurd (no_leave_and_leave _ _ none s')
+  IsChosen-unique (then_on two s l is) (one_part {p = q} e') = absurd (not_single _ q e' two)
+  IsChosen-unique (then_on two s l is) (no_leave two' none') = absurd (no_leave_and_leave _ _ none' s)
+  IsChosen-unique {w = w} (then_on {leave = x} {rest = xs} two s l is) (then_on {leave = y} {rest = ys} two' s' l' is') =
       let e : x ≡ y = leave_unique w x y s s' in
-      whole_is x y xs ys p q e (IsChosen-unique l (along w x y (Whole ys q) e l'))
-  IsChosen-unique {w = w} (then_whole {leave = x} {leaves = xs} {last = p} two s l) (then_locked {a = a} {leave = y} two' s' l') =
-      let wrong : Whole xs p ≡ Locked a = IsChosen-unique l (along w x y (Locked a) (leave_unique w x y s s') l') in absurd cc
-  IsChosen-unique (then_locked two s l) (one_part {p = q} e') = absurd (not_single _ q e' two)
-  IsChosen-unique (then_locked two s l) (no_leave two' none') = absurd (no_leave_and_leave _ _ none' s)
-  IsChosen-unique {w = w} (then_locked {a = a} {leave = x} two s l) (then_whole {leave = y} {leaves = ys} {last = q} two' s' l') =
-      let wrong : Locked a ≡ Whole ys q = IsChosen-unique l (along w x y (Whole ys q) (leave_unique w x y s s') l') in absurd cc
-  IsChosen-unique {w = w} (then_locked {a = a} {leave = x} two s l) (then_locked {a = b} {leave = y} two' s' l') =
-      IsChosen-unique l (along w x y (Locked b) (leave_unique w x y s s') l')
+      let rest : xs ≡ ys = IsChosen-unique l (along w x y ys e l') in
+      is ∙ (λ i. after (e i) (rest i)) ∙ sym is'

@@ -65,16 +65,18 @@ pub record HasNoLeave (parts : List Part) (w : PartSet) : Type 0 where
   pub planes_are : ArePlanes parts w planes
   pub none : All (λ d. LetsLeave parts w d → ⊥) (vertices planes)
 
+-- the order with this step before it; a set that is locked is locked after each step
+abbrev pub after : Leave → Order → Order
+after leave (Whole leaves last) = Whole (leave ∷ leaves) last
+after leave (Locked a) = Locked a
+
 -- The chosen order of w: a part by itself is the last one; where no part can leave, w is locked; else the chosen part
 -- leaves, and it goes on with the others.
 pub data IsChosen (parts : List Part) : PartSet → Order → Type 0 where
   one_part : {w : PartSet} {p : ℕ} → w ≡ single p → IsChosen parts w (Whole [] p)
   no_leave : {w : PartSet} → 2 ≤ set.len w → HasNoLeave parts w → IsChosen parts w (Locked w)
-  then_whole : {w : PartSet} {leave : Leave} {leaves : List Leave} {last : ℕ} → 2 ≤ set.len w
-      → IsLeave parts w leave → IsChosen parts (all_but w leave.part) (Whole leaves last)
-      → IsChosen parts w (Whole (leave ∷ leaves) last)
-  then_locked : {w a : PartSet} {leave : Leave} → 2 ≤ set.len w → IsLeave parts w leave
-      → IsChosen parts (all_but w leave.part) (Locked a) → IsChosen parts w (Locked a)
+  then_on : {w : PartSet} {leave : Leave} {rest order : Order} → 2 ≤ set.len w → IsLeave parts w leave
+      → IsChosen parts (all_but w leave.part) rest → order ≡ after leave rest → IsChosen parts w order
 
 -- the order is good for w; or the set that is named lies in w and is locked
 abbrev pub SettlesOrder : List Part → PartSet → Order → Type 0

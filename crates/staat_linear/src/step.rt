@@ -10,12 +10,12 @@ ghost use Rattle.staat_linear.specs.Holding.{AreHeld, IsHeld, IsLeastFree, IsLea
 ghost use Rattle.staat_linear.specs.Orders.{HasNoLeave, IsLeave, IsLocked, LetsLeave};
 
 use crate::order::Leave;
-use staat_core::{Moving, SetCore, served_on_axis};
+use staat_core::{Moving, SetCore};
 use staat_graph::Graph;
 use staat_limits::MOST_PARTS;
 use staat_model::PartSet;
 use staat_planes::{PlaneTable, Trial, Tried, first_vertex};
-use staat_vec::{DIRECTION, V3};
+use staat_vec::{DIRECTION, V3, neg};
 
 // whether an arc leads from the part p of w to another part of w
 fn is_held(graph: &Graph, w: PartSet, p: u32) -> bool
@@ -57,38 +57,6 @@ fn part_along(table: &PlaneTable, w: PartSet, d: V3) -> Tried<u32>
     match least_free(&graph.reversed(), w) {
         Some(p) => Tried::Opposite(p),
         None => Tried::Neither,
-    }
-}
-
-// The look for a part that leaves, which keeps nothing.
-#[derive(Drop)]
-struct PartLook;
-
-impl Trial for PartLook {
-    ghost use Rattle.std.specs.Prelude.{⊤};
-
-    type Found = u32;
-
-    ghost fits = { λ s t w. IsNonempty w };
-
-    ghost knows = { λ s parts. ⊤ };
-
-    ghost serves = { λ parts w d. LetsLeave parts w d };
-
-    ghost finds = { λ parts w d p. IsLeastLeaving parts w d p };
-
-    ghost among = { λ w p. Has w p };
-
-    fn ask(&mut self, table: &PlaneTable, w: PartSet, d: V3) -> Tried<u32> {
-        part_along(table, w, d)
-    }
-
-    fn rules_out(&mut self, _table: &PlaneTable, _w: PartSet, _g: V3) -> bool {
-        false
-    }
-
-    fn rules_out_all(&mut self, _table: &PlaneTable, _w: PartSet) -> bool {
-        false
     }
 }
 
@@ -165,12 +133,11 @@ pub fn linear_step(table: &PlaneTable, w: PartSet) -> Option<Leave>
     ensures locked { (parts : List PartValue) → WasMadeFrom parts table.now
         → (result ≡ None) ↔ IsLocked parts w }
 {
-    let mut look = PartLook;
-    match served_on_axis(table, w, &mut look) {
-        None => searched_step(table, w),
-        Some(served) => Some(Leave {
-            part: served.found,
-            d: served.d,
-        }),
+    // the first vertices of the planes of each set, along which most sets let a part leave
+    let d = V3 { x: 0, y: 0, z: 1 };
+    match part_along(table, w, d) {
+        Tried::Ahead(part) => Some(Leave { part, d }),
+        Tried::Opposite(part) => Some(Leave { part, d: neg(d) }),
+        Tried::Neither => searched_step(table, w),
     }
 }

@@ -24,18 +24,6 @@ fn last_line(alloc: Global, last: u32) -> Result<String, AllocError>
     format!(in alloc; "last {last}\n")
 }
 
-// The lines of the steps.
-fn take_lines(alloc: Global, leaves: &[Leave]) -> Result<Vec<u8>, AllocError>
-    ensures { IfOk result (λ text. text.items ≡ flat_map take_line leaves.now) }
-{
-    let mut text = Vec::new(alloc);
-    for leave in leaves {
-        let line = take_line(alloc, leave)?;
-        text.extend_from_slice(line.as_bytes())?;
-    }
-    Ok(text)
-}
-
 // A part after the space that parts it from what is before.
 fn spaced_part(alloc: Global, part: u32) -> Result<String, AllocError>
     ensures { IfOk result (λ s. string_bytes s ≡ 32 ∷ decimal part) }
@@ -59,11 +47,15 @@ fn locked_line(alloc: Global, w: PartSet) -> Result<Vec<u8>, AllocError>
     Ok(line)
 }
 
-// The text of an order.
+// The lines of the steps, and of the part that is left.
 fn whole_text(alloc: Global, leaves: &[Leave], last: u32) -> Result<Vec<u8>, AllocError>
     ensures { IfOk result (λ text. text.items ≡ flat_map take_line leaves.now ++ last_line last) }
 {
-    let mut text = take_lines(alloc, leaves)?;
+    let mut text = Vec::new(alloc);
+    for leave in leaves {
+        let line = take_line(alloc, leave)?;
+        text.extend_from_slice(line.as_bytes())?;
+    }
     let line = last_line(alloc, last)?;
     text.extend_from_slice(line.as_bytes())?;
     Ok(text)

@@ -28,17 +28,14 @@ use Rattle.staat_vec.proofs.Unique.{Contains-front, from_place}
 use Rattle.staat_model.proofs.Differences.{in_differences}
 use Rattle.staat_model.proofs.Edge.{edge_below}
 use Rattle.staat_model.proofs.Members.{All-from_members}
-use Rattle.staat_model.proofs.PieceFacets.{beyond_is_above, differences_are, from_cone_facet, pieces_span}
+use Rattle.staat_model.proofs.PieceFacets.{beyond_is_above, differences_are, from_cone_facet, piece_some, pieces_span}
 use Rattle.staat_local.specs.Contacts.{Contact, Starts, total}
-use Rattle.staat_local.specs.Touching.{IsNoFarther}
+use Rattle.staat_local.specs.Touching.{IsReach}
 use Rattle.staat_local.proofs.Contacts.{IsPastAt, contact_combined, meets_of_start, past_no_contact, past_no_start, soon_weights}
-use Rattle.staat_local.proofs.Points.{all_level, itself, no_farther_on, other_way}
-use Rattle.staat_vec.proofs.Integers.{add_one_le, product_zero}
+use Rattle.staat_local.proofs.Points.{all_level}
+use Rattle.staat_vec.proofs.Integers.{product_zero}
 use Rattle.staat_vec.proofs.VectorLaws.{dot_minus}
 use Rattle.staat_vec.proofs.Options.{one_answer}
-
-not_below : (p q r : ℤ) → p ≡ neg_ℤ q → q ≡ r → r ≡ pos 0 → p <ℤ pos 0 → ⊥
-not_below p q r e f g h = omega (arith, ints)
 
 module _ (p q : List V3) (is_p : IsPiece p) (is_q : IsPiece q) where
   abbrev vs : List V3
@@ -71,62 +68,50 @@ module _ (p q : List V3) (is_p : IsPiece p) (is_q : IsPiece q) where
           let (g, h, (g_in, h_in, some, above), side) = edge_below vs x (negative w) (pieces_span p q is_p is_q) up low in
           let n = primitive (cross g h) in
           let r = primitive-is (cross g h) some in
-          not_below (dot (negative w) (cross g h)) (dot w (cross g h)) (pos r.factor *ℤ dot w n) (negative_dot w (cross g h)) (dot_multiple w (cross g h) n r.factor r.multiple)
-          (product_zero (pos r.factor) (dot w n) (across n (facet_of g h g_in h_in some above))) side
+          let turned = negative_dot w (cross g h) in
+          let multiple = dot_multiple w (cross g h) n r.factor r.multiple in
+          let level = product_zero (pos r.factor) (dot w n) (across n (facet_of g h g_in h_in some above)) in
+          omega (arith, ints, turned, multiple, level, side)
 
 module _ (p q facets : List V3) (is_p : IsPiece p) (is_q : IsPiece q) (are : (n : V3) → Contains facets n ↔ IsFacet p q n) where
   -- no farther along their sum: across each of them
-  pub contact_where_near : (a b : V3) → Contains p a → Contains q b → IsNoFarther (total facets) a b → Contact p q
+  pub contact_where_near : (a b : V3) → Contains p a → Contains q b → dot b (total facets) ≤ℤ dot a (total facets) → Contact p q
   contact_where_near a b a_in b_in near =
       let w = minus b a in
       let w_in : Contains (differences p q) (minus b a) = in_differences p q a b a_in b_in in
       let up : All (λ n. pos 0 ≤ℤ dot (minus b a) n) facets = All-from_members (λ n. pos 0 ≤ℤ dot (minus b a) n) facets
       (λ n n_in. All-contains (λ v. pos 0 ≤ℤ dot v n) (differences p q) (minus b a) (beyond_is_above p q (differences p q) n (differences_are p q) ((are n).0 n_in).beyond) w_in) in
-      contact_across p q is_p is_q w w_in (λ n f. All-contains (λ n. dot (minus b a) n ≡ pos 0) facets n (all_level (minus b a) facets up near) ((are n).1 f))
+      let low : dot (minus b a) (total facets) ≤ℤ pos 0 = (let e = dot_minus b a (total facets) in omega (arith, ints, e, near)) in
+      contact_across p q is_p is_q w w_in (λ n f. All-contains (λ n. dot (minus b a) n ≡ pos 0) facets n (all_level (minus b a) facets up low) ((are n).1 f))
 
-  no_more : (b a c : ℤ) → c ≡ b -ℤ a → c ≤ℤ pos 0 → b ≤ℤ a
-  no_more b a c e h = omega (arith, ints)
-
-  more : (b a c : ℤ) → c ≡ b -ℤ a → (c ≤ℤ pos 0 → ⊥) → (a +ℤ pos 1) ≤ℤ b
-  more b a c e not = by_lt_z {P = (a +ℤ pos 1) ≤ℤ b} (pos 0) c (λ up. add_one_le b a c e up) (λ low. absurd (not low))
-
-  -- where all of q lies farther along some vector than what lies farthest of p
-  past_where_far : (n a : V3) → All (IsNoFarther n a) p → ((b : V3) → Contains q b → IsNoFarther n a b → ⊥) → IsPastAt p q n (dot a n)
-  past_where_far n a most far = record {
-    first = All-weaker (IsNoFarther n a) (λ v. dot v n ≤ℤ dot a n) (λ v h. no_more (dot v n) (dot a n) (dot (minus v a) n) (dot_minus v a n) h) p most;
-    second = All-from_members (λ v. (dot a n +ℤ pos 1) ≤ℤ dot v n) q (λ v v_in. more (dot v n) (dot a n) (dot (minus v a) n) (dot_minus v a n) (far v v_in));
-  }
+-- where all of q lies farther along some vector than all of p
+past_where_far : (p q : List V3) (n : V3) (m : ℤ) → All (λ v. dot v n ≤ℤ m) p → ((b : V3) → Contains q b → dot b n ≤ℤ m → ⊥) → IsPastAt p q n m
+past_where_far p q n m most far = record { first = most; second = All-from_members (λ v. (m +ℤ pos 1) ≤ℤ dot v n) q (λ v v_in. beyond (dot v n) (far v v_in)) }
+  where
+    beyond : (z : ℤ) → (z ≤ℤ m → ⊥) → (m +ℤ pos 1) ≤ℤ z
+    beyond z not = by_lt_z {P = (m +ℤ pos 1) ≤ℤ z} m z (λ up. omega (arith, ints, up)) (λ low. absurd (not low))
 
 -- ---- what starts to collide touches
 
 -- a point that lies farthest along n
-farthest : (n v : V3) (vs : List V3) → (m : V3) × Contains (v ∷ vs) m × All (IsNoFarther n m) (v ∷ vs)
-farthest n v [] = (v, Contains-front v [], All-cons (IsNoFarther n v) v [] (itself n v) (All-nil (IsNoFarther n v)))
-farthest n v (u ∷ us) =
-    let (m, m_in, most) = farthest n u us in
-    elim (le_or (dot (minus v m) n) (pos 0)) [
-      | inl near ↦ (m, Contains-there v m (u ∷ us) m_in, All-cons (IsNoFarther n m) v (u ∷ us) near most)
-      | inr far ↦ (
-        v,
-        Contains-front v (u ∷ us),
-        All-cons (IsNoFarther n v) v (u ∷ us) (itself n v) (All-weaker (IsNoFarther n m) (IsNoFarther n v) (λ w h. no_farther_on n v w m (other_way n m v far) h) (u ∷ us) most),
-      )
-    ]
-
-farthest_of : (n : V3) (p : List V3) → 1 ≤ length p → (m : V3) × Contains p m × All (IsNoFarther n m) p
-farthest_of n [] some = absurd (omega arith)
-farthest_of n (v ∷ vs) some = farthest n v vs
+farthest : (n : V3) (p : List V3) → 1 ≤ length p → (m : V3) × Contains p m × All (λ v. dot v n ≤ℤ dot m n) p
+farthest n [] some = absurd (omega arith)
+farthest n (v ∷ []) some = (v, Contains-front v [], All-cons (λ w. dot w n ≤ℤ dot v n) v [] (omega (arith, ints)) (All-nil (λ w. dot w n ≤ℤ dot v n)))
+farthest n (v ∷ u ∷ us) some =
+    let (m, m_in, most) = farthest n (u ∷ us) (omega arith) in
+    by_lt_z {P = (m : V3) × Contains (v ∷ u ∷ us) m × All (λ v. dot v n ≤ℤ dot m n) (v ∷ u ∷ us)} (dot m n) (dot v n)
+    (λ up. (v, Contains-front v (u ∷ us), All-cons (λ w. dot w n ≤ℤ dot v n) v (u ∷ us) (omega (arith, ints)) (All-weaker (λ w. dot w n ≤ℤ dot m n) (λ w. dot w n ≤ℤ dot v n) (λ w h. omega (arith, ints, h, up)) (u ∷ us) most)))
+    (λ low. (m, Contains-there v m (u ∷ us) m_in, All-cons (λ w. dot w n ≤ℤ dot m n) v (u ∷ us) low most))
 
 contact_of_start : (p q : List V3) (d : V3) → IsPiece p → IsPiece q → Starts p q d → Contact p q
 contact_of_start p q d is_p is_q starts =
-    let some : 1 ≤ length p = (let four = is_p.at_least in omega (arith, four)) in
+    let some : 1 ≤ length p = piece_some p is_p in
     let facets = facets_listing p q in
     let n = total facets.xs in
-    let (top, top_in, most) = farthest_of n p some in
-    elim (all_or (λ b. IsNoFarther n top b → ⊥) (λ b. not_or (le_or (dot (minus b top) n) (pos 0))) q) [
-      | inl far ↦ absurd (past_no_start p q n d (dot top n) some (past_where_far p q facets.xs is_p is_q (λ m. (facets.from m, facets.all m))
-          n top most (λ b b_in. All-contains (λ b. IsNoFarther n top b → ⊥) q b far b_in)) starts)
-      | inr t ↦ (elim (le_or (dot (minus t.1.x top) n) (pos 0)) [
+    let (top, top_in, most) = farthest n p some in
+    elim (all_or (λ b. dot b n ≤ℤ dot top n → ⊥) (λ b. not_or (le_or (dot b n) (dot top n))) q) [
+      | inl far ↦ absurd (past_no_start p q n d (dot top n) some (past_where_far p q n (dot top n) most (λ b b_in. All-contains (λ b. dot b n ≤ℤ dot top n → ⊥) q b far b_in)) starts)
+      | inr t ↦ (elim (le_or (dot t.1.x n) (dot top n)) [
         | inl near ↦ contact_where_near p q facets.xs is_p is_q (λ m. (facets.from m, facets.all m)) top t.1.x top_in (from_place q t.0 t.1.x t.1.at) near
         | inr off ↦ absurd (t.1.fails off)
       ])
@@ -141,24 +126,24 @@ starts_by_contact_lemma p q d is_p is_q = (
 -- ---- the two pieces of an arc
 
 -- the sum of the facets tells whether they touch
-pub touching_is : (parts : List Part) (facets p q : List V3) (arc : Arc) (n far : V3) (near : Bool) → IsAssembly parts → HoldsAt parts arc (λ p q. Lists vector_cmp (IsFacet p q) facets)
+pub touching_is : (parts : List Part) (facets p q : List V3) (arc : Arc) (n : V3) (far : ℤ) (near : Bool) → IsAssembly parts → HoldsAt parts arc (λ p q. Lists vector_cmp (IsFacet p q) facets)
     → piece_at parts arc.a arc.i ≡ Some p → piece_at parts arc.b arc.j ≡ Some q → n ≡ total facets
-    → Contains p far → All (IsNoFarther n far) p → IsTrue near ↔ Any (IsNoFarther n far) q → IsTrue near ↔ HoldsAt parts arc Contact
-touching_is parts facets p q arc n far near is h p_is q_is sum far_in most test = (
+    → IsReach n p far → IsTrue near ↔ Any (λ v. dot v n ≤ℤ far) q → IsTrue near ↔ HoldsAt parts arc Contact
+touching_is parts facets p q arc n far near is h p_is q_is sum reach test = (
   (λ t.
-      let found : Any (IsNoFarther n far) q = test.0 t in
-      let (k, b, lt, e, close) = found in record {
+      let (k, b, lt, e, close) = test.0 t in
+      let (i, a, low, f, at) = reach.at in record {
         p = p;
         q = q;
         p_is = p_is;
         q_is = q_is;
-        holds = contact_where_near p q facets piece_p piece_q are far b far_in (k, lt, e) (subst (λ s. IsNoFarther s far b) sum close);
+        holds = contact_where_near p q facets piece_p piece_q are a b (i, low, f) (k, lt, e)
+            (subst (λ s. dot b s ≤ℤ dot a s) sum (subst (λ z. dot b n ≤ℤ z) (sym at) close));
       }),
   λ touch.
       let contact : Contact p q = subst (λ x. Contact x q) (one_answer (piece_at parts arc.a arc.i) touch.p p touch.p_is p_is) (subst (λ y. Contact touch.p y) (one_answer (piece_at parts arc.b arc.j) touch.q q touch.q_is q_is) touch.holds) in
       ⊎_elim {C = IsTrue near} (λ t. t)
-      (λ off. absurd (past_no_contact p q n (dot far n) (past_where_far p q facets piece_p piece_q are n far most
-      (λ b b_in close. off (test.1 (b_in.0, b, b_in.1, b_in.2, close)))) contact))
+      (λ off. absurd (past_no_contact p q n far (past_where_far p q n far reach.most (λ b b_in close. off (test.1 (b_in.0, b, b_in.1, b_in.2, close)))) contact))
       (true_or near),
 )
   where

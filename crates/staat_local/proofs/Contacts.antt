@@ -10,13 +10,13 @@ use Rattle.staat_vec.proofs.VecRing.{dotE, negativeE, originE, plusE, timesE, va
 use Rattle.staat_model.specs.Facets.{IsDifference}
 use Rattle.staat_model.specs.Cones.{IsCombined, differences}
 use Rattle.staat_model.specs.Meeting.{Meets, mix}
-use Rattle.staat_model.proofs.Mixes.{mix_scale}
+use Rattle.staat_model.proofs.Mixes.{added, dot_step, mix_scale}
 use Rattle.staat_model.proofs.PieceFacets.{differences_are}
+use Rattle.staat_model.proofs.WeightLemmas.{some_sum}
 use Rattle.staat_local.specs.Contacts.{Contact, MeetsWithin, Starts}
-use Rattle.staat_local.proofs.Weights.{LeadsOver, added, leads_both, leads_mixed, leads_one, length-added, mix-added, positive-added, sum-added, sum-scaled}
+use Rattle.staat_local.proofs.Weights.{LeadsOver, leads_both, leads_mixed, leads_one, sum-scaled}
 use Rattle.staat_vec.proofs.Integers.{sum_mul, pos_mul_le}
 use Rattle.staat_vec.proofs.VectorLaws.{plus_origin}
-use Rattle.staat_vec.proofs.ListLaws.{sum-cons}
 
 -- ---- points that touch
 
@@ -51,32 +51,23 @@ module _ (p q : List V3) where
 
 -- ---- sums of points along a vector
 
-parted : (x : V3) (w : ℕ) (v m : V3) → dot (plus (times w v) m) x ≡ (pos w *ℤ dot v x) +ℤ dot m x
-parted x w v m = ring (values (v ∷ m ∷ x ∷ []) (pos w ∷ [])) (dotE (plusE (timesE (at 9) v0) v1) v2) (at 9 ⊗ dotE v0 v2 ⊕ dotE v1 v2) tt
-
 join_low : (a b c d e f : ℤ) → e ≡ a +ℤ b → f ≡ c +ℤ d → a ≤ℤ c → b ≤ℤ d → e ≤ℤ f
 join_low a b c d e f p q h g = omega (arith, ints)
 
-nothing_least : (m : ℤ) (x : V3) → (pos 0 *ℤ m) ≤ℤ dot origin x
-nothing_least m x = omega (arith, ints)
-
-nothing_most : (m : ℤ) (x : V3) → dot origin x ≤ℤ (pos 0 *ℤ m)
-nothing_most m x = omega (arith, ints)
-
 pub mix_least : (x : V3) (m : ℤ) (ws : List ℕ) (vs : List V3) → length ws ≡ length vs → All (λ v. m ≤ℤ dot v x) vs → (pos (sum ws) *ℤ m) ≤ℤ dot (mix ws vs) x
-mix_least x m [] vs e h = nothing_least m x
+mix_least x m [] vs e h = omega (arith, ints)
 mix_least x m (w ∷ ws) [] e h = absurd (omega arith)
 mix_least x m (w ∷ ws) (v ∷ vs) e h =
     join_low (pos w *ℤ m) (pos (sum ws) *ℤ m) (pos w *ℤ dot v x) (dot (mix ws vs) x) (pos (sum (w ∷ ws)) *ℤ m) (dot (mix (w ∷ ws) (v ∷ vs)) x)
-    (sum_mul w ws m) (parted x w v (mix ws vs)) (pos_mul_le w m (dot v x) (All-head (λ v. m ≤ℤ dot v x) v vs h))
+    (sum_mul w ws m) (dot_step w v (mix ws vs) x) (pos_mul_le w m (dot v x) (All-head (λ v. m ≤ℤ dot v x) v vs h))
     (mix_least x m ws vs (omega arith) (All-tail (λ v. m ≤ℤ dot v x) v vs h))
 
 pub mix_most : (x : V3) (m : ℤ) (ws : List ℕ) (vs : List V3) → length ws ≡ length vs → All (λ v. dot v x ≤ℤ m) vs → dot (mix ws vs) x ≤ℤ (pos (sum ws) *ℤ m)
-mix_most x m [] vs e h = nothing_most m x
+mix_most x m [] vs e h = omega (arith, ints)
 mix_most x m (w ∷ ws) [] e h = absurd (omega arith)
 mix_most x m (w ∷ ws) (v ∷ vs) e h =
     join_low (pos w *ℤ dot v x) (dot (mix ws vs) x) (pos w *ℤ m) (pos (sum ws) *ℤ m) (dot (mix (w ∷ ws) (v ∷ vs)) x) (pos (sum (w ∷ ws)) *ℤ m)
-    (parted x w v (mix ws vs)) (sum_mul w ws m) (pos_mul_le w (dot v x) m (All-head (λ v. dot v x ≤ℤ m) v vs h))
+    (dot_step w v (mix ws vs) x) (sum_mul w ws m) (pos_mul_le w (dot v x) m (All-head (λ v. dot v x ≤ℤ m) v vs h))
     (mix_most x m ws vs (omega arith) (All-tail (λ v. dot v x ≤ℤ m) v vs h))
 
 -- all of p lies at m or less far along x, and all of q farther
@@ -97,10 +88,9 @@ gap p q x m a b past la lb same =
 
 pub past_no_contact : (p q : List V3) (x : V3) (m : ℤ) → IsPastAt p q x m → Contact p q → ⊥
 past_no_contact p q x m past c =
-    clash (sum c.a) (dot (mix c.a p) x) (dot (mix c.b q) x) c.some (ap (λ v. dot v x) c.same_place) (gap p q x m c.a c.b past c.a_each c.b_each c.same_sum)
-  where
-    clash : (s : ℕ) (a b : ℤ) → 1 ≤ s → a ≡ b → (a +ℤ pos s) ≤ℤ b → ⊥
-    clash s a b one e h = omega (arith, ints)
+    let far = gap p q x m c.a c.b past c.a_each c.b_each c.same_sum in
+    let same = ap (λ v. dot v x) c.same_place in
+    let some = c.some in omega (arith, ints, far, same, some)
 
 -- ---- what is kept apart does not collide soon
 
@@ -112,17 +102,13 @@ too_late zero s r a b one soon far e = omega (arith, ints)
 too_late (suc t) s (pos r) a b one soon far e = omega (arith, ints)
 too_late (suc t) s (negsuc r) a b one soon far e = omega (arith, ints)
 
-some_weight : (ws : List ℕ) (vs : List V3) → length ws ≡ length vs → 1 ≤ length vs → All (λ w. 1 ≤ w) ws → 1 ≤ sum ws
-some_weight [] vs e some h = absurd (omega arith)
-some_weight (w ∷ ws) vs e some h = let one = All-head (λ w. 1 ≤ w) w ws h in omega (arith, one, sum-cons w ws)
-
 pub past_no_start : (p q : List V3) (x d : V3) (m : ℤ) → 1 ≤ length p → IsPastAt p q x m → Starts p q d → ⊥
 past_no_start p q x d m some past starts =
     let r = dot d x in
     let met = starts (unsigned_abs r + 1) (omega arith) in
     let h = met.meeting in
     too_late met.t (sum h.a) r (dot (mix h.a p) x) (dot (mix h.b q) x)
-    (some_weight h.a p h.a_weights.one_each some h.a_weights.positive) met.soon
+    (some_sum h.a (subst (λ n. 1 ≤ n) (sym h.a_weights.one_each) some) h.a_weights.positive) met.soon
     (gap p q x m h.a h.b past h.a_weights.one_each h.b_weights.one_each h.same_sum)
     (sym (ap (λ v. dot v x) h.same_place) ∙ moved_dot x (mix h.a p) d met.t)
 
@@ -133,22 +119,22 @@ pub soon_weights : (p q : List V3) (d : V3) (k : ℕ) → Contact p q → Meets 
 soon_weights p q d k c met =
     let h = met.meeting in
     let n = k * met.t in
-    let la = h.a_weights.one_each ∙ sym (length-map c.a (λ w. n * w) ∙ c.a_each) in
-    let lb = h.b_weights.one_each ∙ sym (length-map c.b (λ w. n * w) ∙ c.b_each) in
-    let sum_a = sum-added h.a (map (λ w. n * w) c.a) la ∙ ap (λ s. sum h.a + s) (sum-scaled n c.a) in
-    let sum_b = sum-added h.b (map (λ w. n * w) c.b) lb ∙ ap (λ s. sum h.b + s) (sum-scaled n c.b) in
+    let a = added h.a (map (λ w. n * w) c.a) (h.a_weights.one_each ∙ sym (length-map c.a (λ w. n * w) ∙ c.a_each)) in
+    let b = added h.b (map (λ w. n * w) c.b) (h.b_weights.one_each ∙ sym (length-map c.b (λ w. n * w) ∙ c.b_each)) in
+    let sum_a = a.total ∙ ap (λ s. sum h.a + s) (sum-scaled n c.a) in
+    let sum_b = b.total ∙ ap (λ s. sum h.b + s) (sum-scaled n c.b) in
     record {
       t = met.t;
       meeting = record {
-        a = added h.a (map (λ w. n * w) c.a);
-        b = added h.b (map (λ w. n * w) c.b);
-        a_weights = record { one_each = length-added h.a (map (λ w. n * w) c.a) (length p) h.a_weights.one_each (length-map c.a (λ w. n * w) ∙ c.a_each); positive = positive-added h.a (map (λ w. n * w) c.a) la h.a_weights.positive };
-        b_weights = record { one_each = length-added h.b (map (λ w. n * w) c.b) (length q) h.b_weights.one_each (length-map c.b (λ w. n * w) ∙ c.b_each); positive = positive-added h.b (map (λ w. n * w) c.b) lb h.b_weights.positive };
+        a = a.zs;
+        b = b.zs;
+        a_weights = record { one_each = a.one_each ∙ h.a_weights.one_each; positive = a.positive h.a_weights.positive };
+        b_weights = record { one_each = b.one_each ∙ h.b_weights.one_each; positive = b.positive h.b_weights.positive };
         same_sum = sum_a ∙ ap₂ (λ s r. s + n * r) h.same_sum c.same_sum ∙ sym sum_b;
-        same_place = ap (λ m. plus m (times met.t d)) (mix-added h.a (map (λ w. n * w) c.a) p la ∙ ap (plus (mix h.a p)) (mix_scale n c.a p))
+        same_place = ap (λ m. plus m (times met.t d)) (a.mixed p ∙ ap (plus (mix h.a p)) (mix_scale n c.a p))
             ∙ swap (mix h.a p) (times n (mix c.a p)) (times met.t d)
             ∙ ap₂ (λ u v. plus u (times n v)) h.same_place c.same_place
-            ∙ sym (mix-added h.b (map (λ w. n * w) c.b) q lb ∙ ap (plus (mix h.b q)) (mix_scale n c.b q));
+            ∙ sym (b.mixed q ∙ ap (plus (mix h.b q)) (mix_scale n c.b q));
       };
       soon = subst (λ s. n ≤ s) (sym sum_a) (great n (sum c.a) (sum h.a) c.some);
     }

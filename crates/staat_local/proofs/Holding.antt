@@ -1,12 +1,10 @@
 -- The graph of the parts that hold each other back, and the sides that begin to move.
-use Rattle.std.proofs.Common.{◌≡◌, ◌≢◌, ◌↔◌, ◌⊎◌, ⊎_elim, ℕ, ◌+◌, ◌<◌, ◌≤◌, sym, ap, subst, ◌∙◌, arith, Bool, List, get_or, length, Contains}
+use Rattle.std.proofs.Common.{◌≡◌, ◌≢◌, ◌↔◌, ℕ, ◌+◌, ◌<◌, ◌≤◌, pos, ◌<ℤ◌, sym, ap, subst, arith, Bool, List, length, All, Contains}
 use Rattle.std.specs.Prelude.{slice_set}
 use Rattle.std.specs.FinSet as set
 use Rattle.std.specs.Int.{bit_at}
-use Rattle.std.proofs.lemmas.List.{get_or_past}
-use Rattle.std.proofs.lemmas.Nat.Bits.{bit_at-zero}
 use Rattle.staat_vec.specs.declared.vector.V3.{V3}
-use Rattle.staat_vec.specs.Vectors.{negative, origin}
+use Rattle.staat_vec.specs.Vectors.{dot, negative, origin}
 use Rattle.staat_model.specs.declared.assembly.Part.{Part}
 use Rattle.staat_model.specs.declared.certificate.Arc.{Arc}
 use Rattle.staat_model.specs.declared.set.PartSet.{PartSet}
@@ -25,11 +23,11 @@ use Rattle.staat_graph.specs.Blocking.{ShowsBlockingBy}
 use Rattle.staat_graph.specs.Graphs.{HasArc}
 use Rattle.staat_graph.proofs.Arcs.{row_set}
 use Rattle.staat_pairs.specs.Searches.{arc_of}
-use Rattle.staat_pairs.specs.Tables.{IsTableArc, Table, WasMadeFrom, back}
+use Rattle.staat_pairs.specs.Tables.{IsTableArc, Table, WasMadeFrom, back, facets_of, slot}
 use Rattle.staat_planes.proofs.GraphLaw.{meets_at}
 use Rattle.staat_local.specs.Beginnings.{HoldsBack, HoldsBetween, IsLoose, IsTight, Loosens}
 use Rattle.staat_local.specs.Contacts.{Contact, Starts}
-use Rattle.staat_local.specs.Touching.{AreMarks}
+use Rattle.staat_local.specs.Touching.{AreMarks, IsPairMarked}
 use Rattle.staat_local.proofs.ByFacets.{starts_by_contact_lemma}
 use Rattle.staat_local.proofs.Contacts.{meets_of_start}
 use Rattle.staat_local.proofs.TouchMarks.{contact_back}
@@ -39,29 +37,17 @@ use Rattle.staat_model.proofs.PlanLemmas.{piece_within}
 
 -- ---- rows of a graph
 
-module _ (R : ℕ → ℕ → Type 0) (rows : List ℕ) (n : ℕ) where
-  -- one more row
-  pub row_more : (word : ℕ) (held : PartSet) → length rows ≡ 32 → n < 32 → ((a b : ℕ) → a < n → HasArc rows a b ↔ R a b) → ((b : ℕ) → Has held b ↔ R n b) → ((b : ℕ) → Has held b ↔ (bit_at word b ≡ 1))
-      → (a b : ℕ) → a < n + 1 → HasArc (slice_set rows n word) a b ↔ R a b
-  row_more word held long lt before now bits a b below =
-      row_set rows n a word R (omega arith)
-      (λ q. (λ h. (now q).0 ((bits q).1 h), λ h. (bits q).0 ((now q).1 h)))
-      (λ q ne. before a q (omega arith)) b
+-- the arcs of R that lead from the parts below n
+abbrev pub HasFirstRows : (R : ℕ → ℕ → Type 0) (n : ℕ) (rows : List ℕ) → Type 0
+HasFirstRows R n rows = (a b : ℕ) → HasArc rows a b ↔ (R a b × (a < n))
 
-  below_or_past : (a : ℕ) → (a < 32) ⊎ (32 ≤ a)
-  below_or_past a = grind arith
-
-  no_row : (a b : ℕ) → length rows ≤ a → HasArc rows a b → ⊥
-  no_row a b past h =
-      let e : bit_at (get_or rows a 0) b ≡ 0 = ap (λ r. bit_at r b) (get_or_past rows a 0 past) ∙ bit_at-zero b in
-      absurd (omega arith)
-
-  -- all rows: what stands in none of them does not hold
-  pub whole_rows : length rows ≡ 32 → 32 ≤ n → ((a b : ℕ) → R a b → a < 32) → ((a b : ℕ) → a < n → HasArc rows a b ↔ R a b) → (a b : ℕ) → HasArc rows a b ↔ R a b
-  whole_rows long all small each a b = ⊎_elim {C = HasArc rows a b ↔ R a b}
-      (λ lt. each a b (omega arith))
-      (λ past. (λ h. absurd (no_row a b (omega (arith, past, long)) h), λ r. absurd (let lt : a < 32 = small a b r in omega arith)))
-      (below_or_past a)
+-- one more row
+pub row_more : (R : ℕ → ℕ → Type 0) (rows : List ℕ) (n word : ℕ) (held : PartSet) → n < length rows → HasFirstRows R n rows → ((b : ℕ) → Has held b ↔ R n b) → ((b : ℕ) → Has held b ↔ (bit_at word b ≡ 1))
+    → HasFirstRows R (n + 1) (slice_set rows n word)
+row_more R rows n word held lt before now bits a b =
+    row_set rows n a word (λ a b. R a b × (a < n + 1)) lt
+    (λ q. (λ h. ((now q).0 ((bits q).1 h), omega arith), λ h. (bits q).0 ((now q).1 h.0)))
+    (λ q ne. (λ h. let r = (before a q).0 h in (r.0, let below = r.1 in omega (arith, below)), λ h. (before a q).1 (h.0, let below = h.1 in omega (arith, below, ne)))) b
 
 -- ---- what the marked graph says of an assembly
 
@@ -81,19 +67,19 @@ starts_at parts d arc is = (
 )
 
 module _ (parts : List Part) (t : Table) (marks : List Bool) (made : WasMadeFrom parts t) (are : AreMarks parts t marks) (d : V3) where
+  starts_by_marks : (arc : Arc) → IsTableArc t arc → HoldsAlong Starts parts d arc ↔ (IsPairMarked marks (slot t.pieces arc) × All (λ n. pos 0 <ℤ dot n d) (facets_of t arc))
+  starts_by_marks arc across =
+      let law = starts_at parts d arc made.assembly in
+      let meets = meets_at parts t d arc made.assembly (made.facets arc across) in
+      (λ s. ((are arc across).1 (law.0 s).0, meets.0 (law.0 s).1), λ h. law.1 ((are arc across).0 h.0, meets.1 h.1))
+
   pub holding_is : (a b : ℕ) → HoldsBetween t marks d a b ↔ HoldsBack parts t.of d a b
   holding_is a b = (
-    (λ h.
-        let meets : MeetsAlong parts d (arc_of a h.i b h.j) = (meets_at parts t d (arc_of a h.i b h.j) made.assembly (made.facets (arc_of a h.i b h.j) h.across)).1 h.ahead in record {
-          a_in = h.across.a_in;
-          b_in = h.across.b_in;
-          starts = record {
-            i = h.i;
-            j = h.j;
-            different = h.across.different;
-            meets = (starts_at parts d (arc_of a h.i b h.j) made.assembly).1 ((are (arc_of a h.i b h.j) h.across).0 h.marked, meets);
-          };
-        }),
+    (λ h. record {
+      a_in = h.across.a_in;
+      b_in = h.across.b_in;
+      starts = record { i = h.i; j = h.j; different = h.across.different; meets = (starts_by_marks (arc_of a h.i b h.j) h.across).1 (h.marked, h.ahead) };
+    }),
     λ h.
         let block = h.starts in
         let m = block.meets in
@@ -104,21 +90,16 @@ module _ (parts : List Part) (t : Table) (marks : List Bool) (made : WasMadeFrom
           i_is = subst (λ n. block.i < n) (sym (made.pieces a h.a_in)) (piece_within parts a block.i m.p m.p_is);
           j_is = subst (λ n. block.j < n) (sym (made.pieces b h.b_in)) (piece_within parts b block.j m.q m.q_is);
         } in
-        let both = (starts_at parts d (arc_of a block.i b block.j) made.assembly).0 m in record {
-          i = block.i;
-          j = block.j;
-          across = across;
-          marked = (are (arc_of a block.i b block.j) across).1 both.0;
-          ahead = (meets_at parts t d (arc_of a block.i b block.j) made.assembly (made.facets (arc_of a block.i b block.j) across)).0 both.1;
-        },
+        let both = (starts_by_marks (arc_of a block.i b block.j) across).0 m in
+        record { i = block.i; j = block.j; across = across; marked = both.0; ahead = both.1 },
   )
 
   module _ (rows : List ℕ) (arcs : (a b : ℕ) → HasArc rows a b ↔ HoldsBetween t marks d a b) where
     pub arcs_hold_back : (a b : ℕ) → HasArc rows a b ↔ HoldsBack parts t.of d a b
     arcs_hold_back a b = let law = holding_is a b in (λ h. law.0 ((arcs a b).0 h), λ h. (arcs a b).1 (law.1 h))
 
-    pub shows_starts : ShowsBlockingBy Starts parts d t.of rows
-    shows_starts a b a_in b_in = (λ h. ((arcs_hold_back a b).0 h).starts, λ h. (arcs_hold_back a b).1 (record { a_in = a_in; b_in = b_in; starts = h }))
+    pub shows_starts : (w : PartSet) → IsSubset w t.of → ShowsBlockingBy Starts parts d w rows
+    shows_starts w within a b a_in b_in = (λ h. ((arcs_hold_back a b).0 h).starts, λ h. (arcs_hold_back a b).1 (record { a_in = within a a_in; b_in = within b b_in; starts = h }))
 
 -- ---- the opposite direction
 

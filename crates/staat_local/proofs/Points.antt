@@ -1,58 +1,36 @@
 -- How far points lie along a vector, and the sum of vectors.
-use Rattle.std.proofs.Common.{◌≡◌, ◌⊎◌, inl, inr, ℕ, zero, suc, ◌+◌, ◌*◌, ◌<◌, ◌≤◌, sym, ap, subst, ◌∙◌, arith, ℤ, pos, ◌+ℤ◌, ◌-ℤ◌, ◌≤ℤ◌, ◌<ℤ◌, List, [], ◌∷◌, length, get_or, take, All, Contains, below_more}
-use Rattle.std.proofs.lemmas.Int.{ints, by_lt_z}
+use Rattle.std.proofs.Common.{◌≡◌, ◌⊎◌, inl, inr, ℕ, zero, suc, ◌+◌, ◌*◌, ◌<◌, ◌≤◌, sym, ap, subst, ◌∙◌, arith, ℤ, pos, ◌≤ℤ◌, List, [], ◌∷◌, length, get_or, take, All, Any, below_more}
 use Rattle.std.proofs.lemmas.List.Elements.{All-nil, All-cons, All-head, All-tail}
 use Rattle.std.proofs.lemmas.List.{get_or_default}
 use Rattle.std.specs.Prelude.{None, Option, Some, slice_get}
 use Rattle.staat_vec.specs.declared.vector.V3.{V3}
-use Rattle.staat_vec.specs.Vectors.{IsWithin, dot, minus, origin, plus}
+use Rattle.staat_vec.specs.Vectors.{IsWithin, dot, origin, plus}
 use Rattle.staat_vec.proofs.Bounds.{IsWithin-plus, IsWithin-wider}
 use Rattle.staat_vec.proofs.Order.{nonneg_is, nonneg_pos, nonneg_sum, split_sum}
-use Rattle.staat_vec.proofs.Ring.{num, ◌⊕◌, ◌⊖◌, ring}
-use Rattle.staat_vec.proofs.VecRing.{dotE, minusE, originE, plusE, values, v0, v1, v2, v3, ring3}
+use Rattle.staat_vec.proofs.Ring.{num, ring}
+use Rattle.staat_vec.proofs.VecRing.{dotE, originE, plusE, values, v0, ring3}
 use Rattle.staat_local.specs.Contacts.{total}
-use Rattle.staat_local.specs.Touching.{IsNoFarther}
-use Rattle.staat_vec.proofs.Integers.{zero_from_bounds, zero_nonpositive}
+use Rattle.staat_vec.proofs.Integers.{le_trans_ℤ, zero_from_bounds}
 use Rattle.staat_vec.proofs.VectorLaws.{plus_assoc, dot_plus}
-
-pub itself : (n a : V3) → IsNoFarther n a a
-itself n a = zero_nonpositive (dot (minus a a) n) (ring (values (n ∷ a ∷ []) []) (dotE (minusE v1 v1) v0) (num (pos 0)) tt)
-
-sum_low : (p q r : ℤ) → r ≡ p +ℤ q → p ≤ℤ pos 0 → q ≤ℤ pos 0 → r ≤ℤ pos 0
-sum_low p q r e h g = omega (arith, ints)
-
--- a as far as c, and c as far as b
-pub no_farther_on : (n a b c : V3) → IsNoFarther n a c → IsNoFarther n c b → IsNoFarther n a b
-no_farther_on n a b c h g = sum_low (dot (minus c a) n) (dot (minus b c) n) (dot (minus b a) n) (ring (values (n ∷ a ∷ b ∷ c ∷ []) []) (dotE (minusE v2 v1) v0) (dotE (minusE v3 v1) v0 ⊕ dotE (minusE v2 v3) v0) tt) h g
-
-turn : (p q : ℤ) → q ≡ pos 0 -ℤ p → (p ≤ℤ pos 0 → ⊥) → q ≤ℤ pos 0
-turn p q e not = by_lt_z {P = q ≤ℤ pos 0} (pos 0) p (λ up. low p q e up) (λ down. absurd (not down))
-  where
-    low : (p q : ℤ) → q ≡ pos 0 -ℤ p → pos 0 <ℤ p → q ≤ℤ pos 0
-    low p q e h = omega (arith, ints)
-
--- of two points the one lies no farther than the other, or the other than the one
-pub other_way : (n a b : V3) → (IsNoFarther n a b → ⊥) → IsNoFarther n b a
-other_way n a b not = turn (dot (minus b a) n) (dot (minus a b) n) (ring (values (n ∷ a ∷ b ∷ []) []) (dotE (minusE v1 v2) v0) (num (pos 0) ⊖ dotE (minusE v2 v1) v0) tt) not
 
 -- ---- the points that were passed
 
 module _ (n : V3) (points : List V3) (i : ℕ) (lt : i < length points) where
-  -- none of them lies as near, and the next one does not
-  pub none_more : (a : V3) → ((k : ℕ) (d : V3) → k < i → IsNoFarther n a (get_or points k d) → ⊥) → (IsNoFarther n a (get_or points i origin) → ⊥) → (k : ℕ) (d : V3) → k < i + 1 → IsNoFarther n a (get_or points k d) → ⊥
-  none_more a before next k d = below_more (λ k. IsNoFarther n a (get_or points k d) → ⊥) i (λ k below. before k d below)
-      (λ h. next (subst (IsNoFarther n a) (get_or_default points i d origin lt) h)) k
+  -- none of them lies so far or less far, and the next one does not
+  pub none_more : (far : ℤ) → ((k : ℕ) (d : V3) → k < i → dot (get_or points k d) n ≤ℤ far → ⊥) → (dot (get_or points i origin) n ≤ℤ far → ⊥) → (k : ℕ) (d : V3) → k < i + 1 → dot (get_or points k d) n ≤ℤ far → ⊥
+  none_more far before next k d = below_more (λ k. dot (get_or points k d) n ≤ℤ far → ⊥) i (λ k below. before k d below)
+      (λ h. next (subst (λ v. dot v n ≤ℤ far) (get_or_default points i d origin lt) h)) k
 
-  -- none of them lies farther than the best one, which gives way to one that lies as far as both
-  pub farthest_more : (old new : V3) → ((k : ℕ) (d : V3) → k < i → IsNoFarther n old (get_or points k d)) → IsNoFarther n new old → IsNoFarther n new (get_or points i origin) → (k : ℕ) (d : V3) → k < i + 1 → IsNoFarther n new (get_or points k d)
-  farthest_more old new before first second k d = below_more (λ k. IsNoFarther n new (get_or points k d)) i
-      (λ k below. no_farther_on n new (get_or points k d) old first (before k d below))
-      (subst (IsNoFarther n new) (get_or_default points i origin d lt) second) k
+  -- they lie no farther than the farthest, and so does the next one
+  pub reach_more : (old here new : ℤ) → ((k : ℕ) (d : V3) → k < i → dot (get_or points k d) n ≤ℤ old) → here ≡ dot (get_or points i origin) n → old ≤ℤ new → here ≤ℤ new → (k : ℕ) (d : V3) → k < i + 1 → dot (get_or points k d) n ≤ℤ new
+  reach_more old here new before is first second k d = below_more (λ k. dot (get_or points k d) n ≤ℤ new) i
+      (λ k below. le_trans_ℤ (dot (get_or points k d) n) old new (before k d below) first)
+      (subst (λ v. dot v n ≤ℤ new) (get_or_default points i origin d lt) (subst (λ z. z ≤ℤ new) is second)) k
 
-  -- the better of two members is one
-  pub member_more : (old new : V3) → Contains points old → (new ≡ old) ⊎ (new ≡ get_or points i origin) → Contains points new
-  member_more old new old_in (inl same) = subst (λ v. Contains points v) (sym same) old_in
-  member_more old new old_in (inr same) = (i, lt, get_or_default points i new origin lt ∙ sym same)
+  -- one of them lies so far
+  pub at_more : (old here new : ℤ) → Any (λ p. dot p n ≡ old) points → here ≡ dot (get_or points i origin) n → (new ≡ old) ⊎ (new ≡ here) → Any (λ p. dot p n ≡ new) points
+  at_more old here new old_at is (inl same) = subst (λ z. Any (λ p. dot p n ≡ z) points) (sym same) old_at
+  at_more old here new old_at is (inr same) = (i, get_or points i origin, lt, get_or_default points i (get_or points i origin) origin lt, sym (same ∙ is))
 
 -- ---- the sum of vectors
 
@@ -71,16 +49,10 @@ total_next (u ∷ vs) zero v e = ap (λ w. plus w origin) (same e) ∙ nothing_b
 total_next (u ∷ vs) (suc m) v e = ap (plus u) (total_next vs m v e) ∙ plus_assoc u (total (take m vs)) v
 
 pub total_more : (vs : List V3) (m : ℕ) (v : V3) → slice_get vs m ≡ Some v → total (take (m + 1) vs) ≡ plus (total (take m vs)) v
-total_more vs m v e = ap (λ k. total (take k vs)) (next m) ∙ total_next vs m v e
-  where
-    next : (m : ℕ) → m + 1 ≡ suc m
-    next m = omega arith
+total_more vs m v e = let next : m + 1 ≡ suc m = omega arith in ap (λ k. total (take k vs)) next ∙ total_next vs m v e
 
 pub sum_within : (m size : ℕ) (s v t : V3) → t ≡ plus s v → IsWithin (m * size) s → IsWithin size v → IsWithin ((m + 1) * size) t
-sum_within m size s v t e h g = subst (IsWithin ((m + 1) * size)) (sym e) (IsWithin-wider (m * size + size) ((m + 1) * size) (plus s v) (once_more m size) (IsWithin-plus (m * size) size s v h g))
-  where
-    once_more : (m size : ℕ) → m * size + size ≤ (m + 1) * size
-    once_more m size = omega arith
+sum_within m size s v t e h g = subst (IsWithin ((m + 1) * size)) (sym e) (IsWithin-wider (m * size + size) ((m + 1) * size) (plus s v) (omega arith) (IsWithin-plus (m * size) size s v h g))
 
 total_up : (v : V3) (fs : List V3) → All (λ f. pos 0 ≤ℤ dot v f) fs → pos 0 ≤ℤ dot v (total fs)
 total_up v [] h = nonneg_is (dot v origin) (pos 0) (ring (values (v ∷ []) []) (dotE v0 originE) (num (pos 0)) tt) (nonneg_pos 0)

@@ -7,6 +7,7 @@ use Rattle.staat_model.specs.Sets.{Has}
 use Rattle.staat_pairs.specs.Tables.{IsTable, IsTableArc, Table, back, pieces_of, place, slot}
 use Rattle.staat_pairs.specs.Tabulating.{IsPieceAt}
 use Rattle.staat_pairs.proofs.NumberingLemmas.{below_64, one_number, one_part}
+use Rattle.staat_planes.proofs.Gaining.{adds_both, adds_same}
 use Rattle.staat_local.specs.Contacts.{Contact}
 use Rattle.staat_local.specs.Touching.{AreMarks, IsPairMarked, IsUpward, MarksTouching}
 use Rattle.staat_vec.proofs.Naturals.{apart_cases, same_parts_of_64}
@@ -14,23 +15,22 @@ use Rattle.staat_pairs.proofs.TableLemmas.{back_across}
 
 -- ---- slots
 
-one_slot : (t : Table) (x y : Arc) → IsTable t → IsTableArc t x → IsTableArc t y → slot t.pieces x ≡ slot t.pieces y → x ≡ y
-one_slot t x y is at there e =
-    let low : place t.pieces x.b x.j < 64 = below_64 t.pieces x.b x.j is.most at.j_is in
-    let down : place t.pieces y.b y.j < 64 = below_64 t.pieces y.b y.j is.most there.j_is in
-    let places = same_parts_of_64 (place t.pieces x.a x.i) (place t.pieces x.b x.j) (place t.pieces y.a y.i) (place t.pieces y.b y.j) low down e in
-    let xa = piece (place t.pieces x.a x.i) x.a x.i at.a_in at.i_is refl in
-    let ya = piece (place t.pieces x.a x.i) y.a y.i there.a_in there.i_is (sym places.0) in
-    let xb = piece (place t.pieces x.b x.j) x.b x.j at.b_in at.j_is refl in
-    let yb = piece (place t.pieces x.b x.j) y.b y.j there.b_in there.j_is (sym places.1) in
-    let a : x.a ≡ y.a = one_part t.pieces (place t.pieces x.a x.i) x.a y.a x.i y.i xa ya in
-    let b : x.b ≡ y.b = one_part t.pieces (place t.pieces x.b x.j) x.b y.b x.j y.j xb yb in
-    let i : x.i ≡ y.i = one_number t.pieces (place t.pieces x.a x.i) y.a x.i y.i (subst (λ c. IsPieceAt t.pieces (place t.pieces x.a x.i) c x.i) a xa) ya in
-    let j : x.j ≡ y.j = one_number t.pieces (place t.pieces x.b x.j) y.b x.j y.j (subst (λ c. IsPieceAt t.pieces (place t.pieces x.b x.j) c x.j) b xb) yb in
-    λ k. record { a = a k; i = i k; b = b k; j = j k }
-  where
-    piece : (n a i : ℕ) → Has t.of a → i < pieces_of t a → place t.pieces a i ≡ n → IsPieceAt t.pieces n a i
-    piece n a i has lt at = record { small = is.small a has; there = lt; is = at }
+module _ (t : Table) (is : IsTable t) where
+  one_piece : (a i b j : ℕ) → Has t.of a → i < pieces_of t a → Has t.of b → j < pieces_of t b → place t.pieces a i ≡ place t.pieces b j → (a ≡ b) × (i ≡ j)
+  one_piece a i b j a_in i_is b_in j_is e =
+      let n = place t.pieces b j in
+      let x : IsPieceAt t.pieces n a i = record { small = is.small a a_in; there = i_is; is = e } in
+      let y : IsPieceAt t.pieces n b j = record { small = is.small b b_in; there = j_is; is = refl } in
+      let part : a ≡ b = one_part t.pieces n a b i j x y in
+      (part, one_number t.pieces n b i j (subst (λ c. IsPieceAt t.pieces n c i) part x) y)
+
+  one_slot : (x y : Arc) → IsTableArc t x → IsTableArc t y → slot t.pieces x ≡ slot t.pieces y → x ≡ y
+  one_slot x y at there e =
+      let places = same_parts_of_64 (place t.pieces x.a x.i) (place t.pieces x.b x.j) (place t.pieces y.a y.i) (place t.pieces y.b y.j)
+      (below_64 t.pieces x.b x.j is.most at.j_is) (below_64 t.pieces y.b y.j is.most there.j_is) e in
+      let (a, i) = one_piece x.a x.i y.a y.i at.a_in at.i_is there.a_in there.i_is places.0 in
+      let (b, j) = one_piece x.b x.j y.b y.j at.b_in at.j_is there.b_in there.j_is places.1 in
+      λ k. record { a = a k; i = i k; b = b k; j = j k }
 
 -- the pieces of an arc touch the other way round too
 pub contact_back : (parts : List Part) (arc : Arc) → HoldsAt parts arc Contact → HoldsAt parts (back arc) Contact
@@ -51,33 +51,20 @@ module _ (parts : List Part) (t : Table) (is : IsTable t) where
   pub marked_arc : (arc : Arc) (old mid new : List Bool) → IsTableArc t arc → HoldsAt parts arc Contact
       → ((s : ℕ) → IsPairMarked mid s ↔ (IsPairMarked old s ⊎ (s ≡ slot t.pieces arc)))
       → ((s : ℕ) → IsPairMarked new s ↔ (IsPairMarked mid s ⊎ (s ≡ slot t.pieces (back arc)))) → MarksTouching parts t (λ x. x ≡ arc) old new
-  marked_arc arc old mid new across touch first second x at = (
-    (λ h. ⊎_elim {C = Goal}
-        (λ m. ⊎_elim {C = Goal} inl (λ e. inr (this_way e)) ((first (slot t.pieces x)).0 m))
-        (λ e. inr (other_way e))
-        ((second (slot t.pieces x)).0 h)),
-    (λ h. ⊎_elim {C = IsPairMarked new (slot t.pieces x)}
-        (λ o. (second (slot t.pieces x)).1 (inl ((first (slot t.pieces x)).1 (inl o))))
-        (λ r. ⊎_elim {C = IsPairMarked new (slot t.pieces x)}
-        (λ e. (second (slot t.pieces x)).1 (inl ((first (slot t.pieces x)).1 (inr (ap (slot t.pieces) e)))))
-        (λ e. (second (slot t.pieces x)).1 (inr (ap (λ y. slot t.pieces (back y)) e)))
-        r.0)
-        h),
-  )
+  marked_arc arc old mid new across touch first second x at = adds_same (adds_both (first (slot t.pieces x)) (second (slot t.pieces x))) to from
     where
       Both : Type 0
       Both = ((x ≡ arc) ⊎ (back x ≡ arc)) × HoldsAt parts x Contact
 
-      Goal : Type 0
-      Goal = IsPairMarked old (slot t.pieces x) ⊎ Both
-
-      this_way : slot t.pieces x ≡ slot t.pieces arc → Both
-      this_way e = let same : x ≡ arc = one_slot t x arc is at across e in (inl same, subst (λ y. HoldsAt parts y Contact) (sym same) touch)
-
-      other_way : slot t.pieces x ≡ slot t.pieces (back arc) → Both
-      other_way e =
-          let same : x ≡ back arc = one_slot t x (back arc) is at (back_across t arc across) e in
+      to : (slot t.pieces x ≡ slot t.pieces arc) ⊎ (slot t.pieces x ≡ slot t.pieces (back arc)) → Both
+      to (inl e) = let same : x ≡ arc = one_slot t is x arc at across e in (inl same, subst (λ y. HoldsAt parts y Contact) (sym same) touch)
+      to (inr e) =
+          let same : x ≡ back arc = one_slot t is x (back arc) at (back_across t arc across) e in
           (inr (ap back same), subst (λ y. HoldsAt parts y Contact) (sym same) (contact_back parts arc touch))
+
+      from : Both → (slot t.pieces x ≡ slot t.pieces arc) ⊎ (slot t.pieces x ≡ slot t.pieces (back arc))
+      from (inl e, h) = inl (ap (slot t.pieces) e)
+      from (inr e, h) = inr (ap (λ y. slot t.pieces (back y)) e)
 
 -- all arcs lead to a greater part, this way round or the other
 pub all_marked : (parts : List Part) (t : Table) (n : ℕ) (start marks : List Bool) → IsTable t → 32 ≤ n → ((s : ℕ) → IsPairMarked start s → ⊥) → MarksTouching parts t (IsUpward n) start marks → AreMarks parts t marks

@@ -1,51 +1,14 @@
--- Weights of at least 0, added place by place, and the vectors that lead between the sums of points that they give.
-use Rattle.std.proofs.Common.{◌≡◌, ℕ, zero, suc, ◌+◌, ◌*◌, ◌≤◌, refl, sym, ap, ap₂, ◌∙◌, subst, arith, pos, List, [], ◌∷◌, length, map, All, Contains, sum}
-use Rattle.std.proofs.lemmas.List.Elements.{All-nil, All-cons, All-head, All-tail}
+-- Weights of at least 0, and the vectors that lead between the sums of points that they give.
+use Rattle.std.proofs.Common.{◌≡◌, ℕ, zero, suc, ◌+◌, ◌*◌, refl, sym, ap, ap₂, ◌∙◌, subst, arith, pos, List, [], ◌∷◌, length, map, Contains, sum}
 use Rattle.staat_vec.specs.declared.vector.V3.{V3}
 use Rattle.staat_vec.specs.Vectors.{minus, origin, plus, times}
 use Rattle.staat_vec.proofs.Ring.{at, num}
 use Rattle.staat_vec.proofs.VecRing.{minusE, originE, plusE, timesE, values, v0, v1, v2, v3, ring3}
 use Rattle.staat_model.specs.Meeting.{mix}
 use Rattle.staat_model.specs.Facets.{IsDifference}
+use Rattle.staat_model.proofs.Mixes.{added}
 use Rattle.staat_vec.proofs.ListLaws.{sum-cons, Contains-there}
-use Rattle.staat_vec.proofs.VectorLaws.{times_sum_plus}
 use Rattle.staat_vec.proofs.Unique.{Contains-front}
-
--- ---- sums place by place
-
-abbrev pub added : List ℕ → List ℕ → List ℕ
-added [] ys = []
-added (x ∷ xs) [] = []
-added (x ∷ xs) (y ∷ ys) = (x + y) ∷ added xs ys
-
-pub length-added : (xs ys : List ℕ) (n : ℕ) → length xs ≡ n → length ys ≡ n → length (added xs ys) ≡ n
-length-added [] ys n e f = e
-length-added (x ∷ xs) [] n e f = absurd (omega arith)
-length-added (x ∷ xs) (y ∷ ys) zero e f = absurd (omega arith)
-length-added (x ∷ xs) (y ∷ ys) (suc n) e f = ap suc (length-added xs ys n (omega arith) (omega arith))
-
-pub sum-added : (xs ys : List ℕ) → length xs ≡ length ys → sum (added xs ys) ≡ sum xs + sum ys
-sum-added [] [] e = omega arith
-sum-added [] (y ∷ ys) e = absurd (omega arith)
-sum-added (x ∷ xs) [] e = absurd (omega arith)
-sum-added (x ∷ xs) (y ∷ ys) e = omega (arith, sum-cons (x + y) (added xs ys), sum-cons x xs, sum-cons y ys, sum-added xs ys (omega arith))
-
-pub positive-added : (xs ys : List ℕ) → length xs ≡ length ys → All (λ w. 1 ≤ w) xs → All (λ w. 1 ≤ w) (added xs ys)
-positive-added [] ys e h = All-nil (λ w. 1 ≤ w)
-positive-added (x ∷ xs) [] e h = absurd (omega arith)
-positive-added (x ∷ xs) (y ∷ ys) e h =
-    let one = All-head (λ w. 1 ≤ w) x xs h in
-    All-cons (λ w. 1 ≤ w) (x + y) (added xs ys) (omega (arith, one)) (positive-added xs ys (omega arith) (All-tail (λ w. 1 ≤ w) x xs h))
-
-no_more : origin ≡ plus origin origin
-no_more = refl
-
-pub mix-added : (xs ys : List ℕ) (vs : List V3) → length xs ≡ length ys → mix (added xs ys) vs ≡ plus (mix xs vs) (mix ys vs)
-mix-added [] [] vs e = no_more
-mix-added [] (y ∷ ys) vs e = absurd (omega arith)
-mix-added (x ∷ xs) [] vs e = absurd (omega arith)
-mix-added (x ∷ xs) (y ∷ ys) [] e = no_more
-mix-added (x ∷ xs) (y ∷ ys) (v ∷ vs) e = ap (plus (times (x + y) v)) (mix-added xs ys vs (omega arith)) ∙ times_sum_plus x y v (mix xs vs) (mix ys vs)
 
 pub sum-scaled : (n : ℕ) (cs : List ℕ) → sum (map (λ c. n * c) cs) ≡ n * sum cs
 sum-scaled n [] = omega arith
@@ -111,19 +74,16 @@ both_ways a b u v = ring3 (values (a ∷ b ∷ u ∷ v ∷ []) []) (plusE (plusE
 
 pub leads_both : (p q : List V3) (s t : ℕ) (u v : V3) → LeadsOver p q s u → LeadsOver p q t v → LeadsOver p q (s + t) (plus u v)
 leads_both p q s t u v x y =
-    let a_same = x.a_each ∙ sym y.a_each in
-    let b_same = x.b_each ∙ sym y.b_each in
+    let a = added x.a y.a (x.a_each ∙ sym y.a_each) in
+    let b = added x.b y.b (x.b_each ∙ sym y.b_each) in
     record {
-      a = added x.a y.a;
-      b = added x.b y.b;
-      a_each = length-added x.a y.a (length p) x.a_each y.a_each;
-      b_each = length-added x.b y.b (length q) x.b_each y.b_each;
-      a_sum = sum-added x.a y.a a_same ∙ ap₂ (λ m n. m + n) x.a_sum y.a_sum;
-      b_sum = sum-added x.b y.b b_same ∙ ap₂ (λ m n. m + n) x.b_sum y.b_sum;
-      leads = ap (λ m. plus m (plus u v)) (mix-added x.a y.a p a_same)
-          ∙ both_ways (mix x.a p) (mix y.a p) u v
-          ∙ ap₂ plus x.leads y.leads
-          ∙ sym (mix-added x.b y.b q b_same);
+      a = a.zs;
+      b = b.zs;
+      a_each = a.one_each ∙ x.a_each;
+      b_each = b.one_each ∙ x.b_each;
+      a_sum = a.total ∙ ap₂ (λ m n. m + n) x.a_sum y.a_sum;
+      b_sum = b.total ∙ ap₂ (λ m n. m + n) x.b_sum y.b_sum;
+      leads = ap (λ m. plus m (plus u v)) (a.mixed p) ∙ both_ways (mix x.a p) (mix y.a p) u v ∙ ap₂ plus x.leads y.leads ∙ sym (b.mixed q);
     }
 
 pub leads_mixed : (p q vs : List V3) (ms : List ℕ) → length ms ≡ length vs → ((v : V3) → Contains vs v → IsDifference p q v) → LeadsOver p q (sum ms) (mix ms vs)

@@ -1,29 +1,18 @@
 -- Which pieces touch: how far points lie along a vector, and marks for pairs of pieces.
-use Rattle.std.specs.Prelude.{
-  ◌≡◌,
-  ◌⊎◌,
-  ◌↔◌,
-  ℕ,
-  ◌<◌,
-  pos,
-  ◌≤ℤ◌,
-  Bool,
-  false,
-  List,
-  IsTrue,
-  slice_index_or,
-}
+use Rattle.std.specs.Prelude.{◌≡◌, ◌⊎◌, ◌↔◌, ℕ, ◌<◌, ℤ, ◌≤ℤ◌, Bool, false, List, All, Any, IsTrue}
+use Rattle.std.specs.Prelude.{slice_index_or}
 use Rattle.staat_vec.specs.declared.vector.V3.{V3}
-use Rattle.staat_vec.specs.Vectors.{dot, minus}
+use Rattle.staat_vec.specs.Vectors.{dot}
 use Rattle.staat_model.specs.declared.assembly.Part.{Part}
 use Rattle.staat_model.specs.declared.certificate.Arc.{Arc}
 use Rattle.staat_model.specs.Assemblies.{HoldsAt}
 use Rattle.staat_pairs.specs.Tables.{IsTableArc, Table, back, slot}
 use Rattle.staat_local.specs.Contacts.{Contact}
 
--- b lies as far along n as a, or less far
-abbrev pub IsNoFarther : V3 → V3 → V3 → Type 0
-IsNoFarther n a b = dot (minus b a) n ≤ℤ pos 0
+-- the farthest of the points along n lies so far
+pub record IsReach (n : V3) (points : List V3) (far : ℤ) : Type 0 where
+  pub at : Any (λ p. dot p n ≡ far) points
+  pub most : All (λ p. dot p n ≤ℤ far) points
 
 -- ---- pairs of pieces that touch
 

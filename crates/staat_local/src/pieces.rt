@@ -1,15 +1,14 @@
 // Whether two pieces touch.
-ghost use Rattle.std.specs.Prelude.{◌≡◌, ◌≤◌, ◌*◌, ◌↔◌, ◌⊎◌};
-ghost use Rattle.std.specs.Prelude.{unsigned_abs, All, Any, Contains, IsTrue, length};
-ghost use Rattle.staat_vec.specs.Vectors.{IsWithin, dot, minus};
+ghost use Rattle.std.specs.Prelude.{◌≡◌, ◌≤◌, ◌≤ℤ◌, ◌↔◌, ◌⊎◌, All, Any, IsTrue, length};
+ghost use Rattle.staat_vec.specs.Vectors.{IsWithin, dot};
 ghost use Rattle.staat_model.specs.Assemblies.{HoldsAt};
 ghost use Rattle.staat_pairs.specs.Tables.{IsTableArc, WasMadeFrom, facets_of};
 ghost use Rattle.staat_local.specs.Contacts.{Contact, total};
-ghost use Rattle.staat_local.specs.Touching.{IsNoFarther};
+ghost use Rattle.staat_local.specs.Touching.{IsReach};
 
 use staat_model::{Arc, Piece, Sound};
 use staat_planes::PlaneTable;
-use staat_vec::{DIRECTION, NORMAL, ORIGIN, POINT, V3, add, dot, sub};
+use staat_vec::{DIRECTION, ORIGIN, POINT, V3, add, dot};
 
 // the sum of the facets of two pieces
 fn facet_sum(table: &PlaneTable, arc: Arc) -> V3
@@ -24,63 +23,37 @@ fn facet_sum(table: &PlaneTable, arc: Arc) -> V3
     sum
 }
 
-// how much farther b lies along n than a
-fn beyond(n: V3, a: V3, b: V3) -> i128
-    requires a { IsWithin POINT a }
-    requires b { IsWithin POINT b }
-    requires n { IsWithin DIRECTION n }
-    ensures value { result ≡ dot (minus b a) n }
-    ensures size { unsigned_abs result ≤ 3 * (NORMAL * DIRECTION) }
-{
-    dot(sub(b, a), n)
-}
-
-// whether b lies as far along n as a, or less far
-fn is_no_farther(n: V3, a: V3, b: V3) -> bool
-    requires a { IsWithin POINT a }
-    requires b { IsWithin POINT b }
-    requires n { IsWithin DIRECTION n }
-    ensures { IsTrue result ↔ IsNoFarther n a b }
-{
-    beyond(n, a, b) <= 0
-}
-
-// one of two points that lies as far along n as both
-fn farther(n: V3, a: V3, b: V3) -> V3
-    requires a { IsWithin POINT a }
-    requires b { IsWithin POINT b }
-    requires n { IsWithin DIRECTION n }
+// the greater of two numbers
+fn greater(a: i128, b: i128) -> i128
     ensures either { (result ≡ a) ⊎ (result ≡ b) }
-    ensures first { IsNoFarther n result a }
-    ensures second { IsNoFarther n result b }
+    ensures first { a ≤ℤ result }
+    ensures second { b ≤ℤ result }
 {
-    if is_no_farther(n, a, b) { a } else { b }
+    if a < b { b } else { a }
 }
 
-// one of the points that lie farthest along n
-fn farthest(n: V3, points: &[V3]) -> V3
+// how far the points reach along n
+fn reach(n: V3, points: &[V3]) -> i128
     requires some { 1 ≤ length points.now }
     requires points { All (IsWithin POINT) points.now }
     requires n { IsWithin DIRECTION n }
-    ensures member { Contains points.now result }
-    ensures most { All (IsNoFarther n result) points.now }
+    ensures { IsReach n points.now result }
 {
-    let mut best = points[0];
+    let mut far = dot(points[0], n);
     for p in points {
-        best = farther(n, best, *p);
+        far = greater(far, dot(*p, n));
     }
-    best
+    far
 }
 
-// whether one of the points lies as far along n as a, or less far
-fn has_no_farther(n: V3, a: V3, points: &[V3]) -> bool
-    requires a { IsWithin POINT a }
+// whether one of the points lies so far along n, or less far
+fn has_within(n: V3, far: i128, points: &[V3]) -> bool
     requires points { All (IsWithin POINT) points.now }
     requires n { IsWithin DIRECTION n }
-    ensures { IsTrue result ↔ Any (IsNoFarther n a) points.now }
+    ensures { IsTrue result ↔ Any (λ p. dot p n ≤ℤ far) points.now }
 {
     for p in points {
-        if is_no_farther(n, a, *p) {
+        if dot(*p, n) <= far {
             return true;
         }
     }
@@ -100,6 +73,8 @@ pub fn touch(table: &PlaneTable, sound: &Sound, arc: Arc) -> bool
 {
     let n = facet_sum(table, arc);
     let assembly = sound.assembly();
-    let far = farthest(n, assembly.piece(arc.a, arc.i).points());
-    has_no_farther(n, far, assembly.piece(arc.b, arc.j).points())
+    let first = assembly.piece(arc.a, arc.i).points();
+    let second = assembly.piece(arc.b, arc.j).points();
+    let far = reach(n, first);
+    has_within(n, far, second)
 }

@@ -1,12 +1,11 @@
 // The side of a set of parts that begins to move.
-ghost use Rattle.std.specs.Prelude.{◌≡◌, ◌≢◌, ◌≤◌, ◌↔◌, IfSome, List, None};
+ghost use Rattle.std.specs.Prelude.{◌≡◌, ◌≢◌, ◌≤◌, ◌↔◌, IfSome, List, MatchOption, None};
 ghost use Rattle.std.specs.FinSet as set;
-ghost use Rattle.staat_vec.specs.Vectors.{IsWithin, origin};
+ghost use Rattle.staat_vec.specs.Vectors.{IsWithin, negative, origin};
 ghost use Rattle.staat_model.specs.declared.assembly.Part.{Part as PartValue};
 ghost use Rattle.staat_model.specs.Outcomes.{IsMovedSideBy};
-ghost use Rattle.staat_model.specs.Sets.{IsSide};
+ghost use Rattle.staat_model.specs.Sets.{IsNonempty, IsSide, IsSubset};
 ghost use Rattle.staat_pairs.specs.Tables.{WasMadeFrom};
-ghost use Rattle.staat_planes.specs.VertexSearch.{IfFound, IsFirstOfTwo};
 ghost use Rattle.staat_local.specs.Beginnings.{IsBeginning, IsTight, Loosens};
 ghost use Rattle.staat_local.specs.Contacts.{Starts};
 ghost use Rattle.staat_local.specs.Tightness.{IsMarkedCore};
@@ -16,60 +15,28 @@ use crate::graph::graph_of;
 use crate::side::Loose;
 use crate::tight::marked_core;
 use crate::touching::{TouchMarks, touching};
-use staat_core::{Moving, TableCore, served_on_axis};
+use staat_core::{Moving, TableCore};
 use staat_graph::{is_strong, sink_of};
 use staat_model::{PartSet, Sound};
 use staat_planes::{PlaneTable, Trial, Tried, first_vertex};
 use staat_vec::{DIRECTION, V3};
 
-// the side of the table's set that begins to move along the direction, or else the rest along the opposite one
-fn side_along(marks: &TouchMarks, table: &PlaneTable, d: V3) -> Tried<PartSet>
+// The side of w that begins to move along the direction. Where none does, none does along its opposite.
+fn side_along(marks: &TouchMarks, table: &PlaneTable, w: PartSet, d: V3) -> Option<PartSet>
+    requires set { IsNonempty w }
+    requires within { IsSubset w table.now.of }
     requires size { IsWithin DIRECTION d }
     requires some { d ≢ origin }
-    ensures among { IfFound result (IsSide table.now.of) }
+    ensures side { IfSome result (IsSide w) }
     ensures tried { (parts : List PartValue) → WasMadeFrom parts table.now → AreMarks parts table.now marks.now
-        → IsFirstOfTwo (Loosens parts table.now.of) (IsMovedSideBy Starts parts table.now.of) d result }
+        → MatchOption result ((Loosens parts w d → ⊥) × (Loosens parts w (negative d) → ⊥))
+        (λ s. Loosens parts w d × IsMovedSideBy Starts parts w d s) }
 {
-    let set = table.set();
     let graph = graph_of(marks, table, d);
-    if is_strong(&graph, set) {
-        Tried::Neither
+    if is_strong(&graph, w) {
+        None
     } else {
-        Tried::Ahead(sink_of(&graph, set))
-    }
-}
-
-// A look at the contacts of the parts of a table, which keeps nothing.
-#[derive(Drop)]
-struct ContactsLook<'a> {
-    table: &'a PlaneTable,
-    marks: &'a TouchMarks,
-}
-
-impl<'a> Trial for ContactsLook<'a> {
-    type Found = PartSet;
-
-    // it is asked about all parts of its own table
-    ghost fits = { λ self t w. (self.table.now ≡ t) × (w ≡ t.of) };
-
-    ghost knows = { λ self parts. AreMarks parts self.table.now self.marks.now };
-
-    ghost serves = { Loosens };
-
-    ghost finds = { IsMovedSideBy Starts };
-
-    ghost among = { IsSide };
-
-    fn ask(&mut self, table: &PlaneTable, _w: PartSet, d: V3) -> Tried<PartSet> {
-        side_along(self.marks, table, d)
-    }
-
-    fn rules_out(&mut self, _table: &PlaneTable, _w: PartSet, _g: V3) -> bool {
-        false
-    }
-
-    fn rules_out_all(&mut self, _table: &PlaneTable, _w: PartSet) -> bool {
-        false
+        Some(sink_of(&graph, w))
     }
 }
 
@@ -84,8 +51,8 @@ struct Contacts<'a> {
 impl<'a> Trial for Contacts<'a> {
     type Found = PartSet;
 
-    // it is asked about all parts of its own table
-    ghost fits = { λ self t w. (self.table.now ≡ t) × (w ≡ t.of) × IsMarkedCore t self.marks.now self.core };
+    // it is asked about parts of its own table
+    ghost fits = { λ self t w. (self.table.now ≡ t) × IsNonempty w × IsMarkedCore t self.marks.now self.core };
 
     ghost knows = { λ self parts. AreMarks parts self.table.now self.marks.now };
 
@@ -95,19 +62,18 @@ impl<'a> Trial for Contacts<'a> {
 
     ghost among = { IsSide };
 
-    fn ask(&mut self, table: &PlaneTable, _w: PartSet, d: V3) -> Tried<PartSet> {
-        side_along(self.marks, table, d)
+    fn ask(&mut self, table: &PlaneTable, w: PartSet, d: V3) -> Tried<PartSet> {
+        match side_along(self.marks, table, w, d) {
+            Some(side) => Tried::Ahead(side),
+            None => Tried::Neither,
+        }
     }
 
     fn rules_out(&mut self, table: &PlaneTable, w: PartSet, g: V3) -> bool {
-        // the set is not empty
-        let _set = table.set();
         self.core.holds_on(table, w, Moving::AnySide, g)
     }
 
     fn rules_out_all(&mut self, table: &PlaneTable, w: PartSet) -> bool {
-        // the set is not empty
-        let _set = table.set();
         self.core.holds(table, w, Moving::AnySide)
     }
 }
@@ -149,15 +115,10 @@ pub fn local_step(table: &PlaneTable, sound: &Sound) -> Option<Loose>
     ensures tight { (result ≡ None) ↔ IsTight sound.now table.now.of }
 {
     let marks = touching(table, sound);
-    let mut look = ContactsLook {
-        table,
-        marks: &marks,
-    };
-    match served_on_axis(table, table.set(), &mut look) {
-        Some(served) => Some(Loose {
-            side: served.found,
-            d: served.d,
-        }),
+    // the first vertices of the planes of each set, at which most sets come apart
+    let d = V3 { x: 0, y: 0, z: 1 };
+    match side_along(&marks, table, table.set(), d) {
+        Some(side) => Some(Loose { side, d }),
         None => searched_step(table, sound, &marks),
     }
 }

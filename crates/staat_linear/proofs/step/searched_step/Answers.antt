@@ -12,6 +12,4 @@ returns-in-None-clause-step c parts made =
     record { planes = some.0; planes_are = some.1; none = c.in-None.ensures.first parts some.0 made tt some.1 }
 
 pub returns-in-Some-clause-step : goal.returns-in-Some-clause-step
-returns-in-Some-clause-step c parts made =
-    let some = some_planes parts c.args.w in
-    served_is_leave parts c.args.w some.0 c.in-Some.served some.1 (c.in-Some.ensures.first parts some.0 made tt some.1)
+returns-in-Some-clause-step c parts made = served_is_leave parts c.args.w c.in-Some.served (λ planes. c.in-Some.ensures.first parts planes made tt)

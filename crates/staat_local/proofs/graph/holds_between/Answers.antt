@@ -10,15 +10,12 @@ use Rattle.staat_local.specs.Touching.{IsPairMarked}
 use Rattle.staat_local.proofs.graph.holds_between.Goals as goal
 
 pub loop-j-preserved : goal.loop-j-preserved
-loop-j-preserved c = record {
-  from = c.loop-j.invariant.from;
-  here = λ h e. elim (lt_or_le c.loop-j.j h.j) [
-    | inl lt ↦ (let past : c.loop-j.j + 1 ≤ h.j = omega (arith, lt) in past)
-    | inr le ↦ (let same : h.j ≡ c.loop-j.j = omega (arith, le, c.loop-j.invariant.here h e) in
-        absurd (no_more _ c.if-holds.ensures (subst (λ (arc : Arc). IsPairMarked c.args.marks.now (slot c.args.table.now.pieces arc) × All (λ n. pos 0 <ℤ dot n c.args.d) (facets_of c.args.table.now arc))
-        (λ z. arc_of c.args.a (e z) c.args.b (same z)) (h.marked, h.ahead))))
-  ];
-}
+loop-j-preserved c h e = elim (lt_or_le c.loop-j.j h.j) [
+  | inl lt ↦ (let past : c.loop-j.j + 1 ≤ h.j = omega (arith, lt) in past)
+  | inr le ↦ (let same : h.j ≡ c.loop-j.j = omega (arith, le, c.loop-j.invariant h e) in
+      absurd (no_more _ c.if-holds.ensures (subst (λ (arc : Arc). IsPairMarked c.args.marks.now (slot c.args.table.now.pieces arc) × All (λ n. pos 0 <ℤ dot n c.args.d) (facets_of c.args.table.now arc))
+      (λ z. arc_of c.args.a (e z) c.args.b (same z)) (h.marked, h.ahead))))
+]
 
 pub loop-i-preserved : goal.loop-i-preserved
 loop-i-preserved c = λ h. elim (lt_or_le c.loop-i.i h.i) [
@@ -26,7 +23,7 @@ loop-i-preserved c = λ h. elim (lt_or_le c.loop-i.i h.i) [
   | inr le ↦
       (let same : h.i ≡ c.loop-i.i = omega (arith, le, c.loop-i.invariant h) in
       let within : h.j < pieces_of c.args.table.now c.args.b = h.across.j_is in
-      absurd (omega (arith, within, c.loop-j.invariant.here h same, c.loop-j-test.false, c.pieces-j-end.ensures.is)))
+      absurd (omega (arith, within, c.loop-j.invariant h same, c.loop-j-test.false, c.pieces-j-end.ensures.is)))
 ]
 
 pub returns : goal.returns

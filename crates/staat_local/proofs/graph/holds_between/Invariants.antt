@@ -6,7 +6,4 @@ abbrev pub invariant-loop-i : goal.invariant-loop-i
 invariant-loop-i l = (h : HoldsBetween l.table l.marks l.d l.a l.b) → l.i ≤ h.i
 
 abbrev pub invariant-loop-j : goal.invariant-loop-j
-invariant-loop-j l = record {
-  from : (h : HoldsBetween l.table l.marks l.d l.a l.b) → l.i ≤ h.i;
-  here : (h : HoldsBetween l.table l.marks l.d l.a l.b) → h.i ≡ l.i → l.j ≤ h.j;
-}
+invariant-loop-j l = (h : HoldsBetween l.table l.marks l.d l.a l.b) → h.i ≡ l.i → l.j ≤ h.j

@@ -1,24 +1,14 @@
-use Rattle.std.proofs.Common.{refl, subst, sym}
+use Rattle.std.proofs.Common.{subst, sym}
 use Rattle.staat_model.specs.declared.set.PartSet.{PartSet}
-use Rattle.staat_model.specs.Planes.{ArePlanes}
-use Rattle.staat_local.specs.Beginnings.{IsBeginning}
-use Rattle.staat_local.proofs.Beginning.{none_loosens}
+use Rattle.staat_model.specs.Sets.{IsNonempty}
+use Rattle.staat_local.proofs.Beginning.{axis_begins, begins_not_tight}
 use Rattle.staat_local.proofs.step.local_step.Goals as goal
 
 pub returns-in-Some-clause-beginning : goal.returns-in-Some-clause-beginning
-returns-in-Some-clause-beginning c =
-    let parts = c.args.sound.now in
-    let planes = c.args.table.now.planes in
-    let are = subst (λ (u : PartSet). ArePlanes c.args.sound.now u c.args.table.now.planes) (sym c.set.ensures.is) c.requires.made.planes in
-    let found = c.in-Some.ensures.first parts planes c.requires.made c.touching-marks.ensures are in
-    subst (λ (u : PartSet). IsBeginning c.args.sound.now u (record { side = c.in-Some.served.found; d = c.in-Some.served.d })) c.set.ensures.is
-    (record { planes = planes; planes_are = are; first = found.first; moved = found.found_is })
+returns-in-Some-clause-beginning c = axis_begins c.args.sound.now c.args.table.now c.set.result c.requires.made c.set.ensures.is c.in-Some.side (c.in-Some.ensures.tried c.args.sound.now c.requires.made c.touching-marks.ensures)
 
 pub returns-in-Some-clause-tight : goal.returns-in-Some-clause-tight
-returns-in-Some-clause-tight c = (
-  λ e. absurd cc,
-  λ tight. absurd (none_loosens c.args.sound.now c.args.table.now.of (record { side = c.in-Some.served.found; d = c.in-Some.served.d }) (returns-in-Some-clause-beginning c) tight),
-)
+returns-in-Some-clause-tight c = begins_not_tight c.args.sound.now c.args.table.now.of _ (returns-in-Some-clause-beginning c)
 
-pub served_on_axis-requires-clause-fits : goal.served_on_axis-requires-clause-fits
-served_on_axis-requires-clause-fits c = (refl, c.set.ensures.is)
+pub side_along-requires-clause-set : goal.side_along-requires-clause-set
+side_along-requires-clause-set c = subst (λ (u : PartSet). IsNonempty u) (sym c.set.ensures.is) c.set.ensures.rules.nonempty

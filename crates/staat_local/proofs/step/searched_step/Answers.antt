@@ -1,33 +1,21 @@
-use Rattle.std.proofs.Common.{refl, subst, sym, All}
+use Rattle.std.proofs.Common.{refl, subst, sym}
 use Rattle.staat_model.specs.declared.set.PartSet.{PartSet}
-use Rattle.staat_model.specs.Planes.{ArePlanes, vertices}
-use Rattle.staat_local.specs.Beginnings.{IsBeginning, Loosens}
-use Rattle.staat_local.proofs.Beginning.{none_loosens, tight_from}
+use Rattle.staat_model.specs.Sets.{IsNonempty}
+use Rattle.staat_local.proofs.Beginning.{begins_not_tight, none_is_tight, served_begins}
 use Rattle.staat_local.proofs.step.searched_step.Goals as goal
 
 pub returns-in-Some-clause-beginning : goal.returns-in-Some-clause-beginning
 returns-in-Some-clause-beginning c =
-    let parts = c.args.sound.now in
-    let planes = c.args.table.now.planes in
-    let are = subst (λ (u : PartSet). ArePlanes c.args.sound.now u c.args.table.now.planes) (sym c.set.ensures.is) c.requires.made.planes in
-    let found = c.in-Some.ensures.first parts planes c.requires.made c.requires.marks are in
-    subst (λ (u : PartSet). IsBeginning c.args.sound.now u (record { side = c.in-Some.served.found; d = c.in-Some.served.d })) c.set.ensures.is
-    (record { planes = planes; planes_are = are; first = found.first; moved = found.found_is })
+    served_begins c.args.sound.now c.args.table.now c.set.result c.requires.made c.set.ensures.is c.in-Some.served (λ planes. c.in-Some.ensures.first c.args.sound.now planes c.requires.made c.requires.marks)
 
 pub returns-in-Some-clause-tight : goal.returns-in-Some-clause-tight
-returns-in-Some-clause-tight c = (
-  λ e. absurd cc,
-  λ tight. absurd (none_loosens c.args.sound.now c.args.table.now.of (record { side = c.in-Some.served.found; d = c.in-Some.served.d }) (returns-in-Some-clause-beginning c) tight),
-)
+returns-in-Some-clause-tight c = begins_not_tight c.args.sound.now c.args.table.now.of _ (returns-in-Some-clause-beginning c)
 
 pub returns-in-None-clause-tight : goal.returns-in-None-clause-tight
-returns-in-None-clause-tight c =
-    let parts = c.args.sound.now in
-    let are = subst (λ (u : PartSet). ArePlanes c.args.sound.now u c.args.table.now.planes) (sym c.set.ensures.is) c.requires.made.planes in
-    let none = c.in-None.ensures.first parts c.args.table.now.planes c.requires.made c.requires.marks are in (
-      λ e. tight_from parts c.args.table.now c.requires.made c.requires.two (subst (λ (u : PartSet). All (λ v. Loosens c.args.sound.now u v → ⊥) (vertices c.args.table.now.planes)) c.set.ensures.is none),
-      λ tight. refl,
-    )
+returns-in-None-clause-tight c = (
+  λ e. none_is_tight c.args.sound.now c.args.table.now c.set.result c.requires.made c.set.ensures.is c.requires.two (λ planes. c.in-None.ensures.first c.args.sound.now planes c.requires.made c.requires.marks),
+  λ tight. refl,
+)
 
 pub first_vertex-requires-clause-fits : goal.first_vertex-requires-clause-fits
-first_vertex-requires-clause-fits c = (refl, c.set.ensures.is, c.marked_core-core.ensures)
+first_vertex-requires-clause-fits c = (refl, subst (λ (u : PartSet). IsNonempty u) (sym c.set.ensures.is) c.set.ensures.rules.nonempty, c.marked_core-core.ensures)

@@ -2,7 +2,7 @@ use Rattle.std.proofs.Common.{◌≡◌, ◌∙◌, ◌+◌, ◌<◌, ◌++◌, 
 use Rattle.std.specs.Prelude.{flat_map}
 use Rattle.std.proofs.lemmas.List.{flat_map_more, take_more}
 use Rattle.staat_linear.specs.OrderTexts.{take_line}
-use Rattle.staat_linear.proofs.text.take_lines.Goals as goal
+use Rattle.staat_linear.proofs.text.whole_text.Goals as goal
 
 -- the lines with one more
 line_more : {X : Type 0} (f : X → List ℕ) (xs : List X) (i : ℕ) (d : X) (before after line bytes : List ℕ) → i < length xs

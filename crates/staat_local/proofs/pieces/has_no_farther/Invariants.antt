@@ -1,7 +1,0 @@
-use Rattle.std.proofs.Common.{ℕ, ◌<◌, get_or}
-use Rattle.staat_vec.specs.declared.vector.V3.{V3}
-use Rattle.staat_local.specs.Touching.{IsNoFarther}
-use Rattle.staat_local.proofs.pieces.has_no_farther.Given as goal
-
-abbrev pub invariant-loop-p : goal.invariant-loop-p
-invariant-loop-p l = (k : ℕ) (v : V3) → k < l.p-index → IsNoFarther l.n l.a (get_or l.points k v) → ⊥
