@@ -1,16 +1,19 @@
 -- Values that are numbered by first use, and a witness and its number, by its key.
-use Rattle.std.proofs.Common.{◌≡◌, ◌∷◌, [], ◌++◌, ℕ, List, refl, ◌⊎◌, inl, inr, ⊎_elim, zero, suc, ◌+◌, ◌<◌, arith, sym, ap, subst, ◌∙◌, length, Bool, true, false, Contains, map}
-use Rattle.std.specs.Prelude.{flat_map, Some, slice_get, map, nat_eq, ◌||◌, not, cond, if◌then◌else◌}
+use Rattle.std.proofs.Common.{◌≡◌, ◌∷◌, [], ◌++◌, ℕ, List, refl, ◌*◌, All, take, ◌⊎◌, inl, inr, ⊎_elim, zero, suc, ◌+◌, ◌<◌, arith, sym, ap, subst, ◌∙◌, length, Bool, true, false, Contains, map}
+use Rattle.std.specs.Prelude.{Some, slice_get, map, nat_eq, if◌then◌else◌}
 use Rattle.staat_model.specs.declared.certificate.Arc.{Arc}
 use Rattle.staat_model.specs.declared.certificate.Witness.{Witness}
-use Rattle.staat_certify.specs.WitnessListings.{key_of, key_numbers, EachStandsOnce, IsNumberOf, AreKeys}
+use Rattle.staat_pairs.specs.Tables.{IsTable, IsTableArc, Table, slot}
+use Rattle.staat_ring.proofs.PairNumbers.{one_arc}
+use Rattle.staat_certify.specs.WitnessListings.{key_of, EachStandsOnce, IsNumberOf, IsOfTable, AreKeys}
 use lib.Pointwise.{pointwise}
-use Rattle.std.specs.List.{AllByRecursion, IsDistinct, list_any, position_or_len}
-use Rattle.std.proofs.lemmas.List.{length-map, map-append}
-use Rattle.std.proofs.lemmas.List.Elements.{All-push, All-nil, All-weaker, Contains-append_left, Contains-push}
+use Rattle.std.specs.List.{AllByRecursion, IsDistinct, list_any}
+use Rattle.std.proofs.Math.Seq.{take-append_seam}
+use Rattle.std.proofs.lemmas.List.{append_cancel_left, length-append, length-map, map-append}
+use Rattle.std.proofs.lemmas.List.Elements.{All-head, All-push, All-nil, All-tail, All-weaker, Contains-append_left, Contains-push}
 use Rattle.staat_model.specs.Certify.{NumbersByFirstUse}
 use Rattle.staat_model.proofs.Places.{place_within}
-use Rattle.staat_vec.proofs.ListLaws.{map_at_place, push_cases, push_front, place_of, place_in_map, push_end}
+use Rattle.staat_vec.proofs.ListLaws.{All-at, map_at_place, push_cases, push_front, place_of, place_in_map, push_end}
 use Rattle.std.proofs.lemmas.Slice.Eq.{bytes_eq-Decides}
 use Rattle.staat_vec.proofs.Naturals.{lt_one_more_cases}
 
@@ -40,18 +43,6 @@ numbers_next n uses i more numbers given = record {
         (λ h. ⊎_elim {C = (k < n) ⊎ (k ≡ i)} (λ less. inl less) (λ e. inr (omega (arith, e, h.0))) (lt_one_more_cases k n (omega (arith, lt, h.1))))
         given
 
--- ---- the place of a value, or the next
-
-place_of_new : {X : Type 0} (p : X → Bool) (xs : List X) → list_any p xs ≡ false → position_or_len p xs ≡ length xs
-place_of_new p [] none = refl
-place_of_new p (x ∷ xs) none = go (p x) refl (place_of_new p xs)
-  where
-    go : (b : Bool) → p x ≡ b → (list_any p xs ≡ false → position_or_len p xs ≡ length xs) → position_or_len p (x ∷ xs) ≡ length (x ∷ xs)
-    go true e later = absurd (let wrong : true ≡ false = ap (λ b. b || list_any p xs) (sym e) ∙ none in cc)
-    go false e later =
-        let rest : position_or_len p xs ≡ length xs = later (ap (λ b. b || list_any p xs) (sym e) ∙ none) in
-        ap (λ b. cond (not b) (1 + position_or_len p xs) 0) e ∙ (let f : 1 + position_or_len p xs ≡ suc (length xs) = omega (arith, rest) in f)
-
 -- ---- keys by their items
 
 module _ {X : Type 0} (items : X → List ℕ) where
@@ -71,94 +62,90 @@ module _ {X : Type 0} (items : X → List ℕ) where
   places_differ (x ∷ xs) distinct (suc k) zero l a b = absurd (later_differs x xs k l distinct.0 a (let same : items x ≡ l = cc in same))
   places_differ (x ∷ xs) distinct (suc k) (suc m) l a b = ap suc (places_differ xs distinct.1 k m l a b)
 
-  pub number_is : (old new : List X) (key : X) (i : ℕ) → new ≡ (if list_any (λ y. pointwise nat_eq (items key) (items y)) old then old else old ++ key ∷ []) → i ≡ position_or_len (λ y. pointwise nat_eq (items key) (items y)) old
+  pub number_is : (old new : List X) (key : X) (i : ℕ) → new ≡ (if list_any (λ y. pointwise nat_eq (items key) (items y)) old then old else old ++ key ∷ []) → EachStandsOnce (map items new)
       → (x : X) × (slice_get new i ≡ Some x) × (pointwise nat_eq (items key) (items x) ≡ true) → IsNumberOf (map items old) (map items new) (items key) i
-  number_is old new key i e place (x, at, same) = go (list_any (λ y. pointwise nat_eq (items key) (items y)) old) refl e
+  number_is old new key i e distinct (x, at, same) = go (list_any (λ y. pointwise nat_eq (items key) (items y)) old) refl e
     where
       here : slice_get (map items new) i ≡ Some (items key)
       here = map_at_place items new i x at ∙ ap Some (sym ((bytes_eq-Decides (items key) (items x)).0 same))
 
       go : (b : Bool) → list_any (λ y. pointwise nat_eq (items key) (items y)) old ≡ b → new ≡ (if b then old else old ++ key ∷ []) → IsNumberOf (map items old) (map items new) (items key) i
       go true any is = record { which = inl (ap (map items) is, subst (λ l. i < length l) (ap (map items) is) (place_within (map items new) i (items key) here)); at = here }
-      go false any is = record {
-        which = inr (ap (map items) is ∙ map-append items old (key ∷ []), place ∙ place_of_new (λ y. pointwise nat_eq (items key) (items y)) old any ∙ sym (length-map old items));
-        at = here;
-      }
+      go false any is =
+          let more : map items new ≡ map items old ++ items key ∷ [] = ap (map items) is ∙ map-append items old (key ∷ []) in
+          let last = ap (λ l. slice_get l (length (map items old))) more ∙ push_end (map items old) (items key) in
+          record { which = inr (more, distinct i (length (map items old)) (items key) here last); at = here }
 
--- ---- a key tells its witness from each other
+-- ---- a key tells its witness from each other of the table
 
-module _ (side : ℕ) where
-  arcs_same : (xs ys : List Arc) → flat_map (key_numbers side) xs ≡ flat_map (key_numbers side) ys → xs ≡ ys
-  arcs_same [] [] e = refl
-  arcs_same [] (y ∷ ys) e = absurd cc
-  arcs_same (x ∷ xs) [] e = absurd cc
-  arcs_same (x ∷ xs) (y ∷ ys) e =
-      let a : x.a ≡ y.a = cc in
-      let i : x.i ≡ y.i = cc in
-      let b : x.b ≡ y.b = cc in
-      let j : x.j ≡ y.j = cc in
-      let rest : flat_map (key_numbers side) xs ≡ flat_map (key_numbers side) ys = cc in
-      let later = arcs_same xs ys rest in
-      λ t. record { a = a t; i = i t; b = b t; j = j t } ∷ later t
+module _ (t : Table) (rules : IsTable t) where
+  arcs_same : (xs ys : List Arc) → All (IsTableArc t) xs → All (IsTableArc t) ys → map (slot t.pieces) xs ≡ map (slot t.pieces) ys → xs ≡ ys
+  arcs_same [] [] p q e = refl
+  arcs_same [] (y ∷ ys) p q e = absurd cc
+  arcs_same (x ∷ xs) [] p q e = absurd cc
+  arcs_same (x ∷ xs) (y ∷ ys) p q e =
+      let first : slot t.pieces x ≡ slot t.pieces y = cc in
+      let rest : map (slot t.pieces) xs ≡ map (slot t.pieces) ys = cc in
+      let here = one_arc t rules x y (All-head (IsTableArc t) x xs p) (All-head (IsTableArc t) y ys q) first in
+      let later = arcs_same xs ys (All-tail (IsTableArc t) x xs p) (All-tail (IsTableArc t) y ys q) rest in
+      λ k. here k ∷ later k
 
--- the two lists are told apart by the number before each arc
-both_same : (xs ys us vs : List Arc) → flat_map (key_numbers 0) xs ++ flat_map (key_numbers 1) us ≡ flat_map (key_numbers 0) ys ++ flat_map (key_numbers 1) vs → (xs ≡ ys) × (us ≡ vs)
-both_same [] [] us vs e = (refl, arcs_same 1 us vs e)
-both_same [] (y ∷ ys) [] vs e = absurd cc
-both_same [] (y ∷ ys) (u ∷ us) vs e = absurd cc
-both_same (x ∷ xs) [] us [] e = absurd cc
-both_same (x ∷ xs) [] us (v ∷ vs) e = absurd cc
-both_same (x ∷ xs) (y ∷ ys) us vs e =
-    let a : x.a ≡ y.a = cc in
-    let i : x.i ≡ y.i = cc in
-    let b : x.b ≡ y.b = cc in
-    let j : x.j ≡ y.j = cc in
-    let rest : flat_map (key_numbers 0) xs ++ flat_map (key_numbers 1) us ≡ flat_map (key_numbers 0) ys ++ flat_map (key_numbers 1) vs = cc in
-    let later = both_same xs ys us vs rest in (
-      λ t. record { a = a t; i = i t; b = b t; j = j t } ∷ later.0 t,
-      later.1,
-    )
+  half : (x : Witness) → IsOfTable t x → length (key_of t.pieces x) ≡ 2 * length (map (slot t.pieces) x.outs)
+  half x of = omega (arith, length-append (map (slot t.pieces) x.outs) (map (slot t.pieces) x.ins), length-map x.outs (slot t.pieces), length-map x.ins (slot t.pieces), of.even)
 
-pub key_tells : (x y : Witness) → key_of x ≡ key_of y → x ≡ y
-key_tells x y e = let both = both_same x.outs y.outs x.ins y.ins e in λ t. record { outs = both.0 t; ins = both.1 t }
+  pub key_tells : (x y : Witness) → IsOfTable t x → IsOfTable t y → key_of t.pieces x ≡ key_of t.pieces y → x ≡ y
+  key_tells x y p q e =
+      let (xs, us) : List ℕ × List ℕ = (map (slot t.pieces) x.outs, map (slot t.pieces) x.ins) in
+      let (ys, vs) : List ℕ × List ℕ = (map (slot t.pieces) y.outs, map (slot t.pieces) y.ins) in
+      let long : length xs ≡ length ys = omega (arith, half x p, half y q, ap length e) in
+      let first : xs ≡ ys = sym (take-append_seam xs us) ∙ ap (take (length xs)) e ∙ ap (λ n. take n (ys ++ vs)) long ∙ take-append_seam ys vs in
+      let second : us ≡ vs = append_cancel_left xs us vs (e ∙ ap (λ l. l ++ vs) (sym first)) in
+      let outs = arcs_same x.outs y.outs p.outs q.outs first in
+      let ins = arcs_same x.ins y.ins p.ins q.ins second in
+      λ k. record { outs = outs k; ins = ins k }
 
 -- ---- a witness and its number
 
-module _ (keys more : List (List ℕ)) (witnesses : List Witness) (witness : Witness) (i : ℕ) (before : AreKeys keys witnesses) (of : IsNumberOf keys more (key_of witness) i) (distinct : EachStandsOnce more) where
+module _ (t : Table) (keys more : List (List ℕ)) (witnesses : List Witness) (witness : Witness) (i : ℕ) (own : IsOfTable t witness) (before : AreKeys t keys witnesses) (of : IsNumberOf keys more (key_of t.pieces witness) i) (distinct : EachStandsOnce more) where
   many : length keys ≡ length witnesses
-  many = ap length before.are ∙ length-map witnesses key_of
+  many = ap length before.are ∙ length-map witnesses (key_of t.pieces)
 
   -- it was there
-  pub number_old : (i ≡ length witnesses → ⊥) → AreKeys more witnesses × IsNumberOf witnesses witnesses witness i
-  number_old other = ⊎_elim
+  pub number_old : IsTable t → (i ≡ length witnesses → ⊥) → AreKeys t more witnesses × IsNumberOf witnesses witnesses witness i
+  number_old rules other = ⊎_elim
       (λ old.
-      let all : more ≡ map key_of witnesses = old.0 ∙ before.are in
-      let (x, there, same) = place_in_map key_of witnesses i (key_of witness) (subst (λ ks. slice_get ks i ≡ Some (key_of witness)) all of.at) in (
-        record { are = all; distinct = distinct },
-        record { which = inl (refl, omega (arith, many, old.1)); at = there ∙ ap Some (key_tells x witness same) },
+      let all : more ≡ map (key_of t.pieces) witnesses = old.0 ∙ before.are in
+      let (x, there, same) = place_in_map (key_of t.pieces) witnesses i (key_of t.pieces witness) (subst (λ ks. slice_get ks i ≡ Some (key_of t.pieces witness)) all of.at) in (
+        record { are = all; each = before.each; distinct = distinct },
+        record { which = inl (refl, omega (arith, many, old.1)); at = there ∙ ap Some (key_tells t rules x witness (All-at (IsOfTable t) witnesses i x there before.each) own same) },
       ))
       (λ new. absurd (other (new.1 ∙ many)))
       of.which
 
   -- it is new
-  pub number_new : (now : List Witness) → now ≡ witnesses ++ witness ∷ [] → i ≡ length witnesses → AreKeys more now × IsNumberOf witnesses now witness i
+  pub number_new : (now : List Witness) → now ≡ witnesses ++ witness ∷ [] → i ≡ length witnesses → AreKeys t more now × IsNumberOf witnesses now witness i
   number_new now is last = ⊎_elim
       (λ old. absurd (omega (arith, many, old.1, last)))
       (λ new. (
-        record { are = new.0 ∙ ap (λ ks. ks ++ key_of witness ∷ []) before.are ∙ sym (map-append key_of witnesses (witness ∷ [])) ∙ ap (map key_of) (sym is); distinct = distinct },
-        record { which = inr (is, last); at = subst (λ k. slice_get now k ≡ Some witness) (sym last) (subst (λ ws. slice_get ws (length witnesses) ≡ Some witness) (sym is) (push_end witnesses witness)) },
+        record {
+          are = new.0 ∙ ap (λ ks. ks ++ key_of t.pieces witness ∷ []) before.are ∙ sym (map-append (key_of t.pieces) witnesses (witness ∷ [])) ∙ ap (map (key_of t.pieces)) (sym is);
+          each = subst (All (IsOfTable t)) (sym is) (All-push (IsOfTable t) witnesses witness before.each own);
+          distinct = distinct;
+        },
+        record { which = inr (is, last); at = ap (slice_get now) last ∙ ap (λ ws. slice_get ws (length witnesses)) is ∙ push_end witnesses witness },
       ))
       of.which
 
 -- witnesses whose keys are different are different
-pub apart_by_keys : (keys : List (List ℕ)) (witnesses : List Witness) → AreKeys keys witnesses → EachStandsOnce witnesses
-apart_by_keys keys witnesses by k m x a b = by.distinct k m (key_of x) (there k a) (there m b)
+pub apart_by_keys : (t : Table) (keys : List (List ℕ)) (witnesses : List Witness) → AreKeys t keys witnesses → EachStandsOnce witnesses
+apart_by_keys t keys witnesses by k m x a b = by.distinct k m (key_of t.pieces x) (there k a) (there m b)
   where
-    there : (n : ℕ) → slice_get witnesses n ≡ Some x → slice_get keys n ≡ Some (key_of x)
-    there n at = subst (λ ks. slice_get ks n ≡ Some (key_of x)) (sym by.are) (map_at_place key_of witnesses n x at)
+    there : (n : ℕ) → slice_get witnesses n ≡ Some x → slice_get keys n ≡ Some (key_of t.pieces x)
+    there n at = ap (λ ks. slice_get ks n) by.are ∙ map_at_place (key_of t.pieces) witnesses n x at
 
-pub no_keys : (keys : List (List ℕ)) (witnesses : List Witness) → keys ≡ [] → witnesses ≡ [] → AreKeys keys witnesses
-no_keys keys witnesses none no_witness = record {
-  are = none ∙ sym (ap (map key_of) no_witness);
+pub no_keys : (t : Table) (keys : List (List ℕ)) (witnesses : List Witness) → keys ≡ [] → witnesses ≡ [] → AreKeys t keys witnesses
+no_keys t keys witnesses none no_witness = record {
+  are = none ∙ sym (ap (map (key_of t.pieces)) no_witness);
+  each = subst (All (IsOfTable t)) (sym no_witness) (All-nil (IsOfTable t));
   distinct = λ k m key a b. let nothing : slice_get [] k ≡ Some key = subst (λ (ks : List (List ℕ)). slice_get ks k ≡ Some key) none a in cc;
 }

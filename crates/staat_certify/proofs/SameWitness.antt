@@ -1,13 +1,12 @@
 -- Where the same pairs of pieces have positive facets alone, the witness is the same.
-use Rattle.std.proofs.Common.{◌≡◌, ◌≢◌, ◌∙◌, ◌↔◌, ℕ, ◌≤◌, sym, subst, refl, List, All, pos, ◌<ℤ◌}
-use Rattle.std.specs.Prelude.{Bool, IfSome, None, Option, Some, false, map}
+use Rattle.std.proofs.Common.{◌≡◌, ◌≢◌, ◌∙◌, ◌↔◌, ℕ, ◌+◌, ◌-◌, ◌≤◌, arith, sym, subst, refl, List, All, pos, ◌<ℤ◌}
+use Rattle.std.specs.Prelude.{Bool, IfSome, IsTrue, None, Option, Some, false, map}
 use Rattle.std.proofs.lemmas.List.Elements.{All-contains}
 use Rattle.staat_vec.specs.declared.vector.V3.{V3}
 use Rattle.staat_vec.specs.Vectors.{dot}
 use Rattle.staat_model.specs.declared.assembly.Part.{Part}
 use Rattle.staat_model.specs.declared.certificate.Arc.{Arc}
 use Rattle.staat_model.specs.declared.certificate.Witness.{Witness}
-use Rattle.staat_model.specs.declared.set.PartSet.{PartSet}
 use Rattle.staat_model.specs.Bridges.{Back}
 use Rattle.staat_model.specs.Certificates.{IsArcWithin, inward, outward}
 use Rattle.staat_model.specs.Certify.{IsLeastArc, IsWitnessAt}
@@ -16,14 +15,16 @@ use Rattle.staat_model.specs.Sets.{Has, single}
 use Rattle.staat_model.proofs.Members.{All-from_members}
 use Rattle.staat_model.proofs.ValidCertificates.{witness_holds}
 use Rattle.staat_pairs.specs.Searches.{arc_of}
-use Rattle.staat_pairs.specs.Tables.{IsTable, IsTableArc, Table, facets_of, slot}
+use Rattle.staat_pairs.specs.Tables.{IsTable, IsTableArc, Table, WasMadeFrom, facets_of, slot}
 use Rattle.staat_planes.proofs.GraphLaw.{meets_at}
 use Rattle.staat_ring.specs.CountedSigns.{Signed, positives}
-use Rattle.staat_ring.specs.WholeCircles.{HaveSameFull, IsFull}
+use Rattle.staat_ring.specs.Belonging.{BelongTo}
+use Rattle.staat_ring.specs.Rings.{Ring}
+use Rattle.staat_ring.specs.WholeCircles.{AreSignsAt, HaveSameFull, IsFull, vertex_at}
 use Rattle.staat_ring.proofs.ArcLaw.{full_says}
 use Rattle.staat_ring.proofs.WholeCircles.{all, all_linked, to_linked}
 use Rattle.staat_certify.specs.Witnesses.{StandsAmong}
-use Rattle.staat_certify.specs.Visits.{NamesIfTold}
+use Rattle.staat_certify.specs.Visits.{IsVisitedTo, NamesIfTold}
 use Rattle.staat_certify.proofs.WitnessLemmas.{met_of, root_within, tree_carried}
 
 -- a pair has positive facets alone exactly where the vertex leads ahead of all of them
@@ -76,12 +77,27 @@ module _ (parts : List Part) (t : Table) (rules : IsTable t) (s u : Signed) (d e
         ins_least = least_too witness.ins holds.ins is.ins_least;
       }
 
-  -- a number that is told there is told here
-  pub told_too : (witnesses : List Witness) (told : Option ℕ) → NamesIfTold parts t.of witnesses d told → NamesIfTold parts t.of witnesses e told
-  told_too witnesses None names = names
-  told_too witnesses (Some i) names = record { witness = names.witness; witness_is = names.witness_is; is = same_witness names.witness names.is }
+-- what is known at a vertex is known at the one before the next place
+pub visited_next : (parts : List Part) (t : Table) (r : Ring) (u : Signed) (witnesses : List Witness) (known : Option ℕ) (k : ℕ) → AreSignsAt t.planes u (vertex_at t.planes r k)
+    → NamesIfTold parts t.of witnesses (vertex_at t.planes r k) known → IsVisitedTo parts t r u witnesses known (k + 1)
+visited_next parts t r u witnesses known k signs names =
+    let e : k ≡ k + 1 - 1 = omega arith in record {
+      later = omega arith;
+      signs = subst (λ m. AreSignsAt t.planes u (vertex_at t.planes r m)) e signs;
+      names = subst (λ m. NamesIfTold parts t.of witnesses (vertex_at t.planes r m) known) e names;
+    }
 
--- a number that is told only where other pieces do not meet
-pub still_told : (parts : List Part) (w : PartSet) (witnesses : List Witness) (e : V3) (changes : Bool) (told known : Option ℕ) → IfSome known (λ i. (changes ≡ false) × (told ≡ Some i)) → (changes ≡ false → NamesIfTold parts w witnesses e told) → NamesIfTold parts w witnesses e known
-still_told parts w witnesses e changes told None h names = h
-still_told parts w witnesses e changes told (Some i) h names = subst (NamesIfTold parts w witnesses e) h.1 (names h.0)
+-- a number that is told at the vertex before names the witness here, too, where no other pieces meet
+pub told_here : (parts : List Part) (t : Table) → IsTable t → (r : Ring) (k : ℕ) (s u : Signed) (witnesses : List Witness) (near changes : Bool) (told known : Option ℕ) → WasMadeFrom parts t → BelongTo t s → BelongTo t u
+    → AreSignsAt t.planes u (vertex_at t.planes r k) → (changes ≡ false → IsTrue near × HaveSameFull s u) → (IsTrue near → IsVisitedTo parts t r s witnesses told k)
+    → IfSome known (λ i. (changes ≡ false) × (told ≡ Some i)) → NamesIfTold parts t.of witnesses (vertex_at t.planes r k) known
+told_here parts t rules r k s u witnesses near changes told None from made here signs same was still = still
+told_here parts t rules r k s u witnesses near changes told (Some i) from made here signs same was still =
+    let (nearby, full) = same still.0 in
+    let before = vertex_at t.planes r (k - 1) in
+    let names = subst (NamesIfTold parts t.of witnesses before) still.1 (was nearby).names in
+    record {
+      witness = names.witness;
+      witness_is = names.witness_is;
+      is = same_witness parts t rules s u before (vertex_at t.planes r k) (record { from = from; made = made; signs = (was nearby).signs }) (record { from = from; made = here; signs = signs }) full names.witness names.is;
+    }

@@ -27,7 +27,7 @@ use Rattle.staat_model.specs.Planes.{vertices}
 use Rattle.staat_model.specs.Plans.{IsStuck}
 use Rattle.staat_model.specs.Removal.{Blocks, MeetsAlong}
 use Rattle.staat_model.specs.Sets.{Has, IsLeastOf, IsSubset, single}
-use Rattle.staat_model.proofs.Decisions.{Decided, all_decided, all_or, below_or, both_or, carried, least_or, less_or, nat_or, not_or}
+use Rattle.staat_model.proofs.Decisions.{Decided, all_decided, all_or, below_or, both_or, carried, equal_or, least_or, less_or, nat_or, not_or}
 use Rattle.staat_model.proofs.FirstUse.{IsDistinct}
 use Rattle.staat_model.proofs.FreeSides.{member_or, subset_or}
 use Rattle.staat_model.proofs.GraphLemmas.{at_pieces}
@@ -45,8 +45,7 @@ use Rattle.staat_graph.specs.Graphs.{IsShut, Walks, here}
 use Rattle.staat_graph.proofs.Finite.{same_by_len, some_least, some_or_none}
 use Rattle.staat_graph.proofs.Reaching.{reach_of}
 use Rattle.staat_graph.proofs.Walking.{reach_shut, stays, turned, walk_ends}
-use Rattle.staat_certify.specs.WitnessListings.{IsNumberOf, key_of}
-use Rattle.staat_certify.proofs.Numbering.{key_tells}
+use Rattle.staat_certify.specs.WitnessListings.{IsNumberOf}
 use Rattle.staat_certify.proofs.WitnessLemmas.{IsLink, more_within, root_within, tree_links}
 use Rattle.staat_certify.proofs.ListedLemmas.{line_pushed, listed_more, HasLines, no_lines, refusal_listed}
 use Rattle.staat_certify.proofs.SomeCertificate.{chosen}
@@ -244,7 +243,7 @@ lists_or dec (x ∷ xs) [] = inr (λ e. cc)
 lists_or dec (x ∷ xs) (y ∷ ys) = carried (λ h z. h.0 z ∷ h.1 z) (λ e. ((let a : x ≡ y = cc in a), (let b : xs ≡ ys = cc in b))) (both_or (dec x y) (lists_or dec xs ys))
 
 witness_or : (x y : Witness) → Decided (x ≡ y)
-witness_or x y = carried (key_tells x y) (ap key_of) (lists_or nat_or (key_of x) (key_of y))
+witness_or x y = carried (λ h k. record { outs = h.0 k; ins = h.1 k }) (λ e. (ap (λ z. z.outs) e, ap (λ z. z.ins) e)) (both_or (lists_or (equal_or arc_cmp arc_total arc_exact) x.outs y.outs) (lists_or (equal_or arc_cmp arc_total arc_exact) x.ins y.ins))
 
 place_or : (xs : List Witness) (x : Witness) → ((k : ℕ) × (slice_get xs k ≡ Some x)) ⊎ ((k : ℕ) → slice_get xs k ≡ Some x → ⊥)
 place_or xs x = elim (all_or (λ y. y ≡ x → ⊥) (λ y. not_or (witness_or y x)) xs) [

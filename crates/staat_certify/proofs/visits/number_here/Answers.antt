@@ -7,5 +7,5 @@ returns-clause-number c =
     record {
       keys_are = c.in_ok-number.ensures.keys;
       kept = kept c.args.at.now.sound.now c.args.at.now.table.now.of c.args.found.now.witnesses.items c.number_witness.new.witnesses.items c.in_ok-witness.witness c.in_ok-number.number of;
-      names = record { witness = c.in_ok-witness.witness; witness_is = of.at; is = c.in_ok-witness.ensures };
+      names = record { witness = c.in_ok-witness.witness; witness_is = of.at; is = c.in_ok-witness.ensures.witness };
     }

@@ -17,6 +17,10 @@ pub leads_ahead-requires-clause-across : goal.leads_ahead-requires-clause-across
 leads_ahead-requires-clause-across c =
     across_of c.args.self.now.table.now c.args.self.now.d c.args.ends c.loop-i.i c.loop-j.j c.requires.ahead (omega (arith, c.loop-i-test.true, c.pieces-i-end.ensures.is)) (omega (arith, c.loop-j-test.true, c.pieces-j-end.ensures.is))
 
+pub returns-then-leads_ahead-clause-across : goal.returns-then-leads_ahead-clause-across
+returns-then-leads_ahead-clause-across c =
+    across_of c.args.self.now.table.now c.args.self.now.d c.args.ends c.loop-i.i c.loop-j.j c.requires.ahead (omega (arith, c.loop-i-test.true, c.pieces-i-end.ensures.is)) (omega (arith, c.loop-j-test.true, c.pieces-j-end.ensures.is))
+
 pub returns-then-leads_ahead-clause-least : goal.returns-then-leads_ahead-clause-least
 returns-then-leads_ahead-clause-least c =
     let self = c.args.self.now in
