@@ -1,7 +1,7 @@
 use Rattle.staat_certify.proofs.listing.number_witness.Goals as goal
 use Rattle.std.proofs.Common.{List, ℕ, map, subst, arith}
 use Rattle.staat_certify.specs.WitnessListings.{IsNumberOf}
-use Rattle.staat_certify.proofs.Numbering.{number_is, places_differ, number_new, number_old}
+use Rattle.staat_certify.proofs.ListedLemmas.{number_is, places_differ, number_new, number_old}
 
 pub returns-in_ok-push : goal.returns-in_ok-push
 returns-in_ok-push c =

@@ -4,7 +4,7 @@ use Rattle.std.proofs.lemmas.List.Elements.{All-nil}
 use Rattle.staat_model.specs.Certify.{IsDirection}
 use Rattle.staat_model.proofs.PlaneLemmas.{planes_apart}
 use Rattle.staat_certify.specs.Visits.{IsNamed}
-use Rattle.staat_certify.proofs.Numbering.{apart_by_keys, no_keys}
+use Rattle.staat_certify.proofs.ListedLemmas.{apart_by_keys, no_keys}
 use Rattle.staat_certify.proofs.VisitLemmas.{all_sorted, all_visited, lists_all}
 use Rattle.staat_certify.proofs.visits.visit_all.Goals as goal
 

@@ -1,6 +1,6 @@
 use Rattle.std.proofs.Common.{◌<◌, length, subst, sym}
 use Rattle.staat_ring.specs.WholeCircles.{IsFull}
-use Rattle.staat_certify.proofs.SameWitness.{full_is_ahead}
+use Rattle.staat_certify.proofs.WitnessLemmas.{full_is_ahead}
 use Rattle.staat_certify.proofs.vantage.Vantage.leads_ahead.Goals as goal
 
 pub is_full-requires : goal.is_full-requires

@@ -8,7 +8,7 @@ use Rattle.staat_ring.proofs.StopLemmas.{vertex_first}
 use Rattle.staat_ring.proofs.WholeCircles.{vertex_listed, vertex_some}
 use Rattle.staat_certify.specs.declared.visits.Visit.{Visit}
 use Rattle.staat_certify.specs.Visits.{IsNamed, IsVisitedDirection, NamesIfTold, visited_directions}
-use Rattle.staat_certify.proofs.SameWitness.{told_here, visited_next}
+use Rattle.staat_certify.proofs.WitnessLemmas.{told_here, visited_next}
 use Rattle.staat_certify.proofs.VisitLemmas.{all_more, gone_more, named_still, still_visited, visited_earlier, visited_here}
 use Rattle.staat_certify.proofs.visits.Survey.visit.Goals as goal
 
