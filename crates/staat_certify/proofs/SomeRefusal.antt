@@ -72,14 +72,11 @@ module _ (R : ℕ → ℕ → Type 0) (dec : (a b : ℕ) → Decided (R a b)) (w
   abbrev IsReachable : PartSet → ℕ → Type 0
   IsReachable s t = Has w t × ((Has s t → ⊥) × IsEntered s t)
 
-  entered_or : (s : PartSet) (t : ℕ) → Decided (IsEntered s t)
-  entered_or s t = elim (some_or_none (λ f. R f t) (λ f. dec f t) s) [
+  reachable_or : (s : PartSet) (t : ℕ) → Decided (IsReachable s t)
+  reachable_or s t = both_or (member_or w t) (both_or (not_or (member_or s t)) (elim (some_or_none (λ f. R f t) (λ f. dec f t) s) [
     | inl h ↦ inl h
     | inr none ↦ inr (λ h. none h.0 h.1 h.2)
-  ]
-
-  reachable_or : (s : PartSet) (t : ℕ) → Decided (IsReachable s t)
-  reachable_or s t = both_or (member_or w t) (both_or (not_or (member_or s t)) (entered_or s t))
+  ]))
 
   next_bridge : (s : PartSet) (q : ℕ) → IsReachable s q → (f : ℕ) × (t : ℕ) × IsNextBridge R w s f t
   next_bridge s q h =

@@ -1,6 +1,6 @@
 -- What a survey of the vertices of a table's planes has found: the directions that it has visited, and their
 -- witnesses.
-use Rattle.std.specs.Prelude.{◌≡◌, ◌≢◌, ◌-◌, ℕ, ◌<◌, List, All, Bool, Contains, IfSome, Option, Some, length, map, slice_get, true}
+use Rattle.std.specs.Prelude.{◌≡◌, ◌≢◌, ◌-◌, ℕ, ◌<◌, List, All, Bool, Contains, IfSome, Option, Some, length, map, slice_get}
 use Rattle.std.specs.List.Sorted.{IsStrictlySortedBy}
 use Rattle.staat_vec.specs.declared.vector.V3.{V3}
 use Rattle.staat_vec.specs.Primitives.{IsCanon}
@@ -25,9 +25,9 @@ pub record IsSurvey (parts : List Part) (t : Table) : Type 0 where
   pub made : WasMadeFrom parts t
   pub stuck : IsStuck parts t.of
 
--- the trees are those of the graph, if any graph was looked at
-pub record KeepsTrees (w : PartSet) (kept : GraphTrees) : Type 0 where
-  pub trees : kept.known ≡ true → AreTrees (HasArc kept.graph.rows) w kept.trees
+-- the trees that are kept, if any are, are those of their graph
+abbrev pub KeepsTrees : PartSet → Option GraphTrees → Type 0
+KeepsTrees w kept = IfSome kept (λ known. AreTrees (HasArc known.graph.rows) w known.trees)
 
 -- the number of the visit names the witness at its direction
 abbrev pub IsNamed : List Part → PartSet → List Witness → Visit → Type 0

@@ -37,7 +37,7 @@ pub struct Found {
     pub keys: IndexSet<Vec<u32>>,
     pub witnesses: Vec<Witness>,
     pub visited: Vec<Visit>,
-    pub kept: GraphTrees,
+    pub kept: Option<GraphTrees>,
 }
 
 // the number of the witness at the vertex, which is looked for where it is not told, and put at the end of the list if
@@ -62,8 +62,8 @@ fn number_here(
     if let Some(number) = told {
         return Ok(number);
     }
-    renew_trees(&mut found.kept, at);
-    let witness = witness_here(alloc, at, &found.kept.trees)?;
+    let trees = renew_trees(&mut found.kept, at);
+    let witness = witness_here(alloc, at, &trees)?;
     let number = number_witness(
         alloc,
         at.table,
@@ -245,7 +245,7 @@ pub fn visit_all(
         keys: IndexSet::new(alloc),
         witnesses: Vec::new(alloc),
         visited: Vec::new(alloc),
-        kept: GraphTrees::none(),
+        kept: None,
     };
     survey.go_round_all(&mut signs, &mut found)?;
     sort_visits(&mut found.visited);

@@ -1,5 +1,5 @@
 // The witness that no side of a set is free of its rest along a vertex.
-ghost use Rattle.std.specs.Prelude.{◌≡◌, ◌≢◌, All, IfOk, false};
+ghost use Rattle.std.specs.Prelude.{◌≢◌, All, IfOk};
 ghost use Rattle.staat_vec.specs.Vectors.{origin};
 ghost use Rattle.staat_model.specs.Certify.{IsWitnessAt};
 ghost use Rattle.staat_model.specs.Plans.{IsStuck};
@@ -9,59 +9,39 @@ ghost use Rattle.staat_certify.specs.WitnessListings.{IsOfTable};
 
 use crate::vantage::Vantage;
 use staat_graph::{Graph, Trees, trees_of};
-use staat_limits::MOST_PARTS;
 use staat_model::{Arc, Arcs, Witness};
 use staat_vec::OutOfMemory;
 use std::alloc::Global;
 
-/// The trees of the graph that was looked at last, if any was.
+/// The graph that was looked at last, and its trees.
 #[derive(Clone, Copy)]
 pub struct GraphTrees {
-    pub known: bool,
     pub graph: Graph,
     pub trees: Trees,
 }
 
-impl GraphTrees {
-    /// No graph was looked at.
-    pub fn none() -> GraphTrees
-        ensures { result.known ≡ false }
-    {
-        GraphTrees {
-            known: false,
-            graph: Graph { rows: [0; 32] },
-            trees: Trees {
-                count: 0,
-                outs: [(0, 0); 32],
-                ins: [(0, 0); 32],
-            },
-        }
-    }
-}
-
-/// Makes the trees those of the graph at the vertex, anew only where that is another graph.
-pub(crate) fn renew_trees(kept: &mut GraphTrees, at: &Vantage)
+/// The trees of the graph at the vertex, found anew only where that is not the graph that is kept.
+pub(crate) fn renew_trees(kept: &mut Option<GraphTrees>, at: &Vantage) -> Trees
     requires at { StandsAmong at.now.sound.now at.now.table.now at.now.signs.now at.now.d }
     requires stuck { IsStuck at.now.sound.now at.now.table.now.of }
     requires some { at.now.d ≢ origin }
     requires kept { KeepsTrees at.now.table.now.of kept.old }
     ensures kept { KeepsTrees at.now.table.now.of kept.new }
-    ensures along { AreTreesAlong at.now.sound.now at.now.table.now at.now.d kept.new.trees }
+    ensures along { AreTreesAlong at.now.sound.now at.now.table.now at.now.d result }
 {
     let w = at.table.set();
     let _root = w.least();
     let graph = at.graph();
-    if kept.known && kept.graph == graph {
-        return;
+    if let Some(known) = *kept {
+        if known.graph == graph {
+            return known.trees;
+        }
     }
     // the graph is strong because the set is stuck
     match trees_of(&graph, w) {
         Some(trees) => {
-            *kept = GraphTrees {
-                known: true,
-                graph,
-                trees,
-            };
+            *kept = Some(GraphTrees { graph, trees });
+            trees
         }
         None => unreachable!(),
     }

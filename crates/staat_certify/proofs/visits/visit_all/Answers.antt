@@ -1,5 +1,4 @@
-use Rattle.std.proofs.Common.{◌∙◌, All, ap, arith, length, map, subst, sym}
-use Rattle.std.proofs.lemmas.Bool.{false≢true}
+use Rattle.std.proofs.Common.{All, ap, arith, length, map, subst, sym}
 use Rattle.std.proofs.lemmas.List.Elements.{All-nil}
 use Rattle.staat_model.specs.Certify.{IsDirection}
 use Rattle.staat_model.proofs.PlaneLemmas.{planes_apart}
@@ -10,7 +9,7 @@ use Rattle.staat_certify.proofs.visits.visit_all.Goals as goal
 
 pub go_round_all-requires-clause-found : goal.go_round_all-requires-clause-found
 go_round_all-requires-clause-found c = record {
-  kept = record { trees = λ known. absurd (false≢true (sym c.none.ensures ∙ known)) };
+  kept = tt;
   keys_are = no_keys c.args.table.now (map (λ v. v.items) c.new.result.keys) c.new-2.result.items (ap (map (λ v. v.items)) c.new.ensures.empty) c.new-2.ensures.items;
   each = subst (All (λ visit. IsDirection c.args.version c.args.table.now.planes visit.d)) (sym c.new-3.ensures.items) (All-nil (λ visit. IsDirection c.args.version c.args.table.now.planes visit.d));
   named = subst (All (IsNamed c.args.sound.now c.args.table.now.of c.new-2.result.items)) (sym c.new-3.ensures.items) (All-nil (IsNamed c.args.sound.now c.args.table.now.of c.new-2.result.items));
