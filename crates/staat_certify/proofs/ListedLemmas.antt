@@ -244,12 +244,6 @@ few_directions version planes ds few lists =
     let most = vertices_count planes few in
     omega (arith, le, most)
 
-pub few_visits : (version : ℕ) (planes : List V3) (visited : List Visit) → length planes ≤ 1024 → Lists vector_cmp (IsDirection version planes) (visited_directions visited) → length visited < LIST_LIMIT
-few_visits version planes visited few lists =
-    let lt = few_directions version planes (visited_directions visited) few lists in
-    let same = length-map visited (λ (visit : Visit). visit.d) in
-    omega (arith, lt, same)
-
 -- ---- the whole list
 
 pub refusal_listed : (parts : List Part) (version : ℕ) (w : PartSet) (planes ds : List V3) (witnesses : List Witness) (dirs : List Dir) → ArePlanes parts w planes → Lists vector_cmp (IsDirection version planes) ds → EachStandsOnce witnesses → AreListed parts w witnesses dirs → map (λ dir. dir.d) dirs ≡ ds → IsRefusalOf parts version w witnesses dirs

@@ -18,7 +18,7 @@ use Rattle.staat_model.specs.declared.certificate.Witness.{Witness}
 use Rattle.staat_model.specs.declared.set.PartSet.{PartSet}
 use Rattle.staat_model.specs.Assemblies.{IsAssembly}
 use Rattle.staat_model.specs.Bridges.{Back, IsNextBridge, IsTree, swapped}
-use Rattle.staat_model.specs.Certificates.{IsAcross, arc_cmp, inward, outward}
+use Rattle.staat_model.specs.Certificates.{arc_cmp, inward, outward}
 use Rattle.staat_model.specs.Certify.{IsCertificateOf, IsDirection, IsLeastArc, IsWitnessAt}
 use Rattle.staat_model.specs.Facets.{IsFacet}
 use Rattle.staat_model.specs.Meeting.{Meets}
@@ -142,11 +142,8 @@ module _ (parts : List Part) (is : IsAssembly parts) (d : V3) where
   between_or a b arc = carried (λ (h : (arc.a ≡ a) × ((arc.b ≡ b) × MeetsAlong parts d arc)). (h.0, h.1.0, h.1.1)) (λ (h : IsBetween a b arc). (h.0, (h.1, h.2)))
       (both_or (nat_or arc.a a) (both_or (nat_or arc.b b) (meets_or arc)))
 
-  arcs_of : (a b : ℕ) → Listing (IsAcross parts (single a) (single b))
-  arcs_of a b = arcs_listing parts (single a) (single b)
-
-  listed : (a b : ℕ) (arc : Arc) → IsBetween a b arc → Contains (arcs_of a b).xs arc
-  listed a b arc h = (arcs_of a b).all arc (record {
+  listed : (a b : ℕ) (arc : Arc) → IsBetween a b arc → Contains (arcs_listing parts (single a) (single b)).xs arc
+  listed a b arc h = (arcs_listing parts (single a) (single b)).all arc (record {
     a_in = (has-single a arc.a).1 h.0;
     b_in = (has-single b arc.b).1 h.1;
     i_in = piece_within parts arc.a arc.i h.2.p h.2.p_is;
@@ -158,7 +155,7 @@ module _ (parts : List Part) (is : IsAssembly parts) (d : V3) where
   HasArcFor f x = (arc : Arc) × (f arc ≡ x) × IsLeastArc parts d arc
 
   least_between : (a b : ℕ) → HasArcFor outward (a, b) ⊎ ((arc : Arc) → IsBetween a b arc → ⊥)
-  least_between a b = elim (least_or arc_cmp arc_total arc_exact (IsBetween a b) (between_or a b) (arcs_of a b).xs) [
+  least_between a b = elim (least_or arc_cmp arc_total arc_exact (IsBetween a b) (between_or a b) (arcs_listing parts (single a) (single b)).xs) [
     | inl t ↦ inl (
       t.x,
       (λ z. (t.has.0 z, t.has.1 z)),

@@ -63,14 +63,8 @@ fn number_here(
         return Ok(number);
     }
     let trees = renew_trees(&mut found.kept, at);
-    let witness = witness_here(alloc, at, &trees)?;
-    let number = number_witness(
-        alloc,
-        at.table,
-        &mut found.keys,
-        &mut found.witnesses,
-        witness,
-    )?;
+    let here = witness_here(alloc, at, &trees)?;
+    let number = number_witness(alloc, at.table, &mut found.keys, &mut found.witnesses, here)?;
     Ok(number)
 }
 

@@ -24,9 +24,6 @@ unreachable-requires c =
     stuck_is_strong c.args.at.now.sound.now c.args.at.now.table.now.of c.args.at.now.d rows c.requires.some c.graph-graph.ensures c.requires.stuck
     (λ strong. c.in-None.ensures.none (subst (λ (s : PartSet). IsStrong (HasArc rows) s) (sym c.set-w.ensures.is) strong))
 
-pub returns-clause-kept : goal.returns-clause-kept
-returns-clause-kept c = subst (λ (s : PartSet). AreTrees (HasArc c.graph-graph.result.rows) s c.in-Some-trees_of.trees) c.set-w.ensures.is c.in-Some-trees_of.ensures.trees
-
 pub returns-clause-along : goal.returns-clause-along
 returns-clause-along c =
     trees_along c.args.at.now.sound.now c.args.at.now.table.now c.args.at.now.d c.in-Some-trees_of.trees c.least-root.result c.graph-graph.result.rows c.requires.at.from c.set-w.ensures.rules
