@@ -1,6 +1,6 @@
--- What a survey of the vertices of a table's planes has found: the directions that it has visited, and their
--- witnesses.
-use Rattle.std.specs.Prelude.{◌≡◌, ◌≢◌, ◌-◌, ℕ, ◌<◌, List, All, Bool, Contains, IfSome, Option, Some, length, map, slice_get}
+-- What a survey of the vertices of a table's planes has found: the directions visited, and their witnesses.
+use Rattle.std.specs.Prelude.{◌≡◌, ◌≢◌, ◌-◌, ℕ, ◌<◌, List, All}
+use Rattle.std.specs.Prelude.{Bool, Contains, IfSome, Option, Some, length, map, slice_get}
 use Rattle.std.specs.List.Sorted.{IsStrictlySortedBy}
 use Rattle.staat_vec.specs.declared.vector.V3.{V3}
 use Rattle.staat_vec.specs.Primitives.{IsCanon}

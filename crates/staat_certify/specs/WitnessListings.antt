@@ -1,5 +1,6 @@
 -- The lines of a refusal that have been listed so far, and the key by which a witness is found again.
-use Rattle.std.specs.Prelude.{◌≡◌, ◌≢◌, ◌⊎◌, ◌≤◌, ◌<◌, ◌∷◌, [], ◌++◌, ℕ, List, All, Option, Some, length, map, slice_get}
+use Rattle.std.specs.Prelude.{◌≡◌, ◌≢◌, ◌⊎◌, ◌≤◌, ◌<◌, ◌∷◌, [], ◌++◌}
+use Rattle.std.specs.Prelude.{ℕ, List, All, Option, Some, length, map, slice_get}
 use Rattle.staat_vec.specs.declared.vector.V3.{V3}
 use Rattle.staat_vec.specs.declared.vector.TheConstants.{DIRECTION}
 use Rattle.staat_vec.specs.Vectors.{IsWithin, origin}

@@ -38,7 +38,8 @@ pub record AreTreesAlong (parts : List Part) (t : Table) (d : V3) (trees : Trees
   pub ins : All (AreEndsAhead t d) (take trees.count trees.ins)
 
 -- the arcs, of the table, join these pairs of parts, each with the first pieces with which the one blocks the other
-pub record AreEndsAndLeast (parts : List Part) (t : Table) (d : V3) (pairs : List (ℕ × ℕ)) (arcs : List Arc) : Type 0 where
+pub record AreEndsAndLeast (parts : List Part) (t : Table) (d : V3) (pairs : List (ℕ × ℕ))
+    (arcs : List Arc) : Type 0 where
   pub across : All (IsTableArc t) arcs
   pub ends : map outward arcs ≡ pairs
   pub least : All (IsLeastArc parts d) arcs

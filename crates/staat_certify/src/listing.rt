@@ -2,9 +2,8 @@
 ghost use Rattle.std.specs.Prelude.{◌≡◌, ◌<◌, ◌++◌, ◌∷◌, [], All, IfOk, OnOk, Some, length, map, slice_get};
 ghost use Rattle.staat_model.specs.declared.certificate.Witness.{Witness as WitnessValue};
 ghost use Rattle.staat_pairs.specs.Tables.{IsTableArc, slot};
-ghost use Rattle.staat_certify.specs.WitnessListings.{EachStandsOnce, AreKeys, AreListed, AreNames};
-ghost use Rattle.staat_certify.specs.WitnessListings.{IsWitnessListing, IsNumberOf};
-ghost use Rattle.staat_certify.specs.WitnessListings.{IsOfTable, key_of};
+ghost use Rattle.staat_certify.specs.WitnessListings.{EachStandsOnce, AreKeys, AreListed, AreNames, IsNumberOf};
+ghost use Rattle.staat_certify.specs.WitnessListings.{IsOfTable, IsWitnessListing, key_of};
 ghost use Rattle.staat_certify.specs.Visits.{IsNamed, visited_directions};
 
 use crate::visits::{Found, Visit};
