@@ -76,19 +76,8 @@ part_numbers parts plan is good = numbers_of plan (λ p h.
 
 -- ---- the number of nodes
 
-abbrev leaf_count : WalledPlan → ℕ
-leaf_count (walled_leaf p) = 1
-leaf_count (walled_split d seps moved rest) = leaf_count moved + leaf_count rest
-
-node_count : (t : WalledPlan) → length (nodes_of t) + 1 ≡ 2 * leaf_count t
-node_count (walled_leaf p) = refl
-node_count (walled_split d seps moved rest) =
-    let m = node_count moved in
-    let r = node_count rest in
-    omega (arith, m, r, length-append (nodes_of moved) (nodes_of rest))
-
--- each leaf adds a part: as many fit into u beside s
-counted : (parts : List Part) (t : WalledPlan) (w s u : PartSet) → IsGood parts w (unwalled t) → IsSubset s u → IsSubset (walled_parts t) u → AreApart s (walled_parts t) → set.len s + leaf_count t ≤ set.len u
+-- each leaf adds a part, and as many fit into u beside s; there is one node less than twice as many
+counted : (parts : List Part) (t : WalledPlan) (w s u : PartSet) → IsGood parts w (unwalled t) → IsSubset s u → IsSubset (walled_parts t) u → AreApart s (walled_parts t) → length (nodes_of t) + 1 + 2 * set.len s ≤ 2 * set.len u
 counted parts (walled_leaf p) w s u good within own apart =
     let p_in = (has-single p p).1 refl in
     let lt = len_fewer s u p within (own p p_in) (λ h. apart p h p_in) in
@@ -101,14 +90,14 @@ counted parts (walled_split d seps moved rest) w s u good within own apart =
     (λ q h. ⊎_elim (within q) (λ in_m. own q ((has-union m r q).1 (inl in_m))) ((has-union s m q).0 h))
     (λ q h. own q ((has-union m r q).1 (inr h)))
     (λ q a b. ⊎_elim (λ in_s. apart q in_s ((has-union m r q).1 (inr b))) (λ in_m. good.1 q in_m b) ((has-union s m q).0 a)) in
-    omega (arith, one, two)
+    omega (arith, one, two, length-append (nodes_of moved) (nodes_of rest))
 
 few_nodes : (parts : List Part) (n : ℕ) (t : WalledPlan) → IsGood parts (below n) (unwalled t) → length (nodes_of t) + 1 ≤ 2 * n
 few_nodes parts n t good =
-    let leaves = counted parts t (below n) set.empty (below n) good (λ q none. absurd (has-empty q none))
+    let nodes = counted parts t (below n) set.empty (below n) good (λ q none. absurd (has-empty q none))
     (λ q h. subst (λ (s : PartSet). Has s q) (sym (good_parts parts (below n) (unwalled t) good)) h) (λ q none b. has-empty q none) in
     let most : set.len (below n) ≤ n = len_below n (below n) (λ q h. (has-below n q).0 h) in
-    omega (arith, leaves, most, node_count t)
+    omega (arith, nodes, most)
 
 -- ---- bounds and orders of a plan
 

@@ -6,8 +6,8 @@ use Rattle.std.proofs.lemmas.Map.Views.{Contains-from_any}
 use Rattle.staat_vec.proofs.ListLaws.{Contains-from_map}
 use Rattle.staat_vec.proofs.Naturals.{eqb_false, same_parts_of_64}
 use Rattle.staat_model.specs.declared.certificate.Body.{Body}
-use Rattle.staat_model.specs.Certify.{IsBodyOf}
-use Rattle.staat_model.specs.Texts.{IsWellFormed}
+use Rattle.staat_model.specs.Certify.{IsBodyOf, AreLeastWalls, HasLeastWalls, IsCertificateOf}
+use Rattle.staat_model.specs.Texts.{IsWellFormed, lines_of, lines_of_node, text_of}
 use Rattle.staat_model.proofs.LineTexts.{line_front, line_is, line_length}
 use Rattle.staat_model.proofs.Members.{All-from_members}
 use Rattle.staat_certify.proofs.CertificateLemmas.{formed}
@@ -37,12 +37,10 @@ use Rattle.staat_model.specs.declared.set.PartSet.{PartSet}
 use Rattle.staat_model.specs.declared.tree.Kind.{Kind}
 use Rattle.staat_model.specs.Assemblies.{IsAssembly, piece_count}
 use Rattle.staat_model.specs.Certificates.{WalledPlan, arc_cmp, nodes_of, walled_leaf, walled_parts, walled_split}
-use Rattle.staat_model.specs.Certify.{AreLeastWalls, HasLeastWalls, IsCertificateOf}
 use Rattle.staat_model.specs.Lines.{IsInBounds, line_text}
 use Rattle.staat_model.specs.Outcomes.{planned}
 use Rattle.staat_model.specs.Plans.{IsGood, Plan}
 use Rattle.staat_model.specs.Sets.{below}
-use Rattle.staat_model.specs.Texts.{lines_of, lines_of_node, text_of}
 use Rattle.staat_certify.specs.Plans.{AreWithin}
 use Rattle.staat_model.proofs.ArcOrder.{not_before_itself}
 

@@ -1,9 +1,6 @@
 pub mod SomeMember
 pub mod WallLemmas
-pub mod NodeLemmas
 pub mod WitnessLemmas
-pub mod Numbering
-pub mod SameWitness
 pub mod VisitLemmas
 pub mod ListedLemmas
 pub mod CertificateLemmas

@@ -1,7 +1,7 @@
 -- A plan that takes parts apart has walls at each split, and so it has a certificate.
-use Rattle.std.proofs.Common.{◌≡◌, ◌∙◌, inl, inr, ℕ, zero, suc, ◌<◌, arith, refl, sym, ap, subst, List, [], ◌∷◌, length, get_or, map, All, Contains, ℤ, pos, negsuc, ◌≤ℤ◌, ◌<ℤ◌}
+use Rattle.std.proofs.Common.{◌≡◌, ◌∙◌, inl, inr, ℕ, ◌<◌, arith, refl, sym, ap, subst, List, [], ◌∷◌, length, get_or, map, All, Contains, ℤ, pos, ◌≤ℤ◌, ◌<ℤ◌}
 use Rattle.std.specs.Prelude.{Option, None, Some, option_and_then, option_map, slice_get, unwrap_or}
-use Rattle.std.proofs.lemmas.Int.{ints}
+use Rattle.std.proofs.lemmas.Int.{by_lt_z}
 use Rattle.std.proofs.lemmas.List.Elements.{All-cons, All-nil}
 use Rattle.std.proofs.lemmas.Option.{slice_get-get_or}
 use Rattle.staat_vec.specs.declared.vector.V3.{V3}
@@ -36,9 +36,7 @@ use Rattle.staat_certify.proofs.WallLemmas.{IsLeastWall, wall_away}
 -- ---- a wall for two pieces
 
 above : (a : ℤ) → (a ≤ℤ pos 0 → ⊥) → pos 0 <ℤ a
-above (pos zero) not = absurd (not (omega (arith, ints)))
-above (pos (suc n)) not = omega (arith, ints)
-above (negsuc n) not = absurd (not (omega (arith, ints)))
+above a not = by_lt_z {P = pos 0 <ℤ a} (pos 0) a (λ up. up) (λ down. absurd (not down))
 
 some_wall : (p q : List V3) (d : V3) → IsPiece p → IsPiece q → (Meets p q d → ⊥) → (n : V3) × IsLeastWall p q d n
 some_wall p q d is_p is_q apart = elim (least_or vector_cmp vector_total vector_exact (IsAway d) (λ n. le_or (dot n d) (pos 0)) facets.xs) [

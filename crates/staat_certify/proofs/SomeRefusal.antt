@@ -18,7 +18,7 @@ use Rattle.staat_model.specs.declared.certificate.Witness.{Witness}
 use Rattle.staat_model.specs.declared.set.PartSet.{PartSet}
 use Rattle.staat_model.specs.Assemblies.{IsAssembly}
 use Rattle.staat_model.specs.Bridges.{Back, IsNextBridge, IsTree, swapped}
-use Rattle.staat_model.specs.Certificates.{IsAcross, arc_cmp, inward, outward}
+use Rattle.staat_model.specs.Certificates.{arc_cmp, inward, outward}
 use Rattle.staat_model.specs.Certify.{IsCertificateOf, IsDirection, IsLeastArc, IsWitnessAt}
 use Rattle.staat_model.specs.Facets.{IsFacet}
 use Rattle.staat_model.specs.Meeting.{Meets}
@@ -27,7 +27,7 @@ use Rattle.staat_model.specs.Planes.{vertices}
 use Rattle.staat_model.specs.Plans.{IsStuck}
 use Rattle.staat_model.specs.Removal.{Blocks, MeetsAlong}
 use Rattle.staat_model.specs.Sets.{Has, IsLeastOf, IsSubset, single}
-use Rattle.staat_model.proofs.Decisions.{Decided, all_decided, all_or, below_or, both_or, carried, least_or, less_or, nat_or, not_or}
+use Rattle.staat_model.proofs.Decisions.{Decided, all_decided, all_or, below_or, both_or, carried, equal_or, least_or, less_or, nat_or, not_or}
 use Rattle.staat_model.proofs.FirstUse.{IsDistinct}
 use Rattle.staat_model.proofs.FreeSides.{member_or, subset_or}
 use Rattle.staat_model.proofs.GraphLemmas.{at_pieces}
@@ -45,8 +45,7 @@ use Rattle.staat_graph.specs.Graphs.{IsShut, Walks, here}
 use Rattle.staat_graph.proofs.Finite.{same_by_len, some_least, some_or_none}
 use Rattle.staat_graph.proofs.Reaching.{reach_of}
 use Rattle.staat_graph.proofs.Walking.{reach_shut, stays, turned, walk_ends}
-use Rattle.staat_certify.specs.WitnessListings.{IsNumberOf, key_of}
-use Rattle.staat_certify.proofs.Numbering.{key_tells}
+use Rattle.staat_certify.specs.WitnessListings.{IsNumberOf}
 use Rattle.staat_certify.proofs.WitnessLemmas.{IsLink, more_within, root_within, tree_links}
 use Rattle.staat_certify.proofs.ListedLemmas.{line_pushed, listed_more, HasLines, no_lines, refusal_listed}
 use Rattle.staat_certify.proofs.SomeCertificate.{chosen}
@@ -73,14 +72,11 @@ module _ (R : ℕ → ℕ → Type 0) (dec : (a b : ℕ) → Decided (R a b)) (w
   abbrev IsReachable : PartSet → ℕ → Type 0
   IsReachable s t = Has w t × ((Has s t → ⊥) × IsEntered s t)
 
-  entered_or : (s : PartSet) (t : ℕ) → Decided (IsEntered s t)
-  entered_or s t = elim (some_or_none (λ f. R f t) (λ f. dec f t) s) [
+  reachable_or : (s : PartSet) (t : ℕ) → Decided (IsReachable s t)
+  reachable_or s t = both_or (member_or w t) (both_or (not_or (member_or s t)) (elim (some_or_none (λ f. R f t) (λ f. dec f t) s) [
     | inl h ↦ inl h
     | inr none ↦ inr (λ h. none h.0 h.1 h.2)
-  ]
-
-  reachable_or : (s : PartSet) (t : ℕ) → Decided (IsReachable s t)
-  reachable_or s t = both_or (member_or w t) (both_or (not_or (member_or s t)) (entered_or s t))
+  ]))
 
   next_bridge : (s : PartSet) (q : ℕ) → IsReachable s q → (f : ℕ) × (t : ℕ) × IsNextBridge R w s f t
   next_bridge s q h =
@@ -146,11 +142,8 @@ module _ (parts : List Part) (is : IsAssembly parts) (d : V3) where
   between_or a b arc = carried (λ (h : (arc.a ≡ a) × ((arc.b ≡ b) × MeetsAlong parts d arc)). (h.0, h.1.0, h.1.1)) (λ (h : IsBetween a b arc). (h.0, (h.1, h.2)))
       (both_or (nat_or arc.a a) (both_or (nat_or arc.b b) (meets_or arc)))
 
-  arcs_of : (a b : ℕ) → Listing (IsAcross parts (single a) (single b))
-  arcs_of a b = arcs_listing parts (single a) (single b)
-
-  listed : (a b : ℕ) (arc : Arc) → IsBetween a b arc → Contains (arcs_of a b).xs arc
-  listed a b arc h = (arcs_of a b).all arc (record {
+  listed : (a b : ℕ) (arc : Arc) → IsBetween a b arc → Contains (arcs_listing parts (single a) (single b)).xs arc
+  listed a b arc h = (arcs_listing parts (single a) (single b)).all arc (record {
     a_in = (has-single a arc.a).1 h.0;
     b_in = (has-single b arc.b).1 h.1;
     i_in = piece_within parts arc.a arc.i h.2.p h.2.p_is;
@@ -162,7 +155,7 @@ module _ (parts : List Part) (is : IsAssembly parts) (d : V3) where
   HasArcFor f x = (arc : Arc) × (f arc ≡ x) × IsLeastArc parts d arc
 
   least_between : (a b : ℕ) → HasArcFor outward (a, b) ⊎ ((arc : Arc) → IsBetween a b arc → ⊥)
-  least_between a b = elim (least_or arc_cmp arc_total arc_exact (IsBetween a b) (between_or a b) (arcs_of a b).xs) [
+  least_between a b = elim (least_or arc_cmp arc_total arc_exact (IsBetween a b) (between_or a b) (arcs_listing parts (single a) (single b)).xs) [
     | inl t ↦ inl (
       t.x,
       (λ z. (t.has.0 z, t.has.1 z)),
@@ -244,7 +237,7 @@ lists_or dec (x ∷ xs) [] = inr (λ e. cc)
 lists_or dec (x ∷ xs) (y ∷ ys) = carried (λ h z. h.0 z ∷ h.1 z) (λ e. ((let a : x ≡ y = cc in a), (let b : xs ≡ ys = cc in b))) (both_or (dec x y) (lists_or dec xs ys))
 
 witness_or : (x y : Witness) → Decided (x ≡ y)
-witness_or x y = carried (key_tells x y) (ap key_of) (lists_or nat_or (key_of x) (key_of y))
+witness_or x y = carried (λ h k. record { outs = h.0 k; ins = h.1 k }) (λ e. (ap (λ z. z.outs) e, ap (λ z. z.ins) e)) (both_or (lists_or (equal_or arc_cmp arc_total arc_exact) x.outs y.outs) (lists_or (equal_or arc_cmp arc_total arc_exact) x.ins y.ins))
 
 place_or : (xs : List Witness) (x : Witness) → ((k : ℕ) × (slice_get xs k ≡ Some x)) ⊎ ((k : ℕ) → slice_get xs k ≡ Some x → ⊥)
 place_or xs x = elim (all_or (λ y. y ≡ x → ⊥) (λ y. not_or (witness_or y x)) xs) [

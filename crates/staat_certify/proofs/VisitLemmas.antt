@@ -29,10 +29,10 @@ use Rattle.staat_model.specs.Certify.{IsDirection}
 use Rattle.staat_model.proofs.EndLemmas.{from_vertices}
 use Rattle.staat_model.proofs.Members.{All-from_members}
 use Rattle.staat_model.proofs.PlaneLemmas.{NoneParallel}
-use Rattle.staat_pairs.specs.Tables.{AreTablePlanes}
+use Rattle.staat_pairs.specs.Tables.{AreTablePlanes, Table}
 use Rattle.staat_certify.specs.declared.visits.Visit.{Visit}
-use Rattle.staat_certify.specs.Visits.{AreStillVisited, AreVisitedBelow, AreVisitedOn, IsNamed, IsVisitedDirection, SortsVisits, visited_directions}
-use Rattle.staat_certify.proofs.ListedLemmas.{kept}
+use Rattle.staat_certify.specs.declared.visits.Found.{Found}
+use Rattle.staat_certify.specs.Visits.{AreStillVisited, AreVisitedBelow, HasFound, HasGone, IsNamed, IsVisitedDirection, SortsVisits, visited_directions}
 use Rattle.staat_ring.specs.declared.entry.Entry.{Entry}
 use Rattle.staat_ring.specs.Rings.{Ring, crossing, facet_by}
 use Rattle.staat_ring.specs.WholeCircles.{IsWholeCircle, vertex_at}
@@ -100,26 +100,33 @@ module _ (planes : List V3) (version : ℕ) (visited : List Visit) (n : ℕ) (be
       f.is
       is.canonical
 
--- what has been visited is so when more has been
-module _ (planes : List V3) (version : ℕ) (old new : List Visit) (n : ℕ) (still : AreStillVisited old new) where
-  pub below_still : AreVisitedBelow planes version old n → AreVisitedBelow planes version new n
-  below_still below k j turned lt small ne canonical = still (crossing planes k (record { plane = j; turned = turned })) (below k j turned lt small ne canonical)
+-- what has been visited is so when the vertex at the next place has been, too
+pub gone_more : (parts : List Part) (t : Table) (version : ℕ) (old new : Found) (r : Ring) (k : ℕ) → AreStillVisited old.visited.items new.visited.items
+    → (AreVisitedBelow t.planes version new.visited.items r.plane → HasFound parts t version new r.plane) → IsVisitedDirection version new.visited.items (vertex_at t.planes r k)
+    → HasGone parts t version old r k → HasGone parts t version new r (k + 1)
+gone_more parts t version old new r k still found here gone = record {
+  so_far = found (λ i j turned lt small ne canonical. still (crossing t.planes i (record { plane = j; turned = turned })) (gone.so_far.below i j turned lt small ne canonical));
+  on = λ m lt. ⊎_elim {C = IsVisitedDirection version new.visited.items (vertex_at t.planes r m)}
+      (λ less canonical. still (vertex_at t.planes r m) (gone.on m less canonical))
+      (λ e. subst (λ k. IsVisitedDirection version new.visited.items (vertex_at t.planes r k)) (sym e) here)
+      (lt_one_more_cases m k lt);
+}
 
-  pub on_more : (r : Ring) → IsVisitedDirection version new (vertex_at planes r n) → AreVisitedOn planes version old r n → AreVisitedOn planes version new r (n + 1)
-  on_more r here on m lt = ⊎_elim {C = IsVisitedDirection version new (vertex_at planes r m)}
-      (λ less canonical. still (vertex_at planes r m) (on m less canonical))
-      (λ e. subst (λ k. IsVisitedDirection version new (vertex_at planes r k)) (sym e) here)
-      (lt_one_more_cases m n lt)
-
-module _ (planes : List V3) (table : AreTablePlanes planes) (r : Ring) (is : IsWholeCircle planes r) where
-  -- the circle has been gone round
-  pub below_more : (version : ℕ) (visited : List Visit) (n : ℕ) → length r.stops ≤ n → AreVisitedBelow planes version visited r.plane → AreVisitedOn planes version visited r n → AreVisitedBelow planes version visited (r.plane + 1)
-  below_more version visited n le below on k j turned lt small ne = ⊎_elim {C = IsVisitedDirection version visited (crossing planes k (record { plane = j; turned = turned }))}
-      (λ less. below k j turned less small ne)
+-- the circle has been gone round
+pub gone_round : (parts : List Part) (t : Table) → AreTablePlanes t.planes → (r : Ring) → IsWholeCircle t.planes r → (version : ℕ) (found : Found) (n : ℕ) → length r.stops ≤ n
+    → HasGone parts t version found r n → HasFound parts t version found (r.plane + 1)
+gone_round parts t table r is version found n le gone = record {
+  kept = gone.so_far.kept;
+  keys_are = gone.so_far.keys_are;
+  each = gone.so_far.each;
+  named = gone.so_far.named;
+  below = λ k j turned lt small ne. ⊎_elim {C = IsVisitedDirection version found.visited.items (crossing t.planes k (record { plane = j; turned = turned }))}
+      (λ less. gone.so_far.below k j turned less small ne)
       (λ e.
-      let (m, within, there) = crossing_there planes table r is j turned small (λ q. ne (q ∙ sym e)) in
-      subst (IsVisitedDirection version visited) (there ∙ ap (λ c. crossing planes c (record { plane = j; turned = turned })) (sym e)) (on m (omega (arith, within, le))))
-      (lt_one_more_cases k r.plane lt)
+      let (m, within, there) = crossing_there t.planes table r is j turned small (λ q. ne (q ∙ sym e)) in
+      subst (IsVisitedDirection version found.visited.items) (there ∙ ap (λ c. crossing t.planes c (record { plane = j; turned = turned })) (sym e)) (gone.on m (omega (arith, within, le))))
+      (lt_one_more_cases k r.plane lt);
+}
 
 -- ---- in the order of the directions
 

@@ -1,7 +1,6 @@
--- What a survey of the vertices of a table's planes has found: the directions that it has visited, and their
--- witnesses.
-use Rattle.std.specs.Prelude.{◌≡◌, ◌≢◌, ◌-◌, ℕ, ◌<◌, List, All, Bool, Contains, IfSome, Option}
-use Rattle.std.specs.Prelude.{Some, length, map, slice_get, true}
+-- What a survey of the vertices of a table's planes has found: the directions visited, and their witnesses.
+use Rattle.std.specs.Prelude.{◌≡◌, ◌≢◌, ◌-◌, ℕ, ◌<◌, List, All}
+use Rattle.std.specs.Prelude.{Bool, Contains, IfSome, Option, Some, length, map, slice_get}
 use Rattle.std.specs.List.Sorted.{IsStrictlySortedBy}
 use Rattle.staat_vec.specs.declared.vector.V3.{V3}
 use Rattle.staat_vec.specs.Primitives.{IsCanon}
@@ -26,9 +25,9 @@ pub record IsSurvey (parts : List Part) (t : Table) : Type 0 where
   pub made : WasMadeFrom parts t
   pub stuck : IsStuck parts t.of
 
--- the trees are those of the graph, if any graph was looked at
-pub record KeepsTrees (w : PartSet) (kept : GraphTrees) : Type 0 where
-  pub trees : kept.known ≡ true → AreTrees (HasArc kept.graph.rows) w kept.trees
+-- the trees that are kept, if any are, are those of their graph
+abbrev pub KeepsTrees : PartSet → Option GraphTrees → Type 0
+KeepsTrees w kept = IfSome kept (λ known. AreTrees (HasArc known.graph.rows) w known.trees)
 
 -- the number of the visit names the witness at its direction
 abbrev pub IsNamed : List Part → PartSet → List Witness → Visit → Type 0
@@ -37,20 +36,13 @@ IsNamed parts w witnesses visit = NamesWitness parts w witnesses (record { d = v
 abbrev pub visited_directions : List Visit → List V3
 visited_directions visited = map (λ visit. visit.d) visited
 
--- what has been found so far, with the trees that are kept and the keys of the witnesses
-pub record HasFound (parts : List Part) (t : Table) (version : ℕ) (found : Found) : Type 0 where
-  pub kept : KeepsTrees t.of found.kept
-  pub keys_are : AreKeys (map (λ v. v.items) found.keys.keys) found.witnesses.items
-  pub each : All (λ visit. IsDirection version t.planes visit.d) found.visited.items
-  pub named : All (IsNamed parts t.of found.witnesses.items) found.visited.items
-
 -- the number names the witness at d; the old list of witnesses stands at the front of the new one, whose keys these
 -- are
-pub record IsNumberHere (parts : List Part) (w : PartSet) (d : V3) (keys : List (List ℕ)) (old new : List Witness)
+pub record IsNumberHere (parts : List Part) (t : Table) (d : V3) (keys : List (List ℕ)) (old new : List Witness)
     (p : ℕ) : Type 0 where
-  pub keys_are : AreKeys keys new
+  pub keys_are : AreKeys t keys new
   pub kept : (k : ℕ) (x : Witness) → slice_get old k ≡ Some x → slice_get new k ≡ Some x
-  pub names : NamesWitness parts w new (record { d = d; witness = p })
+  pub names : NamesWitness parts t.of new (record { d = d; witness = p })
 
 -- the vertex has been visited, if it is one of the directions
 abbrev pub IsVisitedDirection : ℕ → List Visit → V3 → Type 0
@@ -78,10 +70,19 @@ abbrev pub AreVisitedBelow : List V3 → ℕ → List Visit → ℕ → Type 0
 AreVisitedBelow planes version visited n = (k j : ℕ) (turned : Bool) → k < n → j < length planes → j ≢ k
     → IsVisitedDirection version visited (crossing planes k (record { plane = j; turned = turned }))
 
--- the vertices at the places below n of the circle have been visited
-abbrev pub AreVisitedOn : List V3 → ℕ → List Visit → Ring → ℕ → Type 0
-AreVisitedOn planes version visited r n = (m : ℕ) → m < n
-    → IsVisitedDirection version visited (vertex_at planes r m)
+-- what has been found where the crossings of the planes below n with all others have been visited, with the trees that
+-- are kept and the keys of the witnesses
+pub record HasFound (parts : List Part) (t : Table) (version : ℕ) (found : Found) (n : ℕ) : Type 0 where
+  pub kept : KeepsTrees t.of found.kept
+  pub keys_are : AreKeys t (map (λ v. v.items) found.keys.keys) found.witnesses.items
+  pub each : All (λ visit. IsDirection version t.planes visit.d) found.visited.items
+  pub named : All (IsNamed parts t.of found.witnesses.items) found.visited.items
+  pub below : AreVisitedBelow t.planes version found.visited.items n
+
+-- what has been found where the circles below r and the vertices of r at the places below k have been visited
+pub record HasGone (parts : List Part) (t : Table) (version : ℕ) (found : Found) (r : Ring) (k : ℕ) : Type 0 where
+  pub so_far : HasFound parts t version found r.plane
+  pub on : (m : ℕ) → m < k → IsVisitedDirection version found.visited.items (vertex_at t.planes r m)
 
 -- the new visits are some of the old ones, of each direction one, in the order of the directions
 pub record SortsVisits (old new : List Visit) : Type 0 where

@@ -1,26 +1,27 @@
 -- The lines of a refusal that have been listed so far, and the key by which a witness is found again.
-use Rattle.std.specs.Prelude.{◌≡◌, ◌≢◌, ◌⊎◌, ◌≤◌, ◌<◌, ◌∷◌, [], ◌++◌, ℕ}
-use Rattle.std.specs.Prelude.{List, All, Option, Some}
-use Rattle.std.specs.Prelude.{flat_map, length, map, slice_get}
+use Rattle.std.specs.Prelude.{◌≡◌, ◌≢◌, ◌⊎◌, ◌≤◌, ◌<◌, ◌∷◌, [], ◌++◌}
+use Rattle.std.specs.Prelude.{ℕ, List, All, Option, Some, length, map, slice_get}
 use Rattle.staat_vec.specs.declared.vector.V3.{V3}
 use Rattle.staat_vec.specs.declared.vector.TheConstants.{DIRECTION}
 use Rattle.staat_vec.specs.Vectors.{IsWithin, origin}
 use Rattle.staat_model.specs.declared.assembly.Part.{Part}
-use Rattle.staat_model.specs.declared.certificate.Arc.{Arc}
 use Rattle.staat_model.specs.declared.certificate.Body.{Body}
 use Rattle.staat_model.specs.declared.certificate.Body.TheVariants as body
 use Rattle.staat_model.specs.declared.certificate.Dir.{Dir}
 use Rattle.staat_model.specs.declared.certificate.Witness.{Witness}
 use Rattle.staat_model.specs.declared.set.PartSet.{PartSet}
 use Rattle.staat_model.specs.Certify.{NamesWitness, NumbersByFirstUse}
+use Rattle.staat_pairs.specs.Tables.{IsTableArc, Table, slot}
 
--- the numbers of an arc, after the number of the list in which it stands
-abbrev pub key_numbers : ℕ → Arc → List ℕ
-key_numbers side arc = side ∷ arc.a ∷ arc.i ∷ arc.b ∷ arc.j ∷ []
+-- the witness has arcs of the table, as many of them in the first list as in the second
+pub record IsOfTable (t : Table) (witness : Witness) : Type 0 where
+  pub outs : All (IsTableArc t) witness.outs
+  pub ins : All (IsTableArc t) witness.ins
+  pub even : length witness.outs ≡ length witness.ins
 
--- the numbers of a witness, which no other witness has
-abbrev pub key_of : Witness → List ℕ
-key_of witness = flat_map (key_numbers 0) witness.outs ++ flat_map (key_numbers 1) witness.ins
+-- the slots of the arcs of a witness, which no other witness of the table has
+abbrev pub key_of : List ℕ → Witness → List ℕ
+key_of pieces witness = map (slot pieces) witness.outs ++ map (slot pieces) witness.ins
 
 -- not zero, and within the bound of directions
 pub record IsSizedDirection (d : V3) : Type 0 where
@@ -48,9 +49,10 @@ pub record IsNumberOf {X : Type 0} (old new : List X) (x : X) (i : ℕ) : Type 0
   pub which : ((new ≡ old) × (i < length old)) ⊎ ((new ≡ old ++ x ∷ []) × (i ≡ length old))
   pub at : slice_get new i ≡ Some x
 
--- these are the keys of the witnesses, and they are different
-pub record AreKeys (keys : List (List ℕ)) (witnesses : List Witness) : Type 0 where
-  pub are : keys ≡ map key_of witnesses
+-- these are the keys of the witnesses, which are of the table, and they are different
+pub record AreKeys (t : Table) (keys : List (List ℕ)) (witnesses : List Witness) : Type 0 where
+  pub are : keys ≡ map (key_of t.pieces) witnesses
+  pub each : All (IsOfTable t) witnesses
   pub distinct : EachStandsOnce keys
 
 -- the number, where there is one, at which a witness that was found stands among those that are listed, which have all

@@ -9,7 +9,7 @@ use Rattle.staat_model.specs.Sets.{IsLeastOf}
 use Rattle.staat_graph.specs.declared.trees.Trees.{Trees}
 use Rattle.staat_graph.specs.Blocking.{ShowsBlocking}
 use Rattle.staat_graph.specs.Graphs.{AreTrees, HasArc}
-use Rattle.staat_pairs.specs.Tables.{Table, WasMadeFrom}
+use Rattle.staat_pairs.specs.Tables.{IsTableArc, Table, WasMadeFrom}
 use Rattle.staat_planes.specs.Tables.{IsAhead}
 use Rattle.staat_ring.specs.Belonging.{BelongTo}
 use Rattle.staat_ring.specs.CountedSigns.{Signed}
@@ -37,7 +37,9 @@ pub record AreTreesAlong (parts : List Part) (t : Table) (d : V3) (trees : Trees
   pub outs : All (AreEndsAhead t d) (take trees.count trees.outs)
   pub ins : All (AreEndsAhead t d) (take trees.count trees.ins)
 
--- the arcs join these pairs of parts, each with the first pieces with which the one blocks the other
-pub record AreEndsAndLeast (parts : List Part) (d : V3) (pairs : List (ℕ × ℕ)) (arcs : List Arc) : Type 0 where
+-- the arcs, of the table, join these pairs of parts, each with the first pieces with which the one blocks the other
+pub record AreEndsAndLeast (parts : List Part) (t : Table) (d : V3) (pairs : List (ℕ × ℕ))
+    (arcs : List Arc) : Type 0 where
+  pub across : All (IsTableArc t) arcs
   pub ends : map outward arcs ≡ pairs
   pub least : All (IsLeastArc parts d) arcs

@@ -1,6 +1,5 @@
 //! Laws on certificates that are made. Each is a function that does nothing, and its contract is the law.
-ghost use Rattle.std.specs.Prelude.{◌≡◌, ◌≤◌, ℕ, All, List};
-ghost use Rattle.std.specs.Prelude.{length, map, take};
+ghost use Rattle.std.specs.Prelude.{◌≡◌, ◌≤◌, ℕ, All, List, length, map, take};
 ghost use Rattle.staat_limits.specs.Versions.{IsVersion};
 ghost use Rattle.staat_limits.specs.declared.limits.TheConstants.{TEXT_LIMIT};
 ghost use Rattle.staat_vec.specs.declared.vector.V3.{V3 as Vector};

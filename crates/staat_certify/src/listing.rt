@@ -1,23 +1,9 @@
 // The lines of a refusal: each direction with the number of its witness.
-ghost use Rattle.std.specs.Prelude.{
-  ◌≡◌,
-  ◌<◌,
-  ◌++◌,
-  ◌∷◌,
-  [],
-  All,
-  IfOk,
-  OnOk,
-  Some,
-  flat_map,
-  length,
-  map,
-  slice_get,
-};
+ghost use Rattle.std.specs.Prelude.{◌≡◌, ◌<◌, ◌++◌, ◌∷◌, [], All, IfOk, OnOk, Some, length, map, slice_get};
 ghost use Rattle.staat_model.specs.declared.certificate.Witness.{Witness as WitnessValue};
-ghost use Rattle.staat_certify.specs.WitnessListings.{EachStandsOnce, AreKeys, AreListed, AreNames};
-ghost use Rattle.staat_certify.specs.WitnessListings.{IsWitnessListing, IsNumberOf};
-ghost use Rattle.staat_certify.specs.WitnessListings.{key_of, key_numbers};
+ghost use Rattle.staat_pairs.specs.Tables.{IsTableArc, slot};
+ghost use Rattle.staat_certify.specs.WitnessListings.{EachStandsOnce, AreKeys, AreListed, AreNames, IsNumberOf};
+ghost use Rattle.staat_certify.specs.WitnessListings.{IsOfTable, IsWitnessListing, key_of};
 ghost use Rattle.staat_certify.specs.Visits.{IsNamed, visited_directions};
 
 use crate::visits::{Found, Visit};
@@ -36,41 +22,45 @@ struct Listing {
     dirs: Vec<Dir>,
 }
 
-// adds the numbers of arcs to a key
-fn push_arcs(key: &mut Vec<u32>, side: u32, arcs: &[Arc]) -> Result<(), OutOfMemory>
-    ensures { OnOk result (key.new.items ≡ key.old.items ++ flat_map (key_numbers side) arcs.now) }
+// adds the slots of arcs to a key
+fn push_slots(key: &mut Vec<u32>, table: &PlaneTable, arcs: &[Arc]) -> Result<(), OutOfMemory>
+    requires { All (IsTableArc table.now) arcs.now }
+    ensures { OnOk result (key.new.items ≡ key.old.items ++ map (slot table.now.pieces) arcs.now) }
 {
     for arc in arcs {
-        key.extend_from_slice(&[side, arc.a, arc.i, arc.b, arc.j])?;
+        key.push(table.slot(*arc))?;
     }
     Ok(())
 }
 
 // the key of a witness
-fn key_of(alloc: Global, witness: &Witness) -> Result<Vec<u32>, OutOfMemory>
-    ensures { IfOk result (λ key. key.items ≡ key_of witness.now) }
+fn key_of(alloc: Global, table: &PlaneTable, witness: &Witness) -> Result<Vec<u32>, OutOfMemory>
+    requires { IsOfTable table.now witness.now }
+    ensures { IfOk result (λ key. key.items ≡ key_of table.now.pieces witness.now) }
 {
     let (outs, ins) = (witness.outs.as_slice(), witness.ins.as_slice());
-    // five numbers for each arc
-    let room = outs.len().saturating_add(ins.len()).saturating_mul(5);
-    let mut key = Vec::with_capacity(alloc, room)?;
-    push_arcs(&mut key, 0, outs)?;
-    push_arcs(&mut key, 1, ins)?;
+    let mut key = Vec::with_capacity(alloc, outs.len().saturating_add(ins.len()))?;
+    push_slots(&mut key, table, outs)?;
+    push_slots(&mut key, table, ins)?;
     Ok(key)
 }
 
 /// The number of a witness, which is put at the end of the list if it is a new one.
 pub fn number_witness(
     alloc: Global,
+    table: &PlaneTable,
     keys: &mut IndexSet<Vec<u32>>,
     witnesses: &mut Vec<Witness>,
     witness: Witness,
 ) -> Result<usize, OutOfMemory>
-    requires { AreKeys (map (λ v. v.items) keys.old.keys) witnesses.old.items }
-    ensures keys { OnOk result (AreKeys (map (λ v. v.items) keys.new.keys) witnesses.new.items) }
+    requires arcs { IsOfTable table.now witness }
+    requires keys { AreKeys table.now (map (λ v. v.items) keys.old.keys) witnesses.old.items }
+    ensures keys { OnOk result (AreKeys table.now (map (λ v. v.items) keys.new.keys) witnesses.new.items) }
     ensures number { IfOk result (IsNumberOf witnesses.old.items witnesses.new.items witness) }
 {
-    let key = key_of(alloc, &witness)?;
+    // the slot of an arc of the table is that of no other
+    let _set = table.set();
+    let key = key_of(alloc, table, &witness)?;
     let (number, _) = keys.insert_full(key)?;
     if number == witnesses.len() {
         witnesses.push(witness)?;

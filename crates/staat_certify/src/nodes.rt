@@ -5,8 +5,7 @@ ghost use Rattle.staat_model.specs.Certify.{IsBodyOf};
 ghost use Rattle.staat_model.specs.Outcomes.{planned};
 ghost use Rattle.staat_model.specs.Plans.{IsGood, parts_of, plan_of};
 ghost use Rattle.staat_model.specs.Sets.{below};
-ghost use Rattle.staat_certify.specs.Plans.{AreWithin};
-ghost use Rattle.staat_certify.specs.Plans.{AddsNodes, HasPartNumbers};
+ghost use Rattle.staat_certify.specs.Plans.{AddsNodes, AreWithin, HasPartNumbers};
 
 use crate::walls::Parting;
 use staat_cone::FacetSource;

@@ -45,6 +45,7 @@ impl<'a> Vantage<'a> {
     pub(crate) fn least_arc(&self, ends: (u32, u32)) -> Arc
         requires at { StandsAmong self.now.sound.now self.now.table.now self.now.signs.now self.now.d }
         requires ahead { AreEndsAhead self.now.table.now self.now.d ends }
+        ensures across { IsTableArc self.now.table.now result }
         ensures ends { outward result ≡ ends }
         ensures least { IsLeastArc self.now.sound.now self.now.d result }
     {

@@ -1,40 +1,22 @@
 // The witness at each vertex of a table's planes, found on one circle after another.
-ghost use Rattle.std.specs.Prelude.{
-  ◌≡◌,
-  ◌≢◌,
-  ◌<◌,
-  ◌+◌,
-  ◌-◌,
-  ◌↔◌,
-  All,
-  Contains,
-  IfOk,
-  IfSome,
-  IsTrue,
-  OnOk,
-  Some,
-  false,
-  length,
-  map,
-};
+ghost use Rattle.std.specs.Prelude.{◌≡◌, ◌≢◌, ◌<◌, ◌+◌, ◌-◌, ◌↔◌, All, IfOk, IfSome, IsTrue, OnOk, Some};
+ghost use Rattle.std.specs.Prelude.{false, length, map};
 ghost use Rattle.staat_vec.specs.Lists.{Lists};
 ghost use Rattle.staat_vec.specs.Primitives.{IsCanon};
 ghost use Rattle.staat_vec.specs.Vectors.{origin, vector_cmp};
-ghost use Rattle.staat_model.specs.Certify.{IsDirection, NamesWitness};
+ghost use Rattle.staat_model.specs.Certify.{IsDirection};
 ghost use Rattle.staat_model.specs.Plans.{IsStuck};
 ghost use Rattle.staat_pairs.specs.Tables.{WasMadeFrom};
 ghost use Rattle.staat_ring.specs.Belonging.{BelongTo};
 ghost use Rattle.staat_ring.specs.WholeCircles.{AreSignsAt, HaveSameFull, IsWholeCircle, vertex_at};
 ghost use Rattle.staat_certify.specs.WitnessListings.{EachStandsOnce, AreKeys};
-ghost use Rattle.staat_certify.specs.Visits.{AreStillVisited, AreVisitedBelow, HasFound, IsNamed, IsNumberHere};
-ghost use Rattle.staat_certify.specs.Visits.{IsSurvey};
-ghost use Rattle.staat_certify.specs.Witnesses.{AreTreesAlong, StandsAmong};
-ghost use Rattle.staat_certify.specs.Visits.{NamesIfTold, IsVisitedDirection, IsVisitedTo, KeepsTrees, SortsVisits};
-ghost use Rattle.staat_certify.specs.Visits.{visited_directions};
+ghost use Rattle.staat_certify.specs.Visits.{HasFound, HasGone, IsNamed, IsNumberHere, IsSurvey, IsVisitedTo};
+ghost use Rattle.staat_certify.specs.Visits.{KeepsTrees, NamesIfTold, SortsVisits, visited_directions};
+ghost use Rattle.staat_certify.specs.Witnesses.{StandsAmong};
 
 use crate::listing::number_witness;
 use crate::vantage::Vantage;
-use crate::witnesses::{GraphTrees, is_witness, renew_trees, witness_here};
+use crate::witnesses::{GraphTrees, renew_trees, witness_here};
 use indexmap::IndexSet;
 use staat_model::{Sound, Witness};
 use staat_planes::PlaneTable;
@@ -55,22 +37,7 @@ pub struct Found {
     pub keys: IndexSet<Vec<u32>>,
     pub witnesses: Vec<Witness>,
     pub visited: Vec<Visit>,
-    pub kept: GraphTrees,
-    // the number of the witness that was numbered last
-    pub latest: usize,
-}
-
-// whether the witness at the vertex is the one that was numbered last
-fn is_latest(at: &Vantage, found: &Found) -> bool
-    requires at { StandsAmong at.now.sound.now at.now.table.now at.now.signs.now at.now.d }
-    requires along { AreTreesAlong at.now.sound.now at.now.table.now at.now.d found.now.kept.trees }
-    ensures { IsTrue result → NamesWitness at.now.sound.now at.now.table.now.of found.now.witnesses.items
-        (record { d = at.now.d; witness = found.now.latest }) }
-{
-    if found.latest >= found.witnesses.len() {
-        return false;
-    }
-    is_witness(at, &found.kept.trees, &found.witnesses[found.latest])
+    pub kept: Option<GraphTrees>,
 }
 
 // the number of the witness at the vertex, which is looked for where it is not told, and put at the end of the list if
@@ -85,9 +52,9 @@ fn number_here(
     requires stuck { IsStuck at.now.sound.now at.now.table.now.of }
     requires some { at.now.d ≢ origin }
     requires kept { KeepsTrees at.now.table.now.of found.old.kept }
-    requires keys { AreKeys (map (λ v. v.items) found.old.keys.keys) found.old.witnesses.items }
+    requires keys { AreKeys at.now.table.now (map (λ v. v.items) found.old.keys.keys) found.old.witnesses.items }
     requires told { NamesIfTold at.now.sound.now at.now.table.now.of found.old.witnesses.items at.now.d told }
-    ensures number { IfOk result (IsNumberHere at.now.sound.now at.now.table.now.of at.now.d
+    ensures number { IfOk result (IsNumberHere at.now.sound.now at.now.table.now at.now.d
         (map (λ v. v.items) found.new.keys.keys) found.old.witnesses.items found.new.witnesses.items) }
     ensures kept { OnOk result (KeepsTrees at.now.table.now.of found.new.kept) }
     ensures visited { found.new.visited.items ≡ found.old.visited.items }
@@ -95,13 +62,9 @@ fn number_here(
     if let Some(number) = told {
         return Ok(number);
     }
-    renew_trees(&mut found.kept, at);
-    if is_latest(at, found) {
-        return Ok(found.latest);
-    }
-    let witness = witness_here(alloc, at, &found.kept.trees)?;
-    let number = number_witness(alloc, &mut found.keys, &mut found.witnesses, witness)?;
-    found.latest = number;
+    let trees = renew_trees(&mut found.kept, at);
+    let here = witness_here(alloc, at, &trees)?;
+    let number = number_witness(alloc, at.table, &mut found.keys, &mut found.witnesses, here)?;
     Ok(number)
 }
 
@@ -130,51 +93,6 @@ impl<'a> Survey<'a> {
         self.version != 2 || vertex.is_canon()
     }
 
-    // Keeps the vertex k of a circle with its witness, unless it has been visited on the circle of a lesser plane. The
-    // number that is told is that of its witness, if any is, and so is the answer.
-    fn visit(
-        &self,
-        circle: &Circle,
-        k: usize,
-        signs: &CountedSigns,
-        told: Option<usize>,
-        found: &mut Found,
-    ) -> Result<Option<usize>, OutOfMemory>
-        requires survey { IsSurvey self.now.sound.now self.now.table.now }
-        requires made { BelongTo self.now.table.now signs.now }
-        requires circle { IsWholeCircle self.now.table.now.planes circle.now }
-        requires place { k < length circle.now.stops }
-        requires listed { self.now.version ≡ 2 → IsCanon (vertex_at self.now.table.now.planes circle.now k) }
-        requires signs { AreSignsAt self.now.table.now.planes signs.now
-            (vertex_at self.now.table.now.planes circle.now k) }
-        requires told { NamesIfTold self.now.sound.now self.now.table.now.of found.old.witnesses.items
-            (vertex_at self.now.table.now.planes circle.now k) told }
-        requires found { HasFound self.now.sound.now self.now.table.now self.now.version found.old }
-        requires below { AreVisitedBelow self.now.table.now.planes self.now.version found.old.visited.items
-            circle.now.plane }
-        ensures found { OnOk result (HasFound self.now.sound.now self.now.table.now self.now.version found.new) }
-        ensures told { IfOk result (NamesIfTold self.now.sound.now self.now.table.now.of found.new.witnesses.items
-            (vertex_at self.now.table.now.planes circle.now k)) }
-        ensures here { OnOk result (IsVisitedDirection self.now.version found.new.visited.items
-            (vertex_at self.now.table.now.planes circle.now k)) }
-        ensures kept { OnOk result (AreStillVisited found.old.visited.items found.new.visited.items) }
-    {
-        let _set = self.table.set();
-        if circle.first_entry(self.table, k).plane < circle.plane() {
-            return Ok(told);
-        }
-        let vertex = circle.vertex(self.table, k);
-        let at = Vantage {
-            sound: self.sound,
-            table: self.table,
-            signs,
-            d: vertex.direction(),
-        };
-        let number = number_here(self.alloc, &at, told, found)?;
-        found.visited.push(Visit { d: at.d, number })?;
-        Ok(Some(number))
-    }
-
     // Gives the planes their signs at the vertex k of a circle, coming from the one before it if `near` says so. Tells
     // whether other pieces may meet than there.
     fn reach(&self, circle: &Circle, k: usize, near: bool, signs: &mut CountedSigns) -> bool
@@ -195,9 +113,10 @@ impl<'a> Survey<'a> {
         true
     }
 
-    // Goes to the vertex k of a circle, from the one before it if `near` says so, and visits it. The number that is
-    // told is that of the witness at the one before, and the answer that of the one here.
-    fn go_to(
+    // Visits the vertex k of a circle, coming from the one before it if `near` says so. The number that is told is that
+    // of the witness at the one before, if any is, and so is the answer of the one here. A vertex that has been visited
+    // on the circle of a lesser plane is not kept again.
+    fn visit(
         &self,
         circle: &Circle,
         k: usize,
@@ -213,20 +132,29 @@ impl<'a> Survey<'a> {
         requires listed { self.now.version ≡ 2 → IsCanon (vertex_at self.now.table.now.planes circle.now k) }
         requires near { IsTrue near → IsVisitedTo self.now.sound.now self.now.table.now circle.now signs.old
             found.old.witnesses.items told k }
-        requires found { HasFound self.now.sound.now self.now.table.now self.now.version found.old }
-        requires below { AreVisitedBelow self.now.table.now.planes self.now.version found.old.visited.items
-            circle.now.plane }
+        requires gone { HasGone self.now.sound.now self.now.table.now self.now.version found.old circle.now k }
         ensures made { BelongTo self.now.table.now signs.new }
         ensures to { IfOk result (λ number. IsVisitedTo self.now.sound.now self.now.table.now circle.now signs.new
             found.new.witnesses.items number (k + 1)) }
-        ensures found { OnOk result (HasFound self.now.sound.now self.now.table.now self.now.version found.new) }
-        ensures here { OnOk result (IsVisitedDirection self.now.version found.new.visited.items
-            (vertex_at self.now.table.now.planes circle.now k)) }
-        ensures kept { OnOk result (AreStillVisited found.old.visited.items found.new.visited.items) }
+        ensures gone { OnOk result (HasGone self.now.sound.now self.now.table.now self.now.version found.new
+            circle.now (k + 1)) }
     {
         let _set = self.table.set();
         let changes = self.reach(circle, k, near, signs);
-        self.visit(circle, k, signs, still_told(changes, told), found)
+        let known = still_told(changes, told);
+        if circle.first_entry(self.table, k).plane < circle.plane() {
+            return Ok(known);
+        }
+        let vertex = circle.vertex(self.table, k);
+        let at = Vantage {
+            sound: self.sound,
+            table: self.table,
+            signs,
+            d: vertex.direction(),
+        };
+        let number = number_here(self.alloc, &at, known, found)?;
+        found.visited.push(Visit { d: at.d, number })?;
+        Ok(Some(number))
     }
 
     // visits the vertices of a circle that are directions of the version
@@ -239,13 +167,10 @@ impl<'a> Survey<'a> {
         requires survey { IsSurvey self.now.sound.now self.now.table.now }
         requires made { BelongTo self.now.table.now signs.old }
         requires circle { IsWholeCircle self.now.table.now.planes circle.now }
-        requires found { HasFound self.now.sound.now self.now.table.now self.now.version found.old }
-        requires below { AreVisitedBelow self.now.table.now.planes self.now.version found.old.visited.items
-            circle.now.plane }
+        requires found { HasFound self.now.sound.now self.now.table.now self.now.version found.old circle.now.plane }
         ensures made { OnOk result (BelongTo self.now.table.now signs.new) }
-        ensures found { OnOk result (HasFound self.now.sound.now self.now.table.now self.now.version found.new) }
-        ensures below { OnOk result (AreVisitedBelow self.now.table.now.planes self.now.version
-            found.new.visited.items (circle.now.plane + 1)) }
+        ensures found { OnOk result (HasFound self.now.sound.now self.now.table.now self.now.version found.new
+            (circle.now.plane + 1)) }
     {
         let _set = self.table.set();
         let mut near = false;
@@ -253,7 +178,7 @@ impl<'a> Survey<'a> {
         for k in 0..circle.len() {
             let listed = self.lists(&circle.vertex(self.table, k));
             if listed {
-                told = self.go_to(circle, k, near, signs, told, found)?;
+                told = self.visit(circle, k, near, signs, told, found)?;
             }
             near = listed;
         }
@@ -264,11 +189,9 @@ impl<'a> Survey<'a> {
     fn go_round_all(&self, signs: &mut CountedSigns, found: &mut Found) -> Result<(), OutOfMemory>
         requires survey { IsSurvey self.now.sound.now self.now.table.now }
         requires made { BelongTo self.now.table.now signs.old }
-        requires found { HasFound self.now.sound.now self.now.table.now self.now.version found.old }
-        requires below { AreVisitedBelow self.now.table.now.planes self.now.version found.old.visited.items 0 }
-        ensures found { OnOk result (HasFound self.now.sound.now self.now.table.now self.now.version found.new) }
-        ensures below { OnOk result (AreVisitedBelow self.now.table.now.planes self.now.version
-            found.new.visited.items (length self.now.table.now.planes)) }
+        requires found { HasFound self.now.sound.now self.now.table.now self.now.version found.old 0 }
+        ensures found { OnOk result (HasFound self.now.sound.now self.now.table.now self.now.version found.new
+            (length self.now.table.now.planes)) }
     {
         for c in 0..self.table.len() {
             let circle = Circle::of(self.alloc, self.table, c)?;
@@ -316,8 +239,7 @@ pub fn visit_all(
         keys: IndexSet::new(alloc),
         witnesses: Vec::new(alloc),
         visited: Vec::new(alloc),
-        kept: GraphTrees::none(),
-        latest: 0,
+        kept: None,
     };
     survey.go_round_all(&mut signs, &mut found)?;
     sort_visits(&mut found.visited);

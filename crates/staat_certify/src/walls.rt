@@ -11,7 +11,7 @@ ghost use Rattle.staat_certify.specs.Walls.{AddsSplit, HasPieces, IsAway};
 
 use staat_cone::FacetSource;
 use staat_model::{Arc, Assembly, Node, PartSet, Sep, Seps};
-use staat_vec::{DIRECTION, NORMAL, OutOfMemory, V3, dot};
+use staat_vec::{DIRECTION, NORMAL, OutOfMemory, Sign, V3, sign_dot};
 use std::alloc::Global;
 
 fn is_away(n: V3, d: V3) -> bool
@@ -20,7 +20,10 @@ fn is_away(n: V3, d: V3) -> bool
     ensures yes { IsTrue result → IsAway d n }
     ensures no { result ≡ false → pos 0 <ℤ dot n d }
 {
-    dot(n, d) <= 0
+    match sign_dot(n, d) {
+        Sign::Pos => false,
+        _ => true,
+    }
 }
 
 // the first of the facets that d does not lead ahead of

@@ -1,66 +1,47 @@
 // The witness that no side of a set is free of its rest along a vertex.
-ghost use Rattle.std.specs.Prelude.{◌≡◌, ◌≢◌, All, IfOk, IsTrue, false};
+ghost use Rattle.std.specs.Prelude.{◌≢◌, All, IfOk};
 ghost use Rattle.staat_vec.specs.Vectors.{origin};
 ghost use Rattle.staat_model.specs.Certify.{IsWitnessAt};
 ghost use Rattle.staat_model.specs.Plans.{IsStuck};
 ghost use Rattle.staat_certify.specs.Witnesses.{AreEndsAhead, AreEndsAndLeast, AreTreesAlong, StandsAmong};
 ghost use Rattle.staat_certify.specs.Visits.{KeepsTrees};
+ghost use Rattle.staat_certify.specs.WitnessListings.{IsOfTable};
 
 use crate::vantage::Vantage;
 use staat_graph::{Graph, Trees, trees_of};
-use staat_limits::MOST_PARTS;
 use staat_model::{Arc, Arcs, Witness};
 use staat_vec::OutOfMemory;
 use std::alloc::Global;
 
-/// The trees of the graph that was looked at last, if any was.
+/// The graph that was looked at last, and its trees.
 #[derive(Clone, Copy)]
 pub struct GraphTrees {
-    pub known: bool,
     pub graph: Graph,
     pub trees: Trees,
 }
 
-impl GraphTrees {
-    /// No graph was looked at.
-    pub fn none() -> GraphTrees
-        ensures { result.known ≡ false }
-    {
-        GraphTrees {
-            known: false,
-            graph: Graph { rows: [0; 32] },
-            trees: Trees {
-                count: 0,
-                outs: [(0, 0); 32],
-                ins: [(0, 0); 32],
-            },
-        }
-    }
-}
-
-/// Makes the trees those of the graph at the vertex, anew only where that is another graph.
-pub(crate) fn renew_trees(kept: &mut GraphTrees, at: &Vantage)
+/// The trees of the graph at the vertex, found anew only where that is not the graph that is kept.
+pub(crate) fn renew_trees(kept: &mut Option<GraphTrees>, at: &Vantage) -> Trees
     requires at { StandsAmong at.now.sound.now at.now.table.now at.now.signs.now at.now.d }
     requires stuck { IsStuck at.now.sound.now at.now.table.now.of }
     requires some { at.now.d ≢ origin }
     requires kept { KeepsTrees at.now.table.now.of kept.old }
     ensures kept { KeepsTrees at.now.table.now.of kept.new }
-    ensures along { AreTreesAlong at.now.sound.now at.now.table.now at.now.d kept.new.trees }
+    ensures along { AreTreesAlong at.now.sound.now at.now.table.now at.now.d result }
 {
     let w = at.table.set();
     let _root = w.least();
     let graph = at.graph();
-    if kept.known && kept.graph == graph {
-        return;
+    if let Some(known) = *kept {
+        if known.graph == graph {
+            return known.trees;
+        }
     }
     // the graph is strong because the set is stuck
     match trees_of(&graph, w) {
         Some(trees) => {
-            *kept = GraphTrees {
-                known: true,
-                graph,
-                trees,
-            };
+            *kept = Some(GraphTrees { graph, trees });
+            trees
         }
         None => unreachable!(),
     }
@@ -70,42 +51,13 @@ pub(crate) fn renew_trees(kept: &mut GraphTrees, at: &Vantage)
 fn arcs_between(alloc: Global, at: &Vantage, pairs: &[(u32, u32)]) -> Result<Vec<Arc>, OutOfMemory>
     requires at { StandsAmong at.now.sound.now at.now.table.now at.now.signs.now at.now.d }
     requires ahead { All (AreEndsAhead at.now.table.now at.now.d) pairs.now }
-    ensures { IfOk result (λ arcs. AreEndsAndLeast at.now.sound.now at.now.d pairs.now arcs.items) }
+    ensures { IfOk result (λ arcs. AreEndsAndLeast at.now.sound.now at.now.table.now at.now.d pairs.now arcs.items) }
 {
     let mut arcs = Vec::with_capacity(alloc, pairs.len())?;
     for ends in pairs {
         arcs.push(at.least_arc(*ends))?;
     }
     Ok(arcs)
-}
-
-// whether the arcs are those of these pairs of parts
-fn are_between(at: &Vantage, pairs: &[(u32, u32)], arcs: &[Arc]) -> bool
-    requires at { StandsAmong at.now.sound.now at.now.table.now at.now.signs.now at.now.d }
-    requires ahead { All (AreEndsAhead at.now.table.now at.now.d) pairs.now }
-    ensures { IsTrue result → AreEndsAndLeast at.now.sound.now at.now.d pairs.now arcs.now }
-{
-    if arcs.len() != pairs.len() {
-        return false;
-    }
-    for k in 0..pairs.len() {
-        let arc = at.least_arc(pairs[k]);
-        if arc != arcs[k] {
-            return false;
-        }
-    }
-    true
-}
-
-/// Whether the witness is the one at the vertex, which has these trees.
-pub(crate) fn is_witness(at: &Vantage, trees: &Trees, witness: &Witness) -> bool
-    requires at { StandsAmong at.now.sound.now at.now.table.now at.now.signs.now at.now.d }
-    requires along { AreTreesAlong at.now.sound.now at.now.table.now at.now.d trees.now }
-    ensures { IsTrue result → IsWitnessAt at.now.sound.now at.now.table.now.of at.now.d witness.now }
-{
-    let count = trees.count as usize;
-    are_between(at, &trees.outs[..count], witness.outs.as_slice())
-        && are_between(at, &trees.ins[..count], witness.ins.as_slice())
 }
 
 /// The witness that along the vertex, which has these trees, no side of the table's set is free of its rest.
@@ -116,7 +68,8 @@ pub(crate) fn witness_here(
 ) -> Result<Witness, OutOfMemory>
     requires at { StandsAmong at.now.sound.now at.now.table.now at.now.signs.now at.now.d }
     requires along { AreTreesAlong at.now.sound.now at.now.table.now at.now.d trees.now }
-    ensures { IfOk result (IsWitnessAt at.now.sound.now at.now.table.now.of at.now.d) }
+    ensures witness { IfOk result (IsWitnessAt at.now.sound.now at.now.table.now.of at.now.d) }
+    ensures arcs { IfOk result (IsOfTable at.now.table.now) }
 {
     let count = trees.count as usize;
     let outs = arcs_between(alloc, at, &trees.outs[..count])?;

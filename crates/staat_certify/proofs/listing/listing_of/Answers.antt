@@ -1,4 +1,4 @@
-use Rattle.std.proofs.Common.{◌≡◌, ◌<◌, ◌∙◌, All, List, ap, arith, length, get_or, map, refl, replicate, subst, sym, ℕ, zero, suc}
+use Rattle.std.proofs.Common.{◌≡◌, ◌<◌, ◌∙◌, List, ap, arith, length, get_or, map, refl, replicate, subst, sym, ℕ, zero, suc}
 use Rattle.std.specs.Prelude.{None, Option, Some, slice_get}
 use Rattle.std.proofs.lemmas.List.{length-replicate, take_all}
 use Rattle.std.proofs.lemmas.Option.{slice_get-get_or}
@@ -7,7 +7,7 @@ use Rattle.staat_certify.specs.declared.visits.Visit.{Visit}
 use Rattle.staat_vec.proofs.Options.{from_some}
 use Rattle.staat_model.specs.declared.certificate.Witness.{Witness}
 use Rattle.staat_model.proofs.Places.{place_within}
-use Rattle.staat_certify.specs.Visits.{IsNamed, visited_directions}
+use Rattle.staat_certify.specs.Visits.{visited_directions}
 use Rattle.staat_certify.specs.WitnessListings.{EachStandsOnce, AreListed, AreNames}
 use Rattle.staat_certify.proofs.ListedLemmas.{few_lines, lines_more, no_lines}
 use Rattle.staat_certify.proofs.listing.listing_of.Goals as goal
@@ -33,12 +33,6 @@ loop-visit-init c =
         all = λ i lt. absurd (let none = ap length c.new.ensures.items in omega (arith, lt, none));
       };
     }
-
-pub push_dir-requires-clause-named : goal.push_dir-requires-clause-named
-push_dir-requires-clause-named c =
-    let named = IsNamed c.args.sound.now c.args.table.now.of in
-    let all = subst (λ ws. All (named ws) c.args.found.now.visited.items) (sym c.as_slice-witnesses.ensures.value) c.requires.named in
-    subst (λ (vs : List Visit). All (named c.as_slice-witnesses.result.now) vs) (sym c.deref-visit-items.ensures.value) all c.loop-visit.visit-index _ c.loop-visit-test.true
 
 pub push_dir-requires-clause-room : goal.push_dir-requires-clause-room
 push_dir-requires-clause-room c =

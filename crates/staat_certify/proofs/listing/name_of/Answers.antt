@@ -45,8 +45,7 @@ returns-clause-names c =
     let found = c.args.found.now in
     let names = c.args.listing.now.names.items in
     let x : Witness = c.in_ok-copy_of.field-0 in
-    let r = c.index-found-p.result in
-    let at : slice_get found c.args.p ≡ Some x = slice_get-get_or found c.args.p r c.requires.place ∙ ap Some (sym (c.in_ok-copy_of.ensures ∙ c.index-found-p.is)) in
+    let at : slice_get found c.args.p ≡ Some x = slice_get-get_or found c.args.p c.index-found-p.result c.requires.place ∙ ap Some (sym (c.in_ok-copy_of.ensures ∙ c.index-found-p.is)) in
     let there : slice_get names c.args.p ≡ Some c.index.result.now = place_is names c.args.p c.index.result.now (let same = c.requires.names.size in let lt = c.requires.place in omega (arith, same, lt)) c.index.ensures in
     names_more found c.args.listing.now.witnesses.items c.push.new.self.items names c.args.p c.len-number.result x c.requires.names at
     (λ n named. c.in_default.not-Some n (from_some (sym there ∙ named))) c.in_ok-push.ensures.items (omega (arith, c.len-number.ensures))
@@ -56,8 +55,7 @@ returns-clause-number c witness named =
     let found = c.args.found.now in
     let listed = c.args.listing.now.witnesses.items in
     let x : Witness = c.in_ok-copy_of.field-0 in
-    let r = c.index-found-p.result in
-    let at : slice_get found c.args.p ≡ Some x = slice_get-get_or found c.args.p r c.requires.place ∙ ap Some (sym (c.in_ok-copy_of.ensures ∙ c.index-found-p.is)) in
+    let at : slice_get found c.args.p ≡ Some x = slice_get-get_or found c.args.p c.index-found-p.result c.requires.place ∙ ap Some (sym (c.in_ok-copy_of.ensures ∙ c.index-found-p.is)) in
     let last : c.len-number.result ≡ length listed = omega (arith, c.len-number.ensures) in
     subst (λ y. IsNumberOf listed c.push.new.self.items y c.len-number.result) (from_some (sym at ∙ named)) (record {
       which = inr (c.in_ok-push.ensures.items, last);

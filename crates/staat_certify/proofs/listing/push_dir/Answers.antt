@@ -1,10 +1,6 @@
 use Rattle.staat_certify.proofs.listing.push_dir.Goals as goal
 use Rattle.std.proofs.Common.{◌∙◌, ◌++◌, ◌∷◌, [], ap, arith, refl}
-use Rattle.std.proofs.lemmas.Option.{slice_get_within}
 use Rattle.staat_certify.proofs.ListedLemmas.{line_pushed, listed_more, number_small}
-
-pub name_of-requires-clause-place : goal.name_of-requires-clause-place
-name_of-requires-clause-place c = slice_get_within c.args.found.now c.args.visit.number c.requires.named.witness c.requires.named.witness_is
 
 pub overflow_cast-number : goal.overflow_cast-number
 overflow_cast-number c =

@@ -1,9 +1,9 @@
 use Rattle.staat_certify.proofs.nodes.plan_body.Goals as goal
-use Rattle.std.proofs.Common.{length, subst}
+use Rattle.std.proofs.Common.{◌++◌, ◌∙◌, ap, length, subst, sym}
+use Rattle.staat_model.specs.Certify.{ArePlanNodes}
 use Rattle.staat_model.specs.declared.set.PartSet.{PartSet}
 use Rattle.staat_model.specs.Plans.{IsGood, plan_of}
 use Rattle.staat_model.specs.Sets.{below}
-use Rattle.staat_certify.proofs.NodeLemmas.{from_nothing}
 use Rattle.staat_certify.proofs.CertificateLemmas.{part_numbers}
 use Rattle.staat_model.proofs.LeavingLemmas.{good_parts}
 
@@ -18,5 +18,5 @@ push_nodes-requires-clause-good g c =
 
 pub returns : goal.returns
 returns g c version marks =
-    from_nothing c.args.assembly.now (plan_of c.args.tree.now) _ _ _ c.new-nodes.ensures.items
-    c.in_ok-push_nodes.ensures c.from_vec.ensures
+    let adds = c.in_ok-push_nodes.ensures in
+    subst (ArePlanNodes c.args.assembly.now (plan_of c.args.tree.now)) (sym (c.from_vec.ensures ∙ adds.is ∙ ap (λ l. l ++ adds.nodes) c.new-nodes.ensures.items)) adds.are

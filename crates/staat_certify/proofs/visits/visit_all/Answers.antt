@@ -1,25 +1,25 @@
-use Rattle.std.proofs.Common.{◌∙◌, All, ap, arith, length, map, subst, sym}
-use Rattle.std.proofs.lemmas.Bool.{false≢true}
+use Rattle.std.proofs.Common.{All, ap, arith, length, map, subst, sym}
 use Rattle.std.proofs.lemmas.List.Elements.{All-nil}
 use Rattle.staat_model.specs.Certify.{IsDirection}
 use Rattle.staat_model.proofs.PlaneLemmas.{planes_apart}
 use Rattle.staat_certify.specs.Visits.{IsNamed}
-use Rattle.staat_certify.proofs.Numbering.{apart_by_keys, no_keys}
+use Rattle.staat_certify.proofs.ListedLemmas.{apart_by_keys, no_keys}
 use Rattle.staat_certify.proofs.VisitLemmas.{all_sorted, all_visited, lists_all}
 use Rattle.staat_certify.proofs.visits.visit_all.Goals as goal
 
 pub go_round_all-requires-clause-found : goal.go_round_all-requires-clause-found
 go_round_all-requires-clause-found c = record {
-  kept = record { trees = λ known. absurd (false≢true (sym c.none.ensures ∙ known)) };
-  keys_are = no_keys (map (λ v. v.items) c.new.result.keys) c.new-2.result.items (ap (map (λ v. v.items)) c.new.ensures.empty) c.new-2.ensures.items;
+  kept = tt;
+  keys_are = no_keys c.args.table.now (map (λ v. v.items) c.new.result.keys) c.new-2.result.items (ap (map (λ v. v.items)) c.new.ensures.empty) c.new-2.ensures.items;
   each = subst (All (λ visit. IsDirection c.args.version c.args.table.now.planes visit.d)) (sym c.new-3.ensures.items) (All-nil (λ visit. IsDirection c.args.version c.args.table.now.planes visit.d));
   named = subst (All (IsNamed c.args.sound.now c.args.table.now.of c.new-2.result.items)) (sym c.new-3.ensures.items) (All-nil (IsNamed c.args.sound.now c.args.table.now.of c.new-2.result.items));
+  below = λ k j turned lt. absurd (omega arith);
 }
 
 pub returns-clause-apart : goal.returns-clause-apart
 returns-clause-apart c =
     let found = c.go_round_all.new.found in
-    apart_by_keys (map (λ v. v.items) found.keys.keys) found.witnesses.items c.in_ok-go_round_all.ensures.found.keys_are
+    apart_by_keys c.args.table.now (map (λ v. v.items) found.keys.keys) found.witnesses.items c.in_ok-go_round_all.ensures.found.keys_are
 
 pub returns-clause-named : goal.returns-clause-named
 returns-clause-named c =
@@ -31,4 +31,4 @@ returns-clause-directions c =
     let planes = c.args.table.now.planes in
     let visited = c.go_round_all.new.found.visited.items in
     lists_all c.args.version planes visited c.sort_visits.new.visited.items c.sort_visits.ensures c.in_ok-go_round_all.ensures.found.each
-    (all_visited planes c.args.version visited (length planes) c.in_ok-go_round_all.ensures.below (omega arith) (planes_apart c.args.sound.now c.args.table.now.of planes c.requires.made.planes))
+    (all_visited planes c.args.version visited (length planes) c.in_ok-go_round_all.ensures.found.below (omega arith) (planes_apart c.args.sound.now c.args.table.now.of planes c.requires.made.planes))

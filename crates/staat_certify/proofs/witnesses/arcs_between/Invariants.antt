@@ -3,4 +3,4 @@ use Rattle.staat_certify.specs.Witnesses.{AreEndsAndLeast}
 use Rattle.staat_certify.proofs.witnesses.arcs_between.Given as goal
 
 abbrev pub invariant-loop-ends : goal.invariant-loop-ends
-invariant-loop-ends l = AreEndsAndLeast l.at.sound.now l.at.d (take l.ends-index l.pairs) l.arcs.items
+invariant-loop-ends l = AreEndsAndLeast l.at.sound.now l.at.table.now l.at.d (take l.ends-index l.pairs) l.arcs.items

@@ -1,3 +1,4 @@
+use Rattle.staat_certify.specs.Visits.{KeepsTrees}
 use Rattle.staat_certify.proofs.witnesses.renew_trees.Goals as goal
 use Rattle.std.proofs.Common.{List, ℕ, subst, sym}
 use Rattle.staat_model.specs.declared.set.PartSet.{PartSet}
@@ -12,9 +13,10 @@ returns-then-eq-clause-along c =
     let parts = c.args.at.now.sound.now in
     let t = c.args.at.now.table.now in
     let d = c.args.at.now.d in
-    let same = (bytes_eq-Decides c.args.kept.now.graph.rows c.graph-graph.result.rows).0 (sym c.if-eq.ensures) in
-    trees_along parts t d c.args.kept.now.trees c.least-root.result c.args.kept.now.graph.rows c.requires.at.from c.set-w.ensures.rules (subst (λ (s : PartSet). IsLeastOf s c.least-root.result) c.set-w.ensures.is c.least-root.ensures.least)
-    (subst (λ (rows : List ℕ). ShowsBlocking parts d t.of rows) (sym same) c.graph-graph.ensures) (c.requires.kept.trees c.if-kept.true)
+    let known = c.in-Some.known in
+    let same = (bytes_eq-Decides known.graph.rows c.graph-graph.result.rows).0 (sym c.if-eq.ensures) in
+    trees_along parts t d known.trees c.least-root.result known.graph.rows c.requires.at.from c.set-w.ensures.rules (subst (λ (s : PartSet). IsLeastOf s c.least-root.result) c.set-w.ensures.is c.least-root.ensures.least)
+    (subst (λ (rows : List ℕ). ShowsBlocking parts d t.of rows) (sym same) c.graph-graph.ensures) (subst (KeepsTrees t.of) c.in-Some.is c.requires.kept)
 
 pub unreachable-requires : goal.unreachable-requires
 unreachable-requires c =
@@ -22,11 +24,8 @@ unreachable-requires c =
     stuck_is_strong c.args.at.now.sound.now c.args.at.now.table.now.of c.args.at.now.d rows c.requires.some c.graph-graph.ensures c.requires.stuck
     (λ strong. c.in-None.ensures.none (subst (λ (s : PartSet). IsStrong (HasArc rows) s) (sym c.set-w.ensures.is) strong))
 
-pub returns-clause-kept : goal.returns-clause-kept
-returns-clause-kept c = record { trees = λ known. subst (λ (s : PartSet). AreTrees (HasArc c.graph-graph.result.rows) s c.in-Some.trees) c.set-w.ensures.is c.in-Some.ensures.trees }
-
 pub returns-clause-along : goal.returns-clause-along
 returns-clause-along c =
-    trees_along c.args.at.now.sound.now c.args.at.now.table.now c.args.at.now.d c.in-Some.trees c.least-root.result c.graph-graph.result.rows c.requires.at.from c.set-w.ensures.rules
+    trees_along c.args.at.now.sound.now c.args.at.now.table.now c.args.at.now.d c.in-Some-trees_of.trees c.least-root.result c.graph-graph.result.rows c.requires.at.from c.set-w.ensures.rules
     (subst (λ (s : PartSet). IsLeastOf s c.least-root.result) c.set-w.ensures.is c.least-root.ensures.least) c.graph-graph.ensures
-    (subst (λ (s : PartSet). AreTrees (HasArc c.graph-graph.result.rows) s c.in-Some.trees) c.set-w.ensures.is c.in-Some.ensures.trees)
+    (subst (λ (s : PartSet). AreTrees (HasArc c.graph-graph.result.rows) s c.in-Some-trees_of.trees) c.set-w.ensures.is c.in-Some-trees_of.ensures.trees)

@@ -1,10 +1,7 @@
-use Rattle.std.proofs.Common.{◌<◌, length, subst, sym}
+use Rattle.std.proofs.Common.{subst, sym}
 use Rattle.staat_ring.specs.WholeCircles.{IsFull}
-use Rattle.staat_certify.proofs.SameWitness.{full_is_ahead}
+use Rattle.staat_certify.proofs.WitnessLemmas.{full_is_ahead}
 use Rattle.staat_certify.proofs.vantage.Vantage.leads_ahead.Goals as goal
-
-pub is_full-requires : goal.is_full-requires
-is_full-requires c = subst (λ k. k < length c.args.self.now.signs.now.pairs) (sym c.slot.ensures.is) (c.requires.at.made.all c.args.arc c.requires.across).within
 
 pub returns : goal.returns
 returns c =

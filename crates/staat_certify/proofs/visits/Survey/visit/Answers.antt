@@ -1,4 +1,5 @@
 use Rattle.std.proofs.Common.{◌≡◌, ◌≢◌, ◌<◌, ◌∙◌, ◌++◌, ◌∷◌, [], Contains, ap, refl, subst, sym}
+use Rattle.std.specs.Prelude.{Some}
 use Rattle.staat_vec.specs.declared.vector.V3.{V3}
 use Rattle.staat_vec.specs.Vectors.{origin}
 use Rattle.staat_model.specs.Certify.{IsDirection, NamesWitness}
@@ -7,23 +8,37 @@ use Rattle.staat_ring.proofs.StopLemmas.{vertex_first}
 use Rattle.staat_ring.proofs.WholeCircles.{vertex_listed, vertex_some}
 use Rattle.staat_certify.specs.declared.visits.Visit.{Visit}
 use Rattle.staat_certify.specs.Visits.{IsNamed, IsVisitedDirection, NamesIfTold, visited_directions}
-use Rattle.staat_certify.proofs.VisitLemmas.{all_more, named_still, still_visited, visited_earlier, visited_here}
+use Rattle.staat_certify.proofs.WitnessLemmas.{told_here, visited_next}
+use Rattle.staat_certify.proofs.VisitLemmas.{all_more, gone_more, named_still, still_visited, visited_earlier, visited_here}
 use Rattle.staat_certify.proofs.visits.Survey.visit.Goals as goal
 
-pub returns-then-first_entry-plane-clause-here : goal.returns-then-first_entry-plane-clause-here
-returns-then-first_entry-plane-clause-here c =
-    let planes = c.args.self.now.table.now.planes in
+pub returns-then-first_entry-plane-clause-to : goal.returns-then-first_entry-plane-clause-to
+returns-then-first_entry-plane-clause-to c =
+    let t = c.args.self.now.table.now in
+    let u = c.reach-changes.new.signs in
+    let known = c.still_told-known.result in
+    visited_next c.args.self.now.sound.now t c.args.circle.now u c.args.found.now.witnesses.items known c.args.k c.reach-changes.ensures.signs
+    (told_here c.args.self.now.sound.now t c.set-set.ensures.rules c.args.circle.now c.args.k c.args.signs.now u c.args.found.now.witnesses.items c.args.near c.reach-changes.result c.args.told known
+    c.requires.survey.made c.requires.made c.reach-changes.ensures.made c.reach-changes.ensures.signs c.reach-changes.ensures.same c.requires.near c.still_told-known.ensures)
+
+pub returns-then-first_entry-plane-clause-gone : goal.returns-then-first_entry-plane-clause-gone
+returns-then-first_entry-plane-clause-gone c =
+    let t = c.args.self.now.table.now in
+    let version = c.args.self.now.version in
+    let found = c.args.found.now in
     let r = c.args.circle.now in
     let e = c.first_entry.result in
     let lt : e.plane < r.plane = subst (λ k. e.plane < k) c.plane.ensures c.if-first_entry-plane.true in
-    subst (IsVisitedDirection c.args.self.now.version c.args.found.now.visited.items) (vertex_first planes r.plane (stop_at r c.args.k).entries e c.first_entry.ensures)
-    (visited_earlier planes c.args.self.now.version c.args.found.now.visited.items r.plane c.requires.below r.plane e refl c.requires.circle.small lt)
+    gone_more c.args.self.now.sound.now t version found found r c.args.k (λ v h. h) (λ below. c.requires.gone.so_far)
+    (subst (IsVisitedDirection version found.visited.items) (vertex_first t.planes r.plane (stop_at r c.args.k).entries e c.first_entry.ensures)
+    (visited_earlier t.planes version found.visited.items r.plane c.requires.gone.so_far.below r.plane e refl c.requires.circle.small lt))
+    c.requires.gone
 
 pub number_here-requires-clause-at : goal.number_here-requires-clause-at
 number_here-requires-clause-at c = record {
   from = c.requires.survey.made;
-  made = c.requires.made;
-  signs = subst (AreSignsAt c.args.self.now.table.now.planes c.args.signs.now) (sym (c.direction.ensures.is ∙ c.vertex-vertex.ensures)) c.requires.signs;
+  made = c.reach-changes.ensures.made;
+  signs = subst (AreSignsAt c.args.self.now.table.now.planes c.reach-changes.new.signs) (sym (c.direction.ensures.is ∙ c.vertex-vertex.ensures)) c.reach-changes.ensures.signs;
 }
 
 pub number_here-requires-clause-some : goal.number_here-requires-clause-some
@@ -31,42 +46,45 @@ number_here-requires-clause-some c = subst (λ (v : V3). v ≢ origin) (sym (c.d
     (vertex_some c.args.self.now.table.now.planes c.set-set.ensures.rules.planes c.args.circle.now c.requires.circle c.args.k c.requires.place)
 
 pub number_here-requires-clause-told : goal.number_here-requires-clause-told
-number_here-requires-clause-told c = subst (λ (v : V3). NamesIfTold c.args.self.now.sound.now c.args.self.now.table.now.of c.args.found.now.witnesses.items v c.args.told)
-    (sym (c.direction.ensures.is ∙ c.vertex-vertex.ensures)) c.requires.told
+number_here-requires-clause-told c =
+    let t = c.args.self.now.table.now in
+    let known = c.still_told-known.result in
+    subst (λ (v : V3). NamesIfTold c.args.self.now.sound.now t.of c.args.found.now.witnesses.items v known) (sym (c.direction.ensures.is ∙ c.vertex-vertex.ensures))
+    (told_here c.args.self.now.sound.now t c.set-set.ensures.rules c.args.circle.now c.args.k c.args.signs.now c.reach-changes.new.signs c.args.found.now.witnesses.items c.args.near c.reach-changes.result c.args.told known
+    c.requires.survey.made c.requires.made c.reach-changes.ensures.made c.reach-changes.ensures.signs c.reach-changes.ensures.same c.requires.near c.still_told-known.ensures)
 
-pub returns-clause-found : goal.returns-clause-found
-returns-clause-found c =
+pub returns-clause-to : goal.returns-clause-to
+returns-clause-to c =
+    let t = c.args.self.now.table.now in
+    let p = c.in_ok-number.number in
+    visited_next c.args.self.now.sound.now t c.args.circle.now c.reach-changes.new.signs c.number_here.new.found.witnesses.items (Some p) c.args.k c.reach-changes.ensures.signs
+    (subst (λ (v : V3). NamesWitness c.args.self.now.sound.now t.of c.number_here.new.found.witnesses.items (record { d = v; witness = p }))
+    (c.direction.ensures.is ∙ c.vertex-vertex.ensures) c.in_ok-number.ensures.number.names)
+
+pub returns-clause-gone : goal.returns-clause-gone
+returns-clause-gone c =
     let parts = c.args.self.now.sound.now in
-    let table = c.args.self.now.table.now in
+    let t = c.args.self.now.table.now in
     let version = c.args.self.now.version in
-    let old = c.args.found.now.visited.items in
+    let r = c.args.circle.now in
+    let old = c.args.found.now in
     let new = c.push.new.self.items in
     let here = c.in_ok-number.ensures.number in
-    let before = c.args.found.now.witnesses.items in
+    let before = c.requires.gone.so_far in
     let after = c.number_here.new.found.witnesses.items in
     let visit : Visit = record { d = c.direction.result; number = c.in_ok-number.number } in
-    let is : new ≡ old ++ visit ∷ [] = c.in_ok-push.ensures.items ∙ ap (λ vs. vs ++ visit ∷ []) c.in_ok-number.ensures.visited in
-    record {
+    let place = c.direction.ensures.is ∙ c.vertex-vertex.ensures in
+    let is : new ≡ old.visited.items ++ visit ∷ [] = c.in_ok-push.ensures.items ∙ ap (λ vs. vs ++ visit ∷ []) c.in_ok-number.ensures.visited in
+    gone_more parts t version old (record { keys = c.number_here.new.found.keys; witnesses = c.number_here.new.found.witnesses; visited = c.push.new.self; kept = c.number_here.new.found.kept }) r c.args.k (still_visited old.visited.items new visit is)
+    (λ below. record {
       kept = c.in_ok-number.ensures.kept;
       keys_are = here.keys_are;
-      each = all_more old new visit is (λ v. IsDirection version table.planes v.d) c.requires.found.each (subst (IsDirection version table.planes) (sym (c.direction.ensures.is ∙ c.vertex-vertex.ensures)) (record {
-        vertex = vertex_listed table.planes c.set-set.ensures.rules.planes c.args.circle.now c.requires.circle c.args.k c.requires.place;
+      each = all_more old.visited.items new visit is (λ v. IsDirection version t.planes v.d) before.each (subst (IsDirection version t.planes) (sym place) (record {
+        vertex = vertex_listed t.planes c.set-set.ensures.rules.planes r c.requires.circle c.args.k c.requires.place;
         canonical = c.requires.listed;
       }));
-      named = all_more old new visit is (IsNamed parts table.of after) (named_still parts table.of before after old here.kept c.requires.found.named) here.names;
-    }
-
-pub returns-clause-told : goal.returns-clause-told
-returns-clause-told c = subst (λ (v : V3). NamesWitness c.args.self.now.sound.now c.args.self.now.table.now.of c.number_here.new.found.witnesses.items (record { d = v; witness = c.in_ok-number.number }))
-    (c.direction.ensures.is ∙ c.vertex-vertex.ensures) c.in_ok-number.ensures.number.names
-
-pub returns-clause-here : goal.returns-clause-here
-returns-clause-here c canonical =
-    let visit : Visit = record { d = c.direction.result; number = c.in_ok-number.number } in
-    subst (Contains (visited_directions c.push.new.self.items)) (c.direction.ensures.is ∙ c.vertex-vertex.ensures)
-    (visited_here c.args.found.now.visited.items c.push.new.self.items visit (c.in_ok-push.ensures.items ∙ ap (λ vs. vs ++ visit ∷ []) c.in_ok-number.ensures.visited))
-
-pub returns-clause-kept : goal.returns-clause-kept
-returns-clause-kept c =
-    let visit : Visit = record { d = c.direction.result; number = c.in_ok-number.number } in
-    still_visited c.args.found.now.visited.items c.push.new.self.items visit (c.in_ok-push.ensures.items ∙ ap (λ vs. vs ++ visit ∷ []) c.in_ok-number.ensures.visited)
+      named = all_more old.visited.items new visit is (IsNamed parts t.of after) (named_still parts t.of old.witnesses.items after old.visited.items here.kept before.named) here.names;
+      below = below;
+    })
+    (λ canonical. subst (Contains (visited_directions new)) place (visited_here old.visited.items new visit is))
+    c.requires.gone
