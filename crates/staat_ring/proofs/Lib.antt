@@ -41,7 +41,6 @@ pub mod ArcLaw
 pub mod PushLemmas
 pub mod IndexLemmas
 pub mod PairNumbers
-pub mod Walking
 pub mod StopSigns
 pub mod SignAll
 pub mod CircleStops

@@ -24,19 +24,6 @@ module _ (n c : ℕ) (lc : c < n) (stops : List (List Entry)) (can : CanBeLinked
   abbrev row : ℕ → Row
   row k = vertex_row n c (slot k)
 
-  -- ---- none yet
-
-  pub stops_none : (first : Links) (old : List ℕ) → AreLinked first (rows_of n c stops) 0 → All (λ x. x < length old) old → AreStopsLinked n c stops 0 first first old old
-  stops_none first old linked within = record {
-    linked = linked;
-    size = refl;
-    others = λ y a. record { next = refl; prev = refl };
-    homed = λ k lt lk. absurd (omega (arith, lt));
-    home_size = refl;
-    home_others = λ y a. refl;
-    home_within = within;
-  }
-
   -- ---- one more
 
   module _ (m : ℕ) (lm : m < length stops) (first s t : Links) (old now new : List ℕ) (so_far : AreStopsLinked n c stops m first s old now)
