@@ -1,6 +1,5 @@
 -- Putting back undoes taking out.
-use Rattle.std.proofs.Common.{rules}
-use Rattle.std.proofs.Common.{◌≡◌, ℕ, refl, sym, ap, ◌∙◌, List, [], ◌∷◌, Bool, true, false, get_or, set, if◌then◌else◌}
+use Rattle.std.proofs.Common.{rules, ◌≡◌, ℕ, refl, sym, ap, ◌∙◌, List, [], ◌∷◌, Bool, true, false, get_or, set, if◌then◌else◌}
 use Rattle.std.proofs.lemmas.List.{set-get_or, get_or-set_other, set-set}
 use Rattle.staat_ring.specs.Links.{Links, unlink, relink, Arrays, take, give, take_all, give_all}
 use Rattle.staat_ring.proofs.Taking.{CanTakeAll, CanTake, IsBetween}

@@ -1,6 +1,5 @@
 -- Going round a ring.
-use Rattle.std.proofs.Common.{rules}
-use Rattle.std.proofs.Common.{◌≡◌, ◌≢◌, ⊎_elim, ℕ, zero, suc, ◌+◌, ◌<◌, ◌≤◌, arith, ap, sym, subst, ◌∙◌, not, List, [], ◌∷◌, ◌++◌, length, get_or, take, Contains, Bool, true, false}
+use Rattle.std.proofs.Common.{rules, ◌≡◌, ◌≢◌, ⊎_elim, ℕ, zero, suc, ◌+◌, ◌<◌, ◌≤◌, arith, ap, sym, subst, ◌∙◌, not, List, [], ◌∷◌, ◌++◌, length, get_or, take, Contains, Bool, true, false}
 use Rattle.std.specs.Prelude.{map, nat_lt}
 use Rattle.std.proofs.lemmas.Bool.Decides.{nat_tests}
 use Rattle.std.specs.List.{filter}
