@@ -7,8 +7,7 @@ use Rattle.staat_vec.specs.Vectors.{cross, dot, minus, negative, origin}
 use Rattle.staat_vec.proofs.Primitives.{parallel_primitives}
 use Rattle.staat_vec.proofs.Ring.{◌⊕◌, ◌⊗◌, ring}
 use Rattle.staat_vec.proofs.VecRing.{crossE, dotE, same_vector, scale, v0, v1, values}
-use Rattle.staat_ring.proofs.Turns.{turn}
-use Rattle.staat_ring.proofs.TurnOrder.{turn_back, turn_negative_left, turn_negative_right}
+use Rattle.staat_ring.proofs.TurnOrder.{turn, turn_back, turn_negative_left, turn_negative_right}
 use Rattle.staat_vec.proofs.Integers.{positive_not_zero, zero_or}
 use Rattle.staat_vec.proofs.Canons.{negative-negative}
 use Rattle.staat_vec.proofs.VectorLaws.{cross_twice, no_multiples, some_square}

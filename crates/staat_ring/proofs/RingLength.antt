@@ -9,7 +9,7 @@ use Rattle.staat_ring.specs.Links.{Arrays, Chain, Links, IsLinkedRing}
 use Rattle.staat_ring.specs.RingInvariant.{AreFlags, HaveTakenOut}
 use Rattle.staat_ring.specs.RingViews.{StandForCircles, arrangement_of, numbers_below, is_out, ring_of, shape, still_linked}
 use Rattle.staat_ring.specs.Numbered.{entry_numbered, head_number}
-use Rattle.staat_ring.specs.Rings.{Arrangement, RingStop, linked_of}
+use Rattle.staat_ring.specs.Rings.{Arrangement, linked_of}
 use Rattle.staat_ring.specs.Rings as rings
 use Rattle.staat_ring.specs.Stands.{IsRing, IsShortRing}
 use Rattle.staat_ring.proofs.Numbering.{head_small}

@@ -1,29 +1,25 @@
 -- Without a plane that is no axis, rings are the rings of the other linked planes.
-use Rattle.std.proofs.Common.{◌≡◌, ◌≢◌, ◌⊎◌, inl, inr, ⊎_elim, ℕ, zero, suc, ◌+◌, ◌%◌, Bool, true, false, not, arith, ap, sym, subst, ◌∙◌, refl, List, ◌∷◌, length, All, Contains, ℤ, pos, negsuc, ◌*ℤ◌, ◌<ℤ◌, ◌<◌, ◌≤◌, [], cond, ◌++◌, get_or, length-append}
+use Rattle.std.proofs.Common.{◌≡◌, ◌≢◌, ◌⊎◌, inl, inr, ⊎_elim, ℕ, zero, suc, ◌+◌, ◌%◌, true, false, not, arith, ap, sym, subst, ◌∙◌, refl, List, ◌∷◌, length, All, Contains, pos, ◌*ℤ◌, ◌<ℤ◌, ◌<◌, ◌≤◌, [], cond, ◌++◌, get_or, length-append}
 use Rattle.std.specs.Prelude.{◌==◌, Some, map, slice_get}
 use Rattle.std.specs.List.{filter}
 use Rattle.std.proofs.lemmas.Int.{ints}
 use Rattle.std.proofs.lemmas.List.{length-map, get_or_append_left}
 use Rattle.std.proofs.lemmas.List.Elements.{All-contains, Contains-append_left, Contains-push}
-use Rattle.std.proofs.lemmas.Option.{get_or_from_slice_get, same_Some, slice_get_within, slice_get-get_or}
+use Rattle.std.proofs.lemmas.Option.{same_Some, slice_get_within, slice_get-get_or}
 use Rattle.staat_vec.specs.declared.vector.V3.{V3}
 use Rattle.staat_vec.specs.Primitives.{primitive}
-use Rattle.staat_vec.specs.Vectors.{cross, dot, negative, origin, vector}
-use Rattle.staat_vec.proofs.Canons.{negative-negative}
+use Rattle.staat_vec.specs.Vectors.{cross, dot, negative, origin}
 use Rattle.staat_vec.proofs.Primitives.{IsPrimitive-negative, IsPrimitive-some, primitive-is}
-use Rattle.staat_model.specs.Circles.{IsCircle, IsLinked, IsNext, IsOnCircle, PassesThrough, Stop, IsAfter, axis_beside}
-use Rattle.staat_ring.specs.declared.entry.Entry.{Entry}
-use Rattle.staat_ring.specs.Rings.{IsRingOf, Ring, RingStop, crossing, stop_of, vertex_of, facet_by, linked_of, AreRings}
-use Rattle.staat_ring.proofs.Stops.{AreLinkedApart, stop_there, none_parallel}
+use Rattle.staat_model.specs.Circles.{IsLinked, IsNext, IsOnCircle, PassesThrough, Stop, IsAfter, axis_beside}
+use Rattle.staat_ring.specs.Rings.{IsRingOf, Ring, RingStop, stop_of, vertex_of, linked_of, AreRings}
+use Rattle.staat_ring.proofs.Stops.{AreLinkedApart, none_parallel}
+use Rattle.staat_ring.proofs.CircleFromHalf.{crossing_turned}
 use Rattle.staat_ring.proofs.CircleStops as circle
-use Rattle.staat_ring.proofs.Turns.{turn}
-use Rattle.staat_planes.specs.PairOrder.{plane_at}
+use Rattle.staat_ring.proofs.TurnOrder.{turn, turnE, turn_same}
 use Rattle.staat_ring.specs.Without.{stays, other_than, ring_without, stop_without, rings_without}
 use Rattle.staat_ring.proofs.Cycles.{Around, around_filter}
-use Rattle.staat_ring.proofs.Sides.{whole, turn_is_side}
+use Rattle.staat_ring.proofs.Steps.{whole, turn_is_side, on_plane}
 use Rattle.staat_ring.proofs.NextVertexWithout.{IsPoint, nothing_kept, still_after}
-use Rattle.staat_ring.proofs.Steps.{on_plane}
-use Rattle.staat_ring.proofs.TurnOrder.{turnE, turn_same}
 use Rattle.staat_ring.proofs.WithoutLemmas.{filter_from, filter_in, leaves_by, stays_by, stays_has, Different, agree_without, different_filter, vertex_stays}
 use Rattle.staat_vec.proofs.Truth.{false_true_clash}
 use Rattle.staat_vec.proofs.Integers.{positive_not_zero, mul-zero_ℤ, other_factor_zero, zero_or}
@@ -112,16 +108,6 @@ module _ (planes : List V3) (linked : List ℕ) (r : Ring) (p : ℕ) (apart : Ar
   abbrev kept_whole : (x : V3) → Kept x → Whole x
   kept_whole x k = record { other = k.other; h = k.h; other_is = (link_of k.other k.h k.other_is).0; different = k.different; is = k.is }
 
-  turned : (x y : V3) → (x ≡ y) ⊎ (x ≡ negative y) → (negative x ≡ y) ⊎ (negative x ≡ negative y)
-  turned x y (inl e) = inr (ap negative e)
-  turned x y (inr e) = inl (ap negative e ∙ negative-negative y)
-
-  whole_turned : (x : V3) → Whole x → Whole (negative x)
-  whole_turned x w = record { other = w.other; h = w.h; other_is = w.other_is; different = w.different; is = turned x (primitive (cross g w.h)) w.is }
-
-  kept_turned : (x : V3) → Kept x → Kept (negative x)
-  kept_turned x w = record { other = w.other; h = w.h; other_is = w.other_is; different = w.different; is = turned x (primitive (cross g w.h)) w.is }
-
   point : (x : V3) → Whole x → IsPoint g x
   point x w = record {
     on = on_plane planes linked c g x apart is.circle.g_is w;
@@ -200,8 +186,8 @@ module _ (planes : List V3) (linked : List ℕ) (r : Ring) (p : ℕ) (apart : Ar
       let kw = kept_of_stays b y.1 kb in
       let (k, kk, other) = another (vertex a) kv in
       record {
-        after = still_after g gg Whole Kept point whole_turned kept_turned kept_whole (vertex a) (vertex u) (vertex b) k kv (whole_at u x.1) (left_is_not u x.1 ku) kw kk other x.2.after y.2.after x.2.none y.2.none;
-        none = nothing_kept g gg Whole Kept point whole_turned kept_turned kept_whole (vertex a) (vertex u) (vertex b) k kv (whole_at u x.1) (left_is_not u x.1 ku) kw kk other x.2.after y.2.after x.2.none y.2.none;
+        after = still_after g gg Whole Kept point (crossing_turned planes linked c g) (crossing_turned planes (planes_without p linked) c g) kept_whole (vertex a) (vertex u) (vertex b) k kv (whole_at u x.1) (left_is_not u x.1 ku) kw kk other x.2.after y.2.after x.2.none y.2.none;
+        none = nothing_kept g gg Whole Kept point (crossing_turned planes linked c g) (crossing_turned planes (planes_without p linked) c g) kept_whole (vertex a) (vertex u) (vertex b) k kv (whole_at u x.1) (left_is_not u x.1 ku) kw kk other x.2.after y.2.after x.2.none y.2.none;
       }
 
   not_two : (u x : RingStop) → stays p u ≡ false → stays p x ≡ false → R u x → ⊥

@@ -10,7 +10,7 @@ use Rattle.staat_ring.proofs.Ends.{last_of}
 use Rattle.staat_ring.specs.Linking.{AreHomedAt, AreLinked, IsSameAt}
 use Rattle.staat_ring.proofs.Mapped.{from_apart}
 use Rattle.staat_ring.specs.Rows.{Row, all_of, row_at}
-use Rattle.staat_ring.proofs.Appending.{apart_last, kept, prev_last, ring-append}
+use Rattle.staat_ring.proofs.Chains.{apart_last, kept, prev_last, ring-append}
 use Rattle.staat_vec.proofs.ListLaws.{only_one}
 use Rattle.staat_vec.proofs.Unique.{Contains-front, Contains-later}
 use Rattle.staat_vec.proofs.Naturals.{same_or}

@@ -1,5 +1,5 @@
 -- The stops of a circle are linked one after another.
-use Rattle.std.proofs.Common.{◌≡◌, ◌≢◌, ⊎_elim, ℕ, ◌+◌, ◌*◌, ◌<◌, ◌≤◌, arith, ap, refl, sym, subst, ◌∙◌, List, [], ◌∷◌, length, get_or, All}
+use Rattle.std.proofs.Common.{◌≡◌, ◌≢◌, ⊎_elim, ℕ, ◌+◌, ◌*◌, ◌<◌, ◌≤◌, arith, ap, sym, subst, ◌∙◌, List, [], ◌∷◌, length, get_or, All}
 use Rattle.std.specs.Prelude.{map}
 use Rattle.std.proofs.lemmas.List.Elements.{All-contains}
 use Rattle.staat_model.proofs.Members.{All-from_members}

@@ -1,9 +1,8 @@
 -- The invariant with the list of unlinked planes, and what unlink and relink do to it and to the view.
-use Rattle.std.proofs.Common.{rules, ◌≡◌, ◌≢◌, ℕ, zero, suc, ◌+◌, ◌<◌, refl, sym, ap, subst, ◌∙◌, arith, List, [], ◌∷◌, ◌++◌, map, length, take, drop, false, not, ◌&&◌, Contains, inl, inr, ◌-◌, set, get_or}
+use Rattle.std.proofs.Common.{rules, ◌≡◌, ◌≢◌, ℕ, zero, suc, ◌+◌, ◌<◌, refl, sym, ap, subst, ◌∙◌, arith, List, [], ◌∷◌, ◌++◌, map, length, take, drop, false, not, Contains, inl, inr, ◌-◌, set, get_or}
 use Rattle.std.proofs.lemmas.Grind.{common_steps, get_or-set_at}
 use Rattle.std.proofs.lemmas.Bool.Decides.{nat_tests}
 use Rattle.std.proofs.lemmas.List.Folds.{map_fixed}
-use Rattle.std.specs.Prelude.{◌==◌}
 use Rattle.std.proofs.lemmas.List.{drop-append-le, length-append, take-append-le, take_all as take_whole, drop_all, length_push, get_or-set_other, same_from_push, take-set-le, take_more_set}
 use Rattle.staat_ring.proofs.WithoutLemmas.{filter_from}
 use Rattle.staat_ring.specs.Links.{Arrays, Apart, Distinct, take_all, give_all}
