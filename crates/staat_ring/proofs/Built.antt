@@ -31,7 +31,7 @@ use Rattle.staat_ring.specs.Views.{lists_of}
 use Rattle.staat_ring.proofs.CircleStops.{entry_other, entry_there}
 use Rattle.staat_ring.proofs.CircleSteps.{can_be_linked}
 use Rattle.staat_ring.proofs.Filters.{filter_whole}
-use Rattle.staat_ring.proofs.Mapped.{few_below}
+use Rattle.staat_ring.proofs.WithoutNumber.{few_below, tagged_from}
 use Rattle.staat_ring.proofs.Numbering.{entry_back, head_circle, head_small}
 use Rattle.staat_ring.proofs.RingLemmas.{below_small, map_same}
 use Rattle.staat_ring.proofs.RowRules as rules
@@ -39,7 +39,6 @@ use Rattle.staat_ring.proofs.SoundLemmas.{entry_in, two_cases}
 use Rattle.staat_ring.proofs.Stops.{none_parallel}
 use Rattle.staat_ring.proofs.Unlinking.{planes_of_rings}
 use Rattle.staat_ring.proofs.ViewLemmas.{nodes_of_is}
-use Rattle.staat_ring.proofs.WithoutNumber.{tagged_from}
 use Rattle.staat_vec.proofs.Naturals.{lt_suc_cases}
 use Rattle.staat_vec.proofs.ListLaws.{Contains-from_map, Contains-map, map_twice, place_in_map}
 

@@ -3,9 +3,18 @@ use Rattle.std.proofs.Common.{◌≡◌, ◌≢◌, ℕ, ◌<◌, sym, ap, subst
 use Rattle.std.proofs.lemmas.List.{get_or-set_other}
 use Rattle.std.proofs.lemmas.Grind.{get_or-set_at}
 use Rattle.staat_ring.specs.Links.{Links, Chain, IsLinkedRing, Apart, Distinct, unlink, append}
-use Rattle.staat_ring.proofs.Ends.{first_of, last_of}
-use Rattle.staat_ring.proofs.Taking.{IsBetween}
+use Rattle.staat_ring.proofs.RelinkUndoesUnlink.{IsBetween}
 use Rattle.std.proofs.Math.ListN.{length-set}
+
+-- the last node, or the one before the first
+abbrev pub last_of : ℕ → List ℕ → ℕ
+last_of a [] = a
+last_of a (x ∷ xs) = last_of x xs
+
+-- the first node, or the one after the last
+abbrev pub first_of : List ℕ → ℕ → ℕ
+first_of [] b = b
+first_of (x ∷ xs) b = x
 
 -- the word at k after the two writes, where neither is at k
 pub kept : (l : List ℕ) (x u i w k : ℕ) → k ≢ x → k ≢ i → get_or (set (set l x u) i w) k 0 ≡ get_or l k 0

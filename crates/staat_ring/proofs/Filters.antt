@@ -4,8 +4,7 @@ use Rattle.std.specs.List.{filter}
 use Rattle.std.specs.Prelude.{◌==◌}
 use Rattle.staat_ring.specs.Links.{Arrays, Distinct, take}
 use Rattle.staat_ring.specs.Stands.{is_empty, Shape, RingLists, home_of, StandFor, IsPresent, AllPresent}
-use Rattle.staat_ring.proofs.ListsWithout.{lists_without_plane, lists_without_all, lists_without, without, AreSame}
-use Rattle.staat_ring.proofs.WithoutNumber.{without_none, tagged_apart}
+use Rattle.staat_ring.proofs.WithoutNumber.{lists_without_plane, lists_without_all, lists_without, without, AreSame, without_none, tagged_apart}
 use Rattle.staat_ring.proofs.TwoLevels.{stands-take, all-after, contains_before}
 use Rattle.staat_ring.proofs.WithoutLemmas.{filter_from}
 use Rattle.staat_vec.proofs.Naturals.{apart_from_test, eqb_false, same_or}

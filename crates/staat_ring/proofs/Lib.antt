@@ -1,4 +1,3 @@
-pub mod Mapped
 pub mod TurnOrder
 pub mod Steps
 pub mod Stops
@@ -45,6 +44,3 @@ pub mod StopLemmas
 pub mod WholeCircles
 pub mod CrossSteps
 pub mod Strength
-pub mod Taking
-pub mod Ends
-pub mod ListsWithout

@@ -4,7 +4,7 @@ use Rattle.std.specs.List.{filter}
 use Rattle.std.specs.Prelude.{◌==◌}
 use Rattle.std.proofs.lemmas.Bool.Decides.{nat_tests}
 use Rattle.staat_ring.specs.Stands.{RingLists, is_empty}
-use Rattle.staat_ring.proofs.ListsWithout.{lists_without_plane, AreSame}
+use Rattle.staat_ring.proofs.WithoutNumber.{lists_without_plane, AreSame}
 use Rattle.staat_ring.specs.RingViews.{shape, is_out, numbers_below, ring_of, rings_of, still_linked}
 use Rattle.staat_ring.specs.Numbered.{entry_numbered, plane_of}
 use Rattle.staat_ring.specs.declared.entry.Entry.{Entry}

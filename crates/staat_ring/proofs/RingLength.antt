@@ -14,7 +14,7 @@ use Rattle.staat_ring.specs.Rings as rings
 use Rattle.staat_ring.specs.Stands.{IsRing, IsShortRing}
 use Rattle.staat_ring.proofs.Numbering.{head_small}
 use Rattle.staat_ring.specs.Views.{lists_of}
-use Rattle.staat_ring.proofs.Mapped.{from_apart}
+use Rattle.staat_ring.proofs.WithoutNumber.{from_apart}
 use Rattle.staat_ring.proofs.RingLemmas.{below_small}
 use Rattle.staat_ring.proofs.Unlinking.{linked_plane, planes_of_rings, sound_is_good}
 use Rattle.staat_ring.proofs.Built.{below_all}

@@ -13,7 +13,7 @@ use Rattle.staat_ring.proofs.Rows.{AreRows}
 use Rattle.staat_ring.specs.Numbered.{HasEntry, head_number, node_number, vertex_row, entry_number}
 use Rattle.staat_ring.specs.RingViews.{shape}
 use Rattle.staat_ring.specs.Rows.{Row, all_of, row_at}
-use Rattle.staat_ring.proofs.Mapped.{apart_from, distinct_by}
+use Rattle.staat_ring.proofs.WithoutNumber.{apart_from, distinct_by}
 use Rattle.staat_ring.proofs.Numbering.{entry_circle, entry_small, first_entry, head_circle, head_small, node_circle, node_great, node_small, one_entry}
 use Rattle.staat_vec.proofs.ListLaws.{Contains-from_map}
 

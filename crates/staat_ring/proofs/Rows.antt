@@ -6,11 +6,10 @@ use Rattle.std.proofs.lemmas.List.{get_or-set_other, take_more}
 use Rattle.std.proofs.Math.ListN.{length-set}
 use Rattle.std.proofs.lemmas.List.Elements.{All-cons, All-contains, All-get_or, All-more, All-take, All-weaker, Contains-get_or}
 use Rattle.staat_ring.specs.Links.{Apart, Chain, Distinct, Links, IsLinkedRing, append}
-use Rattle.staat_ring.proofs.Ends.{last_of}
+use Rattle.staat_ring.proofs.Chains.{last_of, apart_last, kept, prev_last, ring-append}
 use Rattle.staat_ring.specs.Linking.{AreHomedAt, AreLinked, IsSameAt}
-use Rattle.staat_ring.proofs.Mapped.{from_apart}
+use Rattle.staat_ring.proofs.WithoutNumber.{from_apart}
 use Rattle.staat_ring.specs.Rows.{Row, all_of, row_at}
-use Rattle.staat_ring.proofs.Chains.{apart_last, kept, prev_last, ring-append}
 use Rattle.staat_vec.proofs.ListLaws.{only_one}
 use Rattle.staat_vec.proofs.Unique.{Contains-front, Contains-later}
 use Rattle.staat_vec.proofs.Naturals.{same_or}

@@ -10,7 +10,7 @@ use Rattle.staat_ring.specs.Linking.{AreHomedAt, AreLinked, AreSized, AreStopsLi
 use Rattle.staat_ring.specs.Numbered.{head_number, node_number, vertex_row, entry_number}
 use Rattle.staat_ring.specs.RingViews.{shape}
 use Rattle.staat_ring.specs.Rows.{Row, all_of}
-use Rattle.staat_ring.proofs.Mapped.{apart_from}
+use Rattle.staat_ring.proofs.WithoutNumber.{apart_from}
 use Rattle.staat_ring.proofs.Numbering.{entry_circle}
 use Rattle.staat_ring.proofs.RowRules as rules
 use Rattle.staat_ring.proofs.Rows.{linked_row, ring_same}

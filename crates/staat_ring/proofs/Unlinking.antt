@@ -7,12 +7,11 @@ use Rattle.std.proofs.lemmas.List.{drop-append-le, length-append, take-append-le
 use Rattle.staat_ring.proofs.WithoutLemmas.{filter_from}
 use Rattle.staat_ring.specs.Links.{Arrays, Apart, Distinct, take_all, give_all}
 use Rattle.staat_ring.specs.Stands.{RingLists}
-use Rattle.staat_ring.proofs.ListsWithout.{without}
+use Rattle.staat_ring.proofs.WithoutNumber.{without, split, without_mid, distinct_filter}
 use Rattle.staat_ring.specs.Views.{undo_all, unlinked_planes, lists_of}
 use Rattle.staat_ring.specs.RingViews.{ring_of, rings_of, rings_at, undo, StandForCircles, CanBeUndone, still_linked, is_out, numbers_below, shape, arrangement_of}
 use Rattle.staat_ring.proofs.ViewLemmas.{undo-push, kept-push}
 use Rattle.staat_ring.proofs.RingLemmas.{below_small, still_without}
-use Rattle.staat_ring.proofs.WithoutNumber.{split, without_mid, distinct_filter}
 use Rattle.staat_vec.proofs.Truth.{from_not_true}
 use Rattle.staat_model.proofs.Members.{All-from_members}
 use Rattle.staat_vec.proofs.Naturals.{le_or_past, same_or}

@@ -4,7 +4,7 @@ use Rattle.std.specs.Prelude.{if◌then◌else◌}
 use Rattle.staat_ring.specs.Links.{Links, Chain, Apart, Arrays}
 use Rattle.staat_ring.specs.Stands.{Shape, RingLists, StandFor, IsRing}
 use Rattle.staat_ring.specs.Views.{nodes_from, ring_nodes, lists_of, undo_all, unlinked_planes}
-use Rattle.staat_ring.proofs.ListsWithout.{AreSame}
+use Rattle.staat_ring.proofs.WithoutNumber.{AreSame}
 use Rattle.staat_vec.proofs.Naturals.{eqb_false}
 
 pub undo-push : {A : Type 0} (undo : ℕ → A → A) (ps : List ℕ) (q : ℕ) (a : A) → undo_all undo (ps ++ q ∷ []) a ≡ undo_all undo ps (undo q a)
