@@ -1,10 +1,9 @@
 -- Arrays in which all circles stand are good, and show the circles of the planes.
 use Rattle.std.proofs.Common.{◌≡◌, ◌≢◌, inl, ⊎_elim, ℕ, zero, suc, ◌+◌, ◌*◌, ◌<◌, ◌≤◌, Bool, true, false, not, arith, ap, refl, sym, subst, ◌∙◌, List, [], ◌∷◌, ◌++◌, length, get_or, Contains, take, add-one}
-use Rattle.std.specs.Prelude.{Some, map, slice_get, ◌==◌}
-use Rattle.std.specs.List.{filter}
+use Rattle.std.specs.Prelude.{map, ◌==◌}
+use Rattle.std.specs.List.{filter, range_with_len}
 use Rattle.std.specs.Ordering.{nat_cmp}
 use Rattle.std.specs.List.Sorted.{IsStrictlySortedBy}
-use Rattle.std.specs.List.{range_with_len}
 use Rattle.std.proofs.lemmas.List.{get_or_default}
 use Rattle.std.proofs.lemmas.List.Folds.{map_fixed}
 use Rattle.std.proofs.lemmas.List.FromFn.{get_or-map-range_with_len, length-map-range_with_len, map-range_with_len_more}
@@ -26,12 +25,13 @@ use Rattle.staat_ring.specs.Rings.{AreRings, IsRingOf, NameVertex, RingStop, Wer
 use Rattle.staat_planes.specs.PairOrder.{plane_at}
 use Rattle.staat_ring.specs.RingInvariant.{HaveTakenOut}
 use Rattle.staat_ring.specs.RingViews.{StandForCircles, CanBeUndone, arrangement_of, numbers_below, is_out, ring_of, rings_of, shape, still_linked}
-use Rattle.staat_ring.specs.Stands.{AllPresent, EachEntry, EachVertex, IsPresent, IsRing, StandFor, Tagged, home_of, is_empty}
+use Rattle.staat_ring.specs.Stands.{AllPresent, EachEntry, EachVertex, IsPresent, IsRing, StandFor, home_of, is_empty}
 use Rattle.staat_ring.specs.Within.{InRange}
 use Rattle.staat_ring.specs.Views.{lists_of}
 use Rattle.staat_ring.proofs.CircleStops.{entry_other, entry_there}
 use Rattle.staat_ring.proofs.CircleSteps.{can_be_linked}
-use Rattle.staat_ring.proofs.Mapped.{few_below}
+use Rattle.staat_ring.proofs.Filters.{filter_whole}
+use Rattle.staat_ring.proofs.WithoutNumber.{few_below, tagged_from}
 use Rattle.staat_ring.proofs.Numbering.{entry_back, head_circle, head_small}
 use Rattle.staat_ring.proofs.RingLemmas.{below_small, map_same}
 use Rattle.staat_ring.proofs.RowRules as rules
@@ -39,7 +39,6 @@ use Rattle.staat_ring.proofs.SoundLemmas.{entry_in, two_cases}
 use Rattle.staat_ring.proofs.Stops.{none_parallel}
 use Rattle.staat_ring.proofs.Unlinking.{planes_of_rings}
 use Rattle.staat_ring.proofs.ViewLemmas.{nodes_of_is}
-use Rattle.staat_ring.proofs.WithoutNumber.{tagged_from}
 use Rattle.staat_vec.proofs.Naturals.{lt_suc_cases}
 use Rattle.staat_vec.proofs.ListLaws.{Contains-from_map, Contains-map, map_twice, place_in_map}
 
@@ -48,10 +47,6 @@ use Rattle.staat_vec.proofs.ListLaws.{Contains-from_map, Contains-map, map_twice
 pub take_none : (xs : List ℕ) → take 0 xs ≡ []
 take_none [] = refl
 take_none (x ∷ xs) = refl
-
-all_stay : (xs : List ℕ) → filter (λ c. not (is_out [] c)) xs ≡ xs
-all_stay [] = refl
-all_stay (x ∷ xs) = ap (λ ys. x ∷ ys) (all_stay xs)
 
 below_is : (n : ℕ) → numbers_below n ≡ map (λ k. k) (range_with_len 0 n)
 below_is zero = refl
@@ -270,13 +265,13 @@ module _ (planes : List V3) (table : AreTablePlanes planes) (few : length planes
   ring_read c lc = λ i. record { plane = c; stops = stops_read c lc i }
 
   planes_read : linked_of (rings_of n [] l) ≡ numbers_below n
-  planes_read = planes_of_rings n [] l ∙ all_stay (numbers_below n)
+  planes_read = planes_of_rings n [] l ∙ filter_whole (λ c. not (is_out [] c)) (numbers_below n) (λ c _. refl)
 
   pub rings : AreRings planes (rings_of n [] l) []
   rings = record {
     each = All-from_members (IsRingOf planes (linked_of (rings_of n [] l))) (rings_of n [] l) (λ r cr.
         let (c, cc', q) = Contains-from_map (ring_of n l) (filter (λ c. not (is_out [] c)) (numbers_below n)) r cr in
-        let lc : c < n = below_small n c (subst (λ xs. Contains xs c) (all_stay (numbers_below n)) cc') in
+        let lc : c < n = below_small n c (subst (λ xs. Contains xs c) (filter_whole (λ c. not (is_out [] c)) (numbers_below n) (λ c _. refl)) cc') in
         subst (IsRingOf planes (linked_of (rings_of n [] l))) q (subst (λ ks. IsRingOf planes ks (ring_of n l c)) (sym planes_read)
         (subst (IsRingOf planes (numbers_below n)) (sym (ring_read c lc)) (ring_renamed planes (numbers_below n) c (node_number n c) (stops c lc) (has c lc).ring))));
     ascending = subst (IsStrictlySortedBy nat_cmp) (sym planes_read) (below_sorted n);
@@ -303,7 +298,7 @@ module _ (planes : List V3) (table : AreTablePlanes planes) (few : length planes
   }
     where
       all : (k : ℕ) → k ≤ 0 → k + length (still_linked n (take k order)) ≡ n
-      all zero le = let e : length (still_linked n (take 0 order)) ≡ n = ap (λ (o : List ℕ). length (still_linked n o)) (take_none order) ∙ (ap length (all_stay (numbers_below n)) ∙ length_below n) in omega (arith, e)
+      all zero le = let e : length (still_linked n (take 0 order)) ≡ n = ap (λ (o : List ℕ). length (still_linked n o)) (take_none order) ∙ (ap length (filter_whole (λ c. not (is_out [] c)) (numbers_below n) (λ c _. refl)) ∙ length_below n) in omega (arith, e)
       all (suc k) le = absurd (omega (arith, le))
 
   pub made : (order : List ℕ) → WereMadeFrom planes (arrangement_of n (take 0 order) a)

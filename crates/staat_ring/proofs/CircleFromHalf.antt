@@ -13,8 +13,7 @@ use Rattle.staat_vec.specs.Lists.{Lists, ListsOnce}
 use Rattle.staat_model.proofs.Members.{All-from_members}
 use Rattle.staat_model.specs.Circles.{Stop, IsLinked, IsOnCircle, IsNext, IsCircle, IsAfter, PassesThrough, axis_beside}
 use Rattle.staat_ring.proofs.Cycles.{following}
-use Rattle.staat_ring.proofs.Turns.{NextIn, turn}
-use Rattle.staat_ring.proofs.TurnOrder.{turn_back, turn_same, turn_negative_left, turn_negative_right}
+use Rattle.staat_ring.proofs.TurnOrder.{NextIn, turn, turn_back, turn_same, turn_negative_left, turn_negative_right}
 use Rattle.staat_vec.proofs.Integers.{zero_not_positive}
 use Rattle.staat_vec.proofs.Naturals.{lt_or_le, trichotomy}
 use Rattle.staat_vec.proofs.ListLaws.{Contains-from_map, Contains-map}
@@ -43,7 +42,7 @@ pub record IsHalf (table : List V3) (linked : List ℕ) (c : ℕ) (g axis : V3) 
   pub all : (v : V3) → IsOnCircle table linked c g v → IsOfHalf hs v
 
 -- the negative of a crossing is one
-crossing_turned : (table : List V3) (linked : List ℕ) (c : ℕ) (g v : V3) → IsOnCircle table linked c g v → IsOnCircle table linked c g (negative v)
+pub crossing_turned : (table : List V3) (linked : List ℕ) (c : ℕ) (g v : V3) → IsOnCircle table linked c g v → IsOnCircle table linked c g (negative v)
 crossing_turned table linked c g v x = record {
   other = x.other;
   h = x.h;

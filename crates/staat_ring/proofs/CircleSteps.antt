@@ -18,7 +18,7 @@ use Rattle.staat_ring.specs.Numbered.{HasEntry, entry_number}
 use Rattle.staat_ring.specs.Rings.{IsRingOf, RingStop}
 use Rattle.staat_ring.proofs.Stops.{none_parallel}
 use Rattle.staat_ring.proofs.CircleStops.{entries_ascend, entry_small, some}
-use Rattle.staat_ring.proofs.Mapped.{apart_from}
+use Rattle.staat_ring.proofs.WithoutNumber.{apart_from}
 use Rattle.staat_ring.proofs.Numbering.{entry_once, one_entry}
 use Rattle.staat_vec.proofs.Comparisons.{head_less, tail_sorted}
 use Rattle.staat_vec.proofs.ListLaws.{Contains-from_map, Contains-map}

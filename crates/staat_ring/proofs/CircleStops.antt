@@ -22,18 +22,16 @@ use Rattle.staat_model.proofs.VertexLemmas.{in_vertices}
 use Rattle.staat_ring.specs.declared.entry.Entry.{Entry}
 use Rattle.staat_ring.specs.Rings.{IsRingOf, NameVertex, Ring, RingStop, crossing, facet_by, stop_of, vertex_of}
 use Rattle.staat_ring.proofs.Stops.{AreLinkedApart, stop_there}
-use Rattle.staat_ring.proofs.Steps.{primitive_on, negative_on, on_plane}
+use Rattle.staat_ring.proofs.Steps.{primitive_on, negative_on, on_plane, side_is}
 use Rattle.staat_vec.proofs.ListLaws.{place_of, Contains-map, Contains-from_map, contains_or}
 use Rattle.staat_vec.proofs.VecRing.{dot_cross_right}
 use Rattle.staat_vec.specs.declared.vector.Sign.TheVariants.{Zero}
 use Rattle.staat_ring.specs.StopSigns.{stop_sign, with_stop_signs}
 use Rattle.staat_ring.specs.CountedSigns.{Signed, state_at}
 use Rattle.staat_ring.proofs.HalfTurn.{some_normal}
-use Rattle.staat_ring.proofs.Turns.{turn}
+use Rattle.staat_ring.proofs.TurnOrder.{turn, turn_back, turn_negative_left, turn_negative_right}
 use Rattle.staat_ring.specs.Belonging.{HoldSigns}
 use Rattle.staat_planes.specs.PairOrder.{plane_at}
-use Rattle.staat_ring.proofs.Sides.{side_is}
-use Rattle.staat_ring.proofs.TurnOrder.{turn_back, turn_negative_left, turn_negative_right}
 use Rattle.staat_ring.proofs.StopSigns.{stop_signs_other, stop_signs_same, stop_signs_there}
 use Rattle.staat_vec.proofs.Signs.{negative_sign, positive_sign, zero_sign}
 use Rattle.staat_vec.proofs.Naturals.{same_or}
@@ -76,10 +74,10 @@ module _ (planes : List V3) (linked : List ℕ) (r : Ring) (apart : AreLinkedApa
 
   -- a crossing with another plane
   module _ (u : V3) (x : IsOnCircle planes linked c g u) where
-    flat : cross g x.h ≢ origin
+    pub flat : cross g x.h ≢ origin
     flat = apart.apart c x.other g x.h is.circle.g_is x.other_is (λ q. x.different (sym q))
 
-    on_other : dot x.h u ≡ pos 0
+    pub on_other : dot x.h u ≡ pos 0
     on_other =
         let on = primitive_on x.h (cross g x.h) (dot_cross_right g x.h) flat in
         ⊎_elim {C = dot x.h u ≡ pos 0} (λ e. ap (dot x.h) e ∙ on) (λ e. ap (dot x.h) e ∙ negative_on x.h (primitive (cross g x.h)) on) x.is
@@ -96,13 +94,13 @@ module _ (planes : List V3) (linked : List ℕ) (r : Ring) (apart : AreLinkedApa
     abbrev v : V3
     v = vertex_of planes c s.entries
 
-    on_circle : IsOnCircle planes linked c g v
+    pub on_circle : IsOnCircle planes linked c g v
     on_circle = is.circle.vertices.each v (Contains-map (λ s. s.vertex) stops (stop_of planes c s) here)
 
     on_it : dot g v ≡ pos 0
     on_it = on_plane planes linked c g v apart is.circle.g_is on_circle
 
-    pass : Lists nat_cmp (PassesThrough planes linked c v) (map (λ e. e.plane) s.entries)
+    pub pass : Lists nat_cmp (PassesThrough planes linked c v) (map (λ e. e.plane) s.entries)
     pass = All-contains (λ s. Lists nat_cmp (PassesThrough planes linked c s.vertex) s.through) stops (stop_of planes c s) is.circle.through here
 
     pub entries_ascend : IsStrictlySortedBy nat_cmp (map (λ e. e.plane) s.entries)
@@ -146,11 +144,11 @@ module _ (planes : List V3) (linked : List ℕ) (r : Ring) (apart : AreLinkedApa
     crossing_is : (b : Bool) → e.turned ≡ b → crossing planes c e ≡ facet_by b (primitive (cross g h))
     crossing_is b q = λ i. facet_by (q i) (primitive (cross (get_or_from_slice_get planes c g origin is.circle.g_is.is i) (get_or_from_slice_get planes e.plane h origin hi.is i)))
 
-    either_way : (b : Bool) → e.turned ≡ b → (crossing planes c e ≡ primitive (cross g h)) ⊎ (crossing planes c e ≡ negative (primitive (cross g h)))
+    pub either_way : (b : Bool) → e.turned ≡ b → (crossing planes c e ≡ primitive (cross g h)) ⊎ (crossing planes c e ≡ negative (primitive (cross g h)))
     either_way false q = inl (crossing_is false q)
     either_way true q = inr (crossing_is true q)
 
-    abbrev crossing_on : IsOnCircle planes linked c g (crossing planes c e)
+    abbrev pub crossing_on : IsOnCircle planes linked c g (crossing planes c e)
     crossing_on = record { other = e.plane; h = h; other_is = hi; different = ne; is = either_way e.turned refl }
 
     -- it is a stop, which has the entry
@@ -206,7 +204,7 @@ module _ (planes : List V3) (linked : List ℕ) (r : Ring) (apart : AreLinkedApa
     next_at : slice_get stops ((k + 1) % length stops) ≡ Some T
     next_at = subst (λ n. slice_get stops ((k + 1) % n) ≡ Some T) (sym (length-map r.stops (stop_of planes c))) (stop_there planes r ((k + 1) % length r.stops) t kt)
 
-    next : IsNext g stops S.vertex T.vertex
+    pub next : IsNext g stops S.vertex T.vertex
     next = is.circle.turns k S T (stop_there planes r k s ks) next_at
 
     -- a plane through the stop reached

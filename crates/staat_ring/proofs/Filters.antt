@@ -4,8 +4,7 @@ use Rattle.std.specs.List.{filter}
 use Rattle.std.specs.Prelude.{◌==◌}
 use Rattle.staat_ring.specs.Links.{Arrays, Distinct, take}
 use Rattle.staat_ring.specs.Stands.{is_empty, Shape, RingLists, home_of, StandFor, IsPresent, AllPresent}
-use Rattle.staat_ring.proofs.ListsWithout.{lists_without_plane, lists_without_all, lists_without, without, AreSame}
-use Rattle.staat_ring.proofs.WithoutNumber.{without_none, tagged_apart}
+use Rattle.staat_ring.proofs.WithoutNumber.{lists_without_plane, lists_without_all, lists_without, without, AreSame, without_none, tagged_apart}
 use Rattle.staat_ring.proofs.TwoLevels.{stands-take, all-after, contains_before}
 use Rattle.staat_ring.proofs.WithoutLemmas.{filter_from}
 use Rattle.staat_vec.proofs.Naturals.{apart_from_test, eqb_false, same_or}
@@ -19,22 +18,23 @@ abbrev keeps : List ℕ → ℕ → Bool
 keeps [] y = true
 keeps (e ∷ es) y = not (y == e) && keeps es y
 
+filter_same : (p q : ℕ → Bool) (xs : List ℕ) → ((x : ℕ) → Contains xs x → p x ≡ q x) → filter p xs ≡ filter q xs
+filter_same p q [] h = refl
+filter_same p q (x ∷ xs) h =
+    (λ i. cond (h x (zero, omega arith, refl) i) (x ∷ filter_same p q xs (λ y c. h y (suc c.0, omega (arith, c.1), c.2)) i) (filter_same p q xs (λ y c. h y (suc c.0, omega (arith, c.1), c.2)) i))
+
+-- where all pass, all stay
+pub filter_whole : (p : ℕ → Bool) (xs : List ℕ) → ((x : ℕ) → Contains xs x → p x ≡ true) → filter p xs ≡ xs
+filter_whole p [] h = refl
+filter_whole p (x ∷ xs) h = (λ i. cond (h x (zero, omega arith, refl) i) (x ∷ filter p xs) (filter p xs)) ∙ ap (λ r. x ∷ r) (filter_whole p xs (λ y c. h y (suc c.0, omega (arith, c.1), c.2)))
+
 entries_are : (home : ℕ → ℕ) (es : List ℕ) (l : RingLists) (v : ℕ) → (lists_without_all home es l).entries v ≡ dropped es (l.entries v)
 entries_are home [] l v = refl
 entries_are home (e ∷ es) l v = entries_are home es (lists_without (home e) e l) v
 
 dropped_is : (es xs : List ℕ) → dropped es xs ≡ filter (keeps es) xs
-dropped_is [] xs = sym (all_kept xs)
-  where
-    all_kept : (xs : List ℕ) → filter (keeps []) xs ≡ xs
-    all_kept [] = refl
-    all_kept (x ∷ xs) = ap (λ r. x ∷ r) (all_kept xs)
+dropped_is [] xs = sym (filter_whole (keeps []) xs (λ x c. refl))
 dropped_is (e ∷ es) xs = dropped_is es (without e xs) ∙ filter_twice (λ y. not (y == e)) (keeps es) xs
-
-filter_same : (p q : ℕ → Bool) (xs : List ℕ) → ((x : ℕ) → Contains xs x → p x ≡ q x) → filter p xs ≡ filter q xs
-filter_same p q [] h = refl
-filter_same p q (x ∷ xs) h =
-    (λ i. cond (h x (zero, omega arith, refl) i) (x ∷ filter_same p q xs (λ y c. h y (suc c.0, omega (arith, c.1), c.2)) i) (filter_same p q xs (λ y c. h y (suc c.0, omega (arith, c.1), c.2)) i))
 
 -- what is kept: what is not listed
 keeps_not : (es : List ℕ) (y : ℕ) → (Contains es y → ⊥) → keeps es y ≡ true
@@ -97,11 +97,7 @@ full-after g l a e st pr full c w hc cw = go (is_empty (without e (l.entries (ho
 
 vertices_are : (g : Shape) (es : List ℕ) (l : RingLists) (a : Arrays) → StandFor g l a → Distinct es → AllPresent g l a es → AreFull g l → (c : ℕ) → c < g.count
     → (lists_without_all (home_of a) es l).vertices c ≡ filter (λ v. not (is_empty (dropped es (l.entries v)))) (l.vertices c)
-vertices_are g [] l a st d pr full c hc = sym (all_kept (l.vertices c) (λ v cv. full c v hc cv))
-  where
-    all_kept : (vs : List ℕ) → ((v : ℕ) → Contains vs v → is_empty (l.entries v) ≡ false) → filter (λ v. not (is_empty (l.entries v))) vs ≡ vs
-    all_kept [] h = refl
-    all_kept (v ∷ vs) h = (λ i. cond (not (h v (zero, omega arith, refl) i)) (v ∷ all_kept vs (λ w cw. h w (suc cw.0, omega (arith, cw.1), cw.2)) i) (all_kept vs (λ w cw. h w (suc cw.0, omega (arith, cw.1), cw.2)) i))
+vertices_are g [] l a st d pr full c hc = sym (filter_whole (λ v. not (is_empty (l.entries v))) (l.vertices c) (λ v cv. ap not (full c v hc cv)))
 vertices_are g (e ∷ es) l a st d pr full c hc =
     vertices_are g es (lists_without (home_of a e) e l) (take e a) (stands-take g l a e st pr.0) d.1 (all-after g l a e es d.0 pr.1) (full-after g l a e st pr.0 full) c hc
     ∙ go (is_empty (without e (l.entries (home_of a e)))) refl

@@ -1,6 +1,5 @@
 -- The flags of the linked planes.
-use Rattle.std.proofs.Common.{rules}
-use Rattle.std.proofs.Common.{◌≡◌, ◌≢◌, ⊎_elim, ℕ, ◌+◌, ◌-◌, ◌<◌, arith, ap, sym, subst, ◌∙◌, List, [], ◌∷◌, ◌++◌, length, get_or, set, take, Bool, true, false, not, ◌&&◌, eq-eqb}
+use Rattle.std.proofs.Common.{rules, ◌≡◌, ◌≢◌, ⊎_elim, ℕ, ◌+◌, ◌-◌, ◌<◌, arith, ap, sym, subst, ◌∙◌, List, [], ◌∷◌, ◌++◌, length, get_or, set, take, Bool, true, false, not, ◌&&◌, eq-eqb}
 use Rattle.std.proofs.Math.ListN.{length-set}
 use Rattle.std.proofs.lemmas.List.{get_or-set_other, take_more_set}
 use Rattle.std.proofs.lemmas.Grind.{get_or-set_at}

@@ -27,11 +27,8 @@ use Rattle.staat_ring.specs.Order.{HasEntryOfPlane, IsTransitive, CrossesBefore,
 use Rattle.staat_ring.specs.Rings.{facet_by}
 use Rattle.staat_planes.specs.PairOrder.{plane_at}
 use Rattle.staat_ring.proofs.NextVertexWithout.{IsPoint, same_ray}
-use Rattle.staat_ring.proofs.Content.{content_divides}
-use Rattle.staat_ring.proofs.Sides.{side_is}
-use Rattle.staat_ring.proofs.Steps.{primitive_on}
-use Rattle.staat_ring.proofs.TurnOrder.{turn_back, turn_negative_right, turn_same, turn_trans}
-use Rattle.staat_ring.proofs.Turns.{turn}
+use Rattle.staat_ring.proofs.Steps.{content_divides, side_is, primitive_on}
+use Rattle.staat_ring.proofs.TurnOrder.{turn_back, turn_negative_right, turn_same, turn_trans, turn}
 
 positive_by : (a b : ℤ) → sign a ≡ sign b → pos 0 <ℤ b → pos 0 <ℤ a
 positive_by a b e h = sign_positive a (e ∙ positive_sign b h)

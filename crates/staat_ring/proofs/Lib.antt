@@ -1,7 +1,4 @@
-pub mod Mapped
-pub mod Content
 pub mod TurnOrder
-pub mod Sides
 pub mod Steps
 pub mod Stops
 pub mod Ordering
@@ -23,7 +20,6 @@ pub mod Filters
 pub mod RingLemmas
 pub mod SoundLemmas
 pub mod Unlinking
-pub mod Appending
 pub mod Rows
 pub mod Numbering
 pub mod RowRules
@@ -41,16 +37,10 @@ pub mod ArcLaw
 pub mod PushLemmas
 pub mod IndexLemmas
 pub mod PairNumbers
-pub mod Walking
 pub mod StopSigns
 pub mod SignAll
 pub mod CircleStops
 pub mod StopLemmas
 pub mod WholeCircles
-pub mod Entering
 pub mod CrossSteps
 pub mod Strength
-pub mod Turns
-pub mod Taking
-pub mod Ends
-pub mod ListsWithout

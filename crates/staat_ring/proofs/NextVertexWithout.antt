@@ -7,12 +7,10 @@ use Rattle.staat_vec.specs.Vectors.{cross, dot, minus, negative, origin}
 use Rattle.staat_vec.proofs.Primitives.{parallel_primitives}
 use Rattle.staat_vec.proofs.Ring.{◌⊕◌, ◌⊗◌, ring}
 use Rattle.staat_vec.proofs.VecRing.{crossE, dotE, same_vector, scale, v0, v1, values}
-use Rattle.staat_ring.proofs.Turns.{turn}
-use Rattle.staat_ring.proofs.TurnOrder.{turn_back, turn_negative_left, turn_negative_right}
+use Rattle.staat_ring.proofs.TurnOrder.{turn, turn_back, turn_negative_left, turn_negative_right}
 use Rattle.staat_vec.proofs.Integers.{positive_not_zero, zero_or}
 use Rattle.staat_vec.proofs.Canons.{negative-negative}
 use Rattle.staat_vec.proofs.VectorLaws.{cross_twice, no_multiples, some_square}
-use Rattle.staat_ring.proofs.Walking.{back_negative}
 
 -- Lagrange
 sizes : (g x : V3) → dot x x *ℤ dot g g ≡ dot x g *ℤ dot x g +ℤ dot (cross g x) (cross g x)
@@ -48,6 +46,9 @@ pub three : (a : ℤ) → (pos 0 <ℤ a) ⊎ ((a ≡ pos 0) ⊎ (a <ℤ pos 0))
 three (pos zero) = inr (inl refl)
 three (pos (suc n)) = inl (omega (arith, ints))
 three (negsuc n) = inr (inr (omega (arith, ints)))
+
+back_negative : (g u v : V3) → pos 0 <ℤ turn g u v → turn g v u <ℤ pos 0
+back_negative g u v h = let e = turn_back g u v in omega (arith, ints)
 
 back_positive : (g a b : V3) → turn g a b <ℤ pos 0 → pos 0 <ℤ turn g b a
 back_positive g a b h = let e = turn_back g b a in omega (arith, ints)

@@ -1,7 +1,6 @@
 -- The numbers of entries, of heads and of vertices: each tells its circle, and an entry its plane and its sense, and stands
 -- at one stop of its circle.
-use Rattle.std.proofs.Common.{rules}
-use Rattle.std.proofs.Common.{◌≡◌, ℕ, ◌+◌, ◌*◌, ◌/◌, ◌<◌, ◌≤◌, sym, ap, ◌∙◌, arith, refl, Bool, true, false, if◌then◌else◌, zero, [], ◌∷◌, List, All, Contains, eq-eqb}
+use Rattle.std.proofs.Common.{rules, ◌≡◌, ℕ, ◌+◌, ◌*◌, ◌/◌, ◌<◌, ◌≤◌, sym, ap, ◌∙◌, arith, refl, Bool, true, false, if◌then◌else◌, zero, [], ◌∷◌, List, All, Contains, eq-eqb}
 use Rattle.std.proofs.Math.Nat.{add-mod_left, mod-eq_of_lt, mul-le-mul}
 use Rattle.std.proofs.lemmas.Nat.{div-mul-add}
 use Rattle.staat_ring.specs.RingViews.{shape}

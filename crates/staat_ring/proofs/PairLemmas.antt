@@ -1,6 +1,5 @@
 -- One pair is written: how many pairs of its parts block, and how many of its facets are positive.
-use Rattle.std.proofs.Common.{rules}
-use Rattle.std.proofs.Common.{◌≡◌, ⊎_elim, ℕ, zero, suc, ◌+◌, ◌<◌, ◌≤◌, Bool, true, ◌&&◌, arith, ap, sym, subst, ◌∙◌, refl, List, length, take, get_or, set, cond, eq-eqb, get_or-set_other, get_or-set_same, length-set}
+use Rattle.std.proofs.Common.{rules, ◌≡◌, ⊎_elim, ℕ, zero, suc, ◌+◌, ◌<◌, ◌≤◌, Bool, true, ◌&&◌, arith, ap, sym, subst, ◌∙◌, refl, List, length, take, get_or, set, cond, eq-eqb, get_or-set_other, get_or-set_same, length-set}
 use Rattle.std.specs.Prelude.{IsTrue, ◌↔◌, ◌==◌, slice_index, slice_set, replicate}
 use Rattle.std.proofs.lemmas.List.{length-replicate}
 use Rattle.std.proofs.lemmas.List.Sums.{sum_by-cons, sum_by-set, get_or-le-sum_by, count_by_more_yes, sum_by-take-le}

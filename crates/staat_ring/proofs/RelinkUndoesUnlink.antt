@@ -1,9 +1,25 @@
--- Putting back undoes taking out.
-use Rattle.std.proofs.Common.{rules}
-use Rattle.std.proofs.Common.{◌≡◌, ℕ, refl, sym, ap, ◌∙◌, List, [], ◌∷◌, Bool, true, false, get_or, set, if◌then◌else◌}
+-- When an entry can be taken out, and that putting it back undoes it.
+use Rattle.std.proofs.Common.{rules, ◌≡◌, ℕ, refl, sym, ap, ◌∙◌, List, [], ◌∷◌, Bool, true, false, get_or, set, if◌then◌else◌}
 use Rattle.std.proofs.lemmas.List.{set-get_or, get_or-set_other, set-set}
-use Rattle.staat_ring.specs.Links.{Links, unlink, relink, Arrays, take, give, take_all, give_all}
-use Rattle.staat_ring.proofs.Taking.{CanTakeAll, CanTake, IsBetween}
+use Rattle.staat_ring.specs.Links.{Links, unlink, relink, Arrays, take, give, take_all, give_all, is_bare}
+use Rattle.std.specs.Prelude.{◌≢◌, slice_index}
+
+-- the neighbours of x are other nodes, and point back at it
+pub record IsBetween (s : Links) (x : ℕ) : Type 0 where
+  pub back : slice_index s.next (slice_index s.prev x) ≡ x
+  pub forth : slice_index s.prev (slice_index s.next x) ≡ x
+  pub left : x ≢ slice_index s.prev x
+  pub right : x ≢ slice_index s.next x
+
+-- the entry stands between two nodes, and so does its vertex where the entry is its last
+pub record CanTake (e : ℕ) (a : Arrays) : Type 0 where
+  pub entry : IsBetween a.vertices e
+  pub vertex : is_bare (unlink e a.vertices) (slice_index a.home e) ≡ true
+      → IsBetween a.circles (slice_index a.home e)
+
+abbrev pub CanTakeAll : List ℕ → Arrays → Type 0
+CanTakeAll [] a = Unit {0}
+CanTakeAll (e ∷ es) a = CanTake e a × CanTakeAll es (take e a)
 
 -- writing back what stood there
 written_back : (l : List ℕ) (i i' u x : ℕ) → i' ≡ i → get_or l i 0 ≡ x → set (set l i u) i' x ≡ l

@@ -1,20 +1,19 @@
 -- The view without a plane.
-use Rattle.std.proofs.Common.{◌≡◌, ℕ, zero, suc, ◌<◌, refl, sym, ap, ◌∙◌, arith, List, [], ◌∷◌, ◌++◌, map, Bool, true, false, not, ◌||◌, ◌&&◌, cond, eqb, Contains}
+use Rattle.std.proofs.Common.{◌≡◌, ℕ, zero, suc, ◌<◌, refl, sym, ap, ◌∙◌, arith, List, [], ◌∷◌, ◌++◌, map, Bool, true, false, not, ◌||◌, ◌&&◌, cond, eqb, Contains, ⊎_elim}
 use Rattle.std.specs.List.{filter}
 use Rattle.std.specs.Prelude.{◌==◌}
 use Rattle.std.proofs.lemmas.Bool.Decides.{nat_tests}
 use Rattle.staat_ring.specs.Stands.{RingLists, is_empty}
-use Rattle.staat_ring.proofs.ListsWithout.{lists_without_plane, AreSame}
-use Rattle.staat_ring.specs.RingViews.{shape, is_out, numbers_below, ring_of, rings_of}
+use Rattle.staat_ring.proofs.WithoutNumber.{lists_without_plane, AreSame}
+use Rattle.staat_ring.specs.RingViews.{shape, is_out, numbers_below, ring_of, rings_of, still_linked}
 use Rattle.staat_ring.specs.Numbered.{entry_numbered, plane_of}
 use Rattle.staat_ring.specs.declared.entry.Entry.{Entry}
 use Rattle.staat_ring.specs.Rings.{RingStop}
 use Rattle.staat_ring.specs.Without.{has_some, other_than, stays, stop_without, ring_without, rings_without}
 use Rattle.std.proofs.lemmas.List.Elements.{Contains-push_cases, filter_agree}
-use Rattle.std.proofs.Common.{⊎_elim}
 use Rattle.staat_vec.proofs.ListLaws.{filter_inside, filter_twice, map_twice}
 
-map_filter : {X Y : Type 0} (f : X → Y) (test : Y → Bool) (xs : List X) → filter test (map f xs) ≡ map f (filter (λ x. test (f x)) xs)
+pub map_filter : {X Y : Type 0} (f : X → Y) (test : Y → Bool) (xs : List X) → filter test (map f xs) ≡ map f (filter (λ x. test (f x)) xs)
 map_filter f test [] = refl
 map_filter f test (x ∷ xs) = step (test (f x)) (map_filter f test xs)
   where
@@ -79,17 +78,18 @@ module _ (n p : ℕ) (l : RingLists) (c : ℕ) where
   ring-without : ring_of n (lists_without_plane (plane_of n) p l) c ≡ ring_without p (ring_of n l c)
   ring-without = λ i. record { plane = c; stops = sym stops i }
 
+-- the planes that are linked still
+pub still_without : (n p : ℕ) (out : List ℕ) → still_linked n (out ++ p ∷ []) ≡ filter (λ c. not (c == p)) (still_linked n out)
+still_without n p out =
+    filter_agree (λ c. not (is_out (out ++ p ∷ []) c)) (λ c. not (is_out out c) && not (c == p)) (λ c. listed-push out p c ∙ ap (λ b. not (is_out out c) && not b) (eqb_turned p c)) (numbers_below n)
+    ∙ sym (filter_twice (λ c. not (is_out out c)) (λ c. not (c == p)) (numbers_below n))
+
 pub rings-without : (n p : ℕ) (out : List ℕ) (l : RingLists) → rings_of n (out ++ p ∷ []) (lists_without_plane (plane_of n) p l) ≡ rings_without p (rings_of n out l)
 rings-without n p out l =
-    ap (λ cs. map (ring_of n (lists_without_plane (plane_of n) p l)) cs) planes
-    ∙ (map_same (ring_of n (lists_without_plane (plane_of n) p l)) (λ c. ring_without p (ring_of n l c)) (filter (λ c. not (c == p)) (filter (λ c. not (is_out out c)) (numbers_below n))) (λ c _. ring-without n p l c)
-    ∙ (sym (map_twice (ring_without p) (ring_of n l) (filter (λ c. not (c == p)) (filter (λ c. not (is_out out c)) (numbers_below n))))
-    ∙ ap (map (ring_without p)) (sym (map_filter (ring_of n l) (λ r. not (r.plane == p)) (filter (λ c. not (is_out out c)) (numbers_below n))))))
-  where
-    planes : filter (λ c. not (is_out (out ++ p ∷ []) c)) (numbers_below n) ≡ filter (λ c. not (c == p)) (filter (λ c. not (is_out out c)) (numbers_below n))
-    planes =
-        filter_agree (λ c. not (is_out (out ++ p ∷ []) c)) (λ c. not (is_out out c) && not (c == p)) (λ c. listed-push out p c ∙ ap (λ b. not (is_out out c) && not b) (eqb_turned p c)) (numbers_below n)
-        ∙ sym (filter_twice (λ c. not (is_out out c)) (λ c. not (c == p)) (numbers_below n))
+    ap (λ cs. map (ring_of n (lists_without_plane (plane_of n) p l)) cs) (still_without n p out)
+    ∙ (map_same (ring_of n (lists_without_plane (plane_of n) p l)) (λ c. ring_without p (ring_of n l c)) (filter (λ c. not (c == p)) (still_linked n out)) (λ c _. ring-without n p l c)
+    ∙ (sym (map_twice (ring_without p) (ring_of n l) (filter (λ c. not (c == p)) (still_linked n out)))
+    ∙ ap (map (ring_without p)) (sym (map_filter (ring_of n l) (λ r. not (r.plane == p)) (still_linked n out)))))
 
 -- lists that agree give the same rings
 pub below_small : (n c : ℕ) → Contains (numbers_below n) c → c < n

@@ -1,6 +1,5 @@
 -- Going round a ring.
-use Rattle.std.proofs.Common.{rules}
-use Rattle.std.proofs.Common.{◌≡◌, ◌≢◌, ⊎_elim, ℕ, zero, suc, ◌+◌, ◌<◌, ◌≤◌, arith, ap, sym, subst, ◌∙◌, not, List, [], ◌∷◌, ◌++◌, length, get_or, take, Contains, Bool, true, false}
+use Rattle.std.proofs.Common.{rules, ◌≡◌, ◌≢◌, ⊎_elim, ℕ, zero, suc, ◌+◌, ◌<◌, ◌≤◌, arith, ap, sym, subst, ◌∙◌, not, List, [], ◌∷◌, ◌++◌, length, get_or, take, Contains, Bool, true, false}
 use Rattle.std.specs.Prelude.{map, nat_lt}
 use Rattle.std.proofs.lemmas.Bool.Decides.{nat_tests}
 use Rattle.std.specs.List.{filter}
@@ -10,12 +9,12 @@ use Rattle.staat_ring.specs.Links.{Arrays, Chain, Links, IsLinkedRing}
 use Rattle.staat_ring.specs.RingInvariant.{AreFlags, HaveTakenOut}
 use Rattle.staat_ring.specs.RingViews.{StandForCircles, arrangement_of, numbers_below, is_out, ring_of, shape, still_linked}
 use Rattle.staat_ring.specs.Numbered.{entry_numbered, head_number}
-use Rattle.staat_ring.specs.Rings.{Arrangement, RingStop, linked_of}
+use Rattle.staat_ring.specs.Rings.{Arrangement, linked_of}
 use Rattle.staat_ring.specs.Rings as rings
 use Rattle.staat_ring.specs.Stands.{IsRing, IsShortRing}
 use Rattle.staat_ring.proofs.Numbering.{head_small}
 use Rattle.staat_ring.specs.Views.{lists_of}
-use Rattle.staat_ring.proofs.Mapped.{from_apart}
+use Rattle.staat_ring.proofs.WithoutNumber.{from_apart}
 use Rattle.staat_ring.proofs.RingLemmas.{below_small}
 use Rattle.staat_ring.proofs.Unlinking.{linked_plane, planes_of_rings, sound_is_good}
 use Rattle.staat_ring.proofs.Built.{below_all}

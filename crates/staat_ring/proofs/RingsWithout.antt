@@ -1,32 +1,28 @@
 -- Without a plane that is no axis, rings are the rings of the other linked planes.
-use Rattle.std.proofs.Common.{◌≡◌, ◌≢◌, ◌⊎◌, inl, inr, ⊎_elim, ℕ, zero, suc, ◌+◌, ◌%◌, Bool, true, false, not, arith, ap, sym, subst, ◌∙◌, refl, List, ◌∷◌, length, All, Contains, ℤ, pos, negsuc, ◌*ℤ◌, ◌<ℤ◌, ◌<◌, ◌≤◌, [], cond, ◌++◌, get_or, length-append}
+use Rattle.std.proofs.Common.{◌≡◌, ◌≢◌, ◌⊎◌, inl, inr, ⊎_elim, ℕ, zero, suc, ◌+◌, ◌%◌, true, false, not, arith, ap, sym, subst, ◌∙◌, refl, List, ◌∷◌, length, All, Contains, pos, ◌*ℤ◌, ◌<ℤ◌, ◌<◌, ◌≤◌, [], cond, ◌++◌, get_or, length-append}
 use Rattle.std.specs.Prelude.{◌==◌, Some, map, slice_get}
 use Rattle.std.specs.List.{filter}
 use Rattle.std.proofs.lemmas.Int.{ints}
 use Rattle.std.proofs.lemmas.List.{length-map, get_or_append_left}
 use Rattle.std.proofs.lemmas.List.Elements.{All-contains, Contains-append_left, Contains-push}
-use Rattle.std.proofs.lemmas.Option.{get_or_from_slice_get, same_Some, slice_get_within, slice_get-get_or}
+use Rattle.std.proofs.lemmas.Option.{same_Some, slice_get_within, slice_get-get_or}
 use Rattle.staat_vec.specs.declared.vector.V3.{V3}
 use Rattle.staat_vec.specs.Primitives.{primitive}
-use Rattle.staat_vec.specs.Vectors.{cross, dot, negative, origin, vector}
-use Rattle.staat_vec.proofs.Canons.{negative-negative}
+use Rattle.staat_vec.specs.Vectors.{cross, dot, negative, origin}
 use Rattle.staat_vec.proofs.Primitives.{IsPrimitive-negative, IsPrimitive-some, primitive-is}
-use Rattle.staat_model.specs.Circles.{IsCircle, IsLinked, IsNext, IsOnCircle, PassesThrough, Stop, IsAfter, axis_beside}
-use Rattle.staat_ring.specs.declared.entry.Entry.{Entry}
-use Rattle.staat_ring.specs.Rings.{IsRingOf, Ring, RingStop, crossing, stop_of, vertex_of, facet_by, linked_of, AreRings}
-use Rattle.staat_ring.proofs.Stops.{AreLinkedApart, stop_there, none_parallel}
-use Rattle.staat_ring.proofs.Turns.{turn}
-use Rattle.staat_planes.specs.PairOrder.{plane_at}
+use Rattle.staat_model.specs.Circles.{IsLinked, IsNext, IsOnCircle, PassesThrough, Stop, IsAfter, axis_beside}
+use Rattle.staat_ring.specs.Rings.{IsRingOf, Ring, RingStop, stop_of, vertex_of, linked_of, AreRings}
+use Rattle.staat_ring.proofs.Stops.{AreLinkedApart, none_parallel}
+use Rattle.staat_ring.proofs.CircleFromHalf.{crossing_turned}
+use Rattle.staat_ring.proofs.CircleStops as circle
+use Rattle.staat_ring.proofs.TurnOrder.{turn, turnE, turn_same}
 use Rattle.staat_ring.specs.Without.{stays, other_than, ring_without, stop_without, rings_without}
 use Rattle.staat_ring.proofs.Cycles.{Around, around_filter}
-use Rattle.staat_ring.proofs.Sides.{whole, turn_is_side}
+use Rattle.staat_ring.proofs.Steps.{whole, turn_is_side, on_plane}
 use Rattle.staat_ring.proofs.NextVertexWithout.{IsPoint, nothing_kept, still_after}
-use Rattle.staat_ring.proofs.Steps.{on_plane}
-use Rattle.staat_ring.proofs.TurnOrder.{turn_negative_left, turn_negative_right, turn_same}
 use Rattle.staat_ring.proofs.WithoutLemmas.{filter_from, filter_in, leaves_by, stays_by, stays_has, Different, agree_without, different_filter, vertex_stays}
-use Rattle.staat_vec.proofs.VectorLaws.{cross_origin, some_square}
 use Rattle.staat_vec.proofs.Truth.{false_true_clash}
-use Rattle.staat_vec.proofs.Integers.{positive_not_zero, mul-zero_ℤ, zero_or}
+use Rattle.staat_vec.proofs.Integers.{positive_not_zero, mul-zero_ℤ, other_factor_zero, zero_or}
 use Rattle.staat_vec.proofs.Naturals.{apart_from_test, eq_test_false, zero_not_suc, suc_same, same_or}
 use Rattle.staat_vec.proofs.Unique.{from_place, Contains-front}
 use Rattle.staat_vec.proofs.ListLaws.{Contains-map, Contains-from_map, map_twice, place_in_map, map_at_place, place_of}
@@ -34,9 +30,10 @@ use Rattle.std.specs.Ordering.{nat_cmp}
 use Rattle.std.proofs.lemmas.List.Kept.{IsStrictlySortedBy-filter}
 use Rattle.staat_vec.specs.Lists.{Lists, ListsOnce}
 use Rattle.staat_model.proofs.Members.{All-from_members}
-use Rattle.staat_ring.proofs.RingLemmas.{map_same}
-use Rattle.staat_ring.proofs.HalfTurn.{axis_differs}
-use Rattle.staat_vec.proofs.VecRing.{same_vector}
+use Rattle.staat_ring.proofs.RingLemmas.{map_filter, map_same}
+use Rattle.staat_ring.proofs.HalfTurn.{axis_differs, some_normal, unit}
+use Rattle.staat_vec.proofs.Ring.{num, ring}
+use Rattle.staat_vec.proofs.VecRing.{negativeE, same_vector, v0, v1, values}
 use Rattle.staat_model.specs.Planes.{axes}
 use Rattle.staat_pairs.specs.Tables.{AreTablePlanes}
 
@@ -52,16 +49,9 @@ record NextBy (P : V3 → Type 0) (g v w : V3) : Type 0 where
 -- of two vectors on one line neither is turned from the other
 line_turn : (g q x y : V3) → (x ≡ q) ⊎ (x ≡ negative q) → (y ≡ q) ⊎ (y ≡ negative q) → turn g x y ≡ pos 0
 line_turn g q x y (inl a) (inl b) = (λ i. turn g (a i) (b i)) ∙ turn_same g q
-line_turn g q x y (inl a) (inr b) =
-    (λ i. turn g (a i) (b i))
-    ∙ (let t = turn_negative_right g q q in let s = turn_same g q in omega (arith, ints))
-line_turn g q x y (inr a) (inl b) =
-    (λ i. turn g (a i) (b i))
-    ∙ (let t = turn_negative_left g q q in let s = turn_same g q in omega (arith, ints))
-line_turn g q x y (inr a) (inr b) =
-    (λ i. turn g (a i) (b i))
-    ∙ (let t = turn_negative_left g q (negative q) in let u = turn_negative_right g q q in
-    let s = turn_same g q in omega (arith, ints))
+line_turn g q x y (inl a) (inr b) = (λ i. turn g (a i) (b i)) ∙ ring (values (g ∷ q ∷ []) []) (turnE v0 v1 (negativeE v1)) (num (pos 0)) tt
+line_turn g q x y (inr a) (inl b) = (λ i. turn g (a i) (b i)) ∙ ring (values (g ∷ q ∷ []) []) (turnE v0 (negativeE v1) v1) (num (pos 0)) tt
+line_turn g q x y (inr a) (inr b) = (λ i. turn g (a i) (b i)) ∙ turn_same g (negative q)
 
 -- ---- each once
 
@@ -85,14 +75,6 @@ once_of_different f (x ∷ xs) h (suc k) zero y p q = let (z, at, e) = place_in_
 once_of_different f (x ∷ xs) h (suc k) (suc m) y p q = ap suc (once_of_different f xs h.1 k m y p q)
 
 -- ---- entries and planes
-
-filter_planes : (p : ℕ) (es : List Entry) → map (λ e. e.plane) (filter (other_than p) es) ≡ filter (λ k. not (k == p)) (map (λ e. e.plane) es)
-filter_planes p [] = refl
-filter_planes p (e ∷ es) = go (not (e.plane == p)) (filter_planes p es)
-  where
-    go : (b : Bool) → map (λ e. e.plane) (filter (other_than p) es) ≡ filter (λ k. not (k == p)) (map (λ e. e.plane) es) → map (λ e. e.plane) (cond b (e ∷ filter (other_than p) es) (filter (other_than p) es)) ≡ cond b (e.plane ∷ filter (λ k. not (k == p)) (map (λ e. e.plane) es)) (filter (λ k. not (k == p)) (map (λ e. e.plane) es))
-    go true r = ap (λ q. e.plane ∷ q) r
-    go false r = r
 
 beside_small : (c : ℕ) → axis_beside c < 3
 beside_small zero = omega arith
@@ -123,26 +105,13 @@ module _ (planes : List V3) (linked : List ℕ) (r : Ring) (p : ℕ) (apart : Ar
   link_back : (j : ℕ) (h : V3) → IsLinked planes linked j h → j ≢ p → IsLinked planes (planes_without p linked) j h
   link_back j h l ne = record { listed = filter_in (λ k. not (k == p)) linked j l.listed (ap not (eq_test_false j p ne)); is = l.is }
 
-  kept_whole : (x : V3) → Kept x → Whole x
+  abbrev kept_whole : (x : V3) → Kept x → Whole x
   kept_whole x k = record { other = k.other; h = k.h; other_is = (link_of k.other k.h k.other_is).0; different = k.different; is = k.is }
-
-  turned : (x y : V3) → (x ≡ y) ⊎ (x ≡ negative y) → (negative x ≡ y) ⊎ (negative x ≡ negative y)
-  turned x y (inl e) = inr (ap negative e)
-  turned x y (inr e) = inl (ap negative e ∙ negative-negative y)
-
-  whole_turned : (x : V3) → Whole x → Whole (negative x)
-  whole_turned x w = record { other = w.other; h = w.h; other_is = w.other_is; different = w.different; is = turned x (primitive (cross g w.h)) w.is }
-
-  kept_turned : (x : V3) → Kept x → Kept (negative x)
-  kept_turned x w = record { other = w.other; h = w.h; other_is = w.other_is; different = w.different; is = turned x (primitive (cross g w.h)) w.is }
-
-  flat : (h : V3) (j : ℕ) → IsLinked planes linked j h → j ≢ c → cross g h ≢ origin
-  flat h j hj ne = apart.apart c j g h is.circle.g_is hj (λ q. ne (sym q))
 
   point : (x : V3) → Whole x → IsPoint g x
   point x w = record {
     on = on_plane planes linked c g x apart is.circle.g_is w;
-    primitive = (let u = (primitive-is (cross g w.h) (flat w.h w.other w.other_is w.different)).primitive in
+    primitive = (let u = (primitive-is (cross g w.h) (circle.flat planes linked r apart is x w)).primitive in
         ⊎_elim {C = Rattle.staat_vec.specs.Primitives.IsPrimitive x} (λ e. subst Rattle.staat_vec.specs.Primitives.IsPrimitive (sym e) u) (λ e. subst Rattle.staat_vec.specs.Primitives.IsPrimitive (sym e) (IsPrimitive-negative (primitive (cross g w.h)) u)) w.is);
   }
 
@@ -152,74 +121,36 @@ module _ (planes : List V3) (linked : List ℕ) (r : Ring) (p : ℕ) (apart : Ar
       let pt = point v (kept_whole v kv) in
       let (a, h, ha, np, nc, some) = axis v (IsPrimitive-some v pt.primitive) pt.on in
       let u : V3 = cross g h in
-      let f = flat h a ha nc in (
+      let f = apart.apart c a g h is.circle.g_is ha (λ q. nc (sym q)) in (
         primitive u,
         record { other = a; h = h; other_is = link_back a h ha np; different = nc; is = inl refl },
-        λ z. product (dot h v) (dot g g) some (some_square g (λ e. f (ap (λ y. cross y h) e ∙ cross_origin h))) (sym (turn_is_side g h v pt.on) ∙ (whole g v u f ∙ (ap (λ t. pos (Rattle.staat_vec.specs.Primitives.content u) *ℤ t) z ∙ mul-zero_ℤ (pos (Rattle.staat_vec.specs.Primitives.content u))))),
+        λ z. positive_not_zero (dot g g) (some_normal g h f) (other_factor_zero (dot h v) (dot g g) some (sym (turn_is_side g h v pt.on) ∙ (whole g v u f ∙ (ap (λ t. pos (Rattle.staat_vec.specs.Primitives.content u) *ℤ t) z ∙ mul-zero_ℤ (pos (Rattle.staat_vec.specs.Primitives.content u)))))),
       )
-    where
-      product : (a b : ℤ) → a ≢ pos 0 → pos 0 <ℤ b → a *ℤ b ≡ pos 0 → ⊥
-      product (pos zero) b na pb e = na refl
-      product (pos (suc a)) (pos zero) na pb e = absurd pb.lt
-      product (pos (suc a)) (pos (suc b)) na pb e = absurd (omega (arith, ints))
-      product (pos (suc a)) (negsuc b) na pb e = absurd pb.lt
-      product (negsuc a) (pos zero) na pb e = absurd pb.lt
-      product (negsuc a) (pos (suc b)) na pb e = absurd (omega (arith, ints))
-      product (negsuc a) (negsuc b) na pb e = absurd pb.lt
 
   -- ---- stops and vertices
 
   abbrev stops : List Stop
   stops = map (stop_of planes c) r.stops
 
-  there : (s : RingStop) → Contains r.stops s → Contains stops (stop_of planes c s)
-  there s cs = Contains-map (stop_of planes c) r.stops s cs
-
-  pass : (s : RingStop) → Contains r.stops s → Rattle.staat_vec.specs.Lists.Lists Rattle.std.specs.Ordering.nat_cmp (PassesThrough planes linked c (vertex s)) (map (λ e. e.plane) s.entries)
-  pass s cs = All-contains (λ s. Rattle.staat_vec.specs.Lists.Lists Rattle.std.specs.Ordering.nat_cmp (PassesThrough planes linked c s.vertex) s.through) stops (stop_of planes c s) is.circle.through (there s cs)
+  pass : (s : RingStop) → Contains r.stops s → Lists nat_cmp (PassesThrough planes linked c (vertex s)) (map (λ e. e.plane) s.entries)
+  pass s cs = circle.pass planes linked r apart is s cs
 
   whole_at : (s : RingStop) → Contains r.stops s → Whole (vertex s)
-  whole_at s cs = is.circle.vertices.each (vertex s) (Contains-map (λ s. s.vertex) stops (stop_of planes c s) (there s cs))
-
-  agree_at : (s : RingStop) (e : Entry) → Contains r.stops s → Contains s.entries e → crossing planes c e ≡ vertex s
-  agree_at s e cs ce = All-contains (λ e. crossing planes c e ≡ vertex s) s.entries e (All-contains (λ s. All (λ e. crossing planes c e ≡ vertex_of planes c s.entries) s.entries) r.stops s is.agree cs) ce
-
-  normal_is : plane_at planes c ≡ g
-  normal_is = get_or_from_slice_get planes c g origin is.circle.g_is.is
-
-  way : (h : V3) (e : Entry) → plane_at planes e.plane ≡ h → (crossing planes c e ≡ primitive (cross g h)) ⊎ (crossing planes c e ≡ negative (primitive (cross g h)))
-  way h e q = by e.turned
-    where
-      u_is : primitive (cross (plane_at planes c) (plane_at planes e.plane)) ≡ primitive (cross g h)
-      u_is = λ i. primitive (cross (normal_is i) (q i))
-
-      by : (b : Bool) → (facet_by b (primitive (cross (plane_at planes c) (plane_at planes e.plane))) ≡ primitive (cross g h)) ⊎ (facet_by b (primitive (cross (plane_at planes c) (plane_at planes e.plane))) ≡ negative (primitive (cross g h)))
-      by false = inl u_is
-      by true = inr (ap negative u_is)
-
-  entry_way : (s : RingStop) (e : Entry) → Contains r.stops s → Contains s.entries e → (h : V3) → IsLinked planes linked e.plane h → (vertex s ≡ primitive (cross g h)) ⊎ (vertex s ≡ negative (primitive (cross g h)))
-  entry_way s e cs ce h hi =
-      let q = agree_at s e cs ce in
-      ⊎_elim {C = (vertex s ≡ primitive (cross g h)) ⊎ (vertex s ≡ negative (primitive (cross g h)))} (λ a. inl (sym q ∙ a)) (λ b. inr (sym q ∙ b)) (way h e (get_or_from_slice_get planes e.plane h origin hi.is))
+  whole_at s cs = circle.on_circle planes linked r apart is s cs
 
   kept_of_stays : (s : RingStop) → Contains r.stops s → stays p s ≡ true → Kept (vertex s)
   kept_of_stays s cs h =
       let (e, fe, ce, ne) = stays_has p s h in
       let q = (pass s cs).each e.plane (Contains-map (λ e. e.plane) s.entries e ce) in
-      record { other = e.plane; h = q.h; other_is = link_back e.plane q.h q.linked_is ne; different = q.different; is = entry_way s e cs ce q.h q.linked_is }
+      record { other = e.plane; h = q.h; other_is = link_back e.plane q.h q.linked_is ne; different = q.different; is = subst (λ v. (v ≡ primitive (cross g q.h)) ⊎ (v ≡ negative (primitive (cross g q.h)))) (circle.entry_vertex planes linked r apart is s e cs ce) (circle.crossing_on planes linked r apart is e q.h q.linked_is q.different).is }
 
   stays_of_kept : (s : RingStop) → Contains r.stops s → Kept (vertex s) → stays p s ≡ true
   stays_of_kept s cs k =
       let l = link_of k.other k.h k.other_is in
-      let on : dot k.h (vertex s) ≡ pos 0 = on_other k.h (vertex s) k.is (flat k.h k.other l.0 k.different) in
+      let on = circle.on_other planes linked r apart is (vertex s) (kept_whole (vertex s) k) in
       let c' = (pass s cs).all k.other (record { h = k.h; linked_is = l.0; different = k.different; on = on }) in
       let (e, ce, ee) = Contains-from_map (λ e. e.plane) s.entries k.other c' in
       stays_by p s e ce (λ q. l.1 (sym ee ∙ q))
-    where
-      on_other : (h v : V3) → (v ≡ primitive (cross g h)) ⊎ (v ≡ negative (primitive (cross g h))) → cross g h ≢ origin → dot h v ≡ pos 0
-      on_other h v w f =
-          let on = Rattle.staat_ring.proofs.Steps.primitive_on h (cross g h) (Rattle.staat_vec.proofs.VecRing.dot_cross_right g h) f in
-          ⊎_elim {C = dot h v ≡ pos 0} (λ e. ap (dot h) e ∙ on) (λ e. ap (dot h) e ∙ Rattle.staat_ring.proofs.Steps.negative_on h (primitive (cross g h)) on) w
 
   left_is_not : (s : RingStop) → Contains r.stops s → stays p s ≡ false → Kept (vertex s) → ⊥
   left_is_not s cs h k = false_true_clash (stays p s) h (stays_of_kept s cs k)
@@ -229,8 +160,7 @@ module _ (planes : List V3) (linked : List ℕ) (r : Ring) (p : ℕ) (apart : Ar
   on_line : (s : RingStop) → Contains r.stops s → stays p s ≡ false → (h : V3) × ((vertex s ≡ primitive (cross g h)) ⊎ (vertex s ≡ negative (primitive (cross g h)))) × (slice_get planes p ≡ Some h)
   on_line s cs h =
       let w = whole_at s cs in
-      let on = Rattle.staat_ring.proofs.Steps.primitive_on w.h (cross g w.h) (Rattle.staat_vec.proofs.VecRing.dot_cross_right g w.h) (flat w.h w.other w.other_is w.different) in
-      let z : dot w.h (vertex s) ≡ pos 0 = ⊎_elim {C = dot w.h (vertex s) ≡ pos 0} (λ e. ap (dot w.h) e ∙ on) (λ e. ap (dot w.h) e ∙ Rattle.staat_ring.proofs.Steps.negative_on w.h (primitive (cross g w.h)) on) w.is in
+      let z = circle.on_other planes linked r apart is (vertex s) w in
       let c' = (pass s cs).all w.other (record { h = w.h; linked_is = w.other_is; different = w.different; on = z }) in
       let (e, ce, ee) = Contains-from_map (λ e. e.plane) s.entries w.other c' in
       let same : w.other ≡ p = sym ee ∙ leaves_by p s h e ce in
@@ -245,7 +175,7 @@ module _ (planes : List V3) (linked : List ℕ) (r : Ring) (p : ℕ) (apart : Ar
   S s t = NextBy Kept g (vertex s) (vertex t)
 
   gg : pos 0 <ℤ dot g g
-  gg = some_square g (λ e. let w = is.circle.vertices.each is.circle.first.vertex (Contains-map (λ s. s.vertex) stops is.circle.first (from_place stops 0 is.circle.first is.circle.first_is)) in flat w.h w.other w.other_is w.different (ap (λ y. cross y w.h) e ∙ cross_origin w.h))
+  gg = some_normal g is.circle.axis (apart.apart c (axis_beside c) g is.circle.axis is.circle.g_is is.circle.axis_is (λ q. axis_differs c (sym q)))
 
   both_stay : (a b : RingStop) → stays p a ≡ true → stays p b ≡ true → R a b → S a b
   both_stay a b ka kb h = record { after = h.2.after; none = λ x kx. h.2.none x (kept_whole x kx) }
@@ -256,8 +186,8 @@ module _ (planes : List V3) (linked : List ℕ) (r : Ring) (p : ℕ) (apart : Ar
       let kw = kept_of_stays b y.1 kb in
       let (k, kk, other) = another (vertex a) kv in
       record {
-        after = still_after g gg Whole Kept point whole_turned kept_turned kept_whole (vertex a) (vertex u) (vertex b) k kv (whole_at u x.1) (left_is_not u x.1 ku) kw kk other x.2.after y.2.after x.2.none y.2.none;
-        none = nothing_kept g gg Whole Kept point whole_turned kept_turned kept_whole (vertex a) (vertex u) (vertex b) k kv (whole_at u x.1) (left_is_not u x.1 ku) kw kk other x.2.after y.2.after x.2.none y.2.none;
+        after = still_after g gg Whole Kept point (crossing_turned planes linked c g) (crossing_turned planes (planes_without p linked) c g) kept_whole (vertex a) (vertex u) (vertex b) k kv (whole_at u x.1) (left_is_not u x.1 ku) kw kk other x.2.after y.2.after x.2.none y.2.none;
+        none = nothing_kept g gg Whole Kept point (crossing_turned planes linked c g) (crossing_turned planes (planes_without p linked) c g) kept_whole (vertex a) (vertex u) (vertex b) k kv (whole_at u x.1) (left_is_not u x.1 ku) kw kk other x.2.after y.2.after x.2.none y.2.none;
       }
 
   not_two : (u x : RingStop) → stays p u ≡ false → stays p x ≡ false → R u x → ⊥
@@ -271,14 +201,14 @@ module _ (planes : List V3) (linked : List ℕ) (r : Ring) (p : ℕ) (apart : Ar
 
   around : Around R r.stops
   around k s t ks kt =
-      let n = is.circle.turns k (stop_of planes c s) (stop_of planes c t) (stop_there planes r k s ks) (subst (λ m. slice_get stops ((k + 1) % m) ≡ Some (stop_of planes c t)) (sym (length-map r.stops (stop_of planes c))) (stop_there planes r ((k + 1) % length r.stops) t kt)) in (
+      let n = circle.next planes linked r apart is s t k ks kt in (
         from_place r.stops k s ks,
         from_place r.stops ((k + 1) % length r.stops) t kt,
         record {
           after = n.after;
           none = λ x wx a b.
               let (q, cq, eq) = Contains-from_map (λ s. s.vertex) stops x (is.circle.vertices.all x wx) in
-              All-contains (λ y. Rattle.staat_model.specs.Circles.IsAfter g (vertex s) y.vertex → Rattle.staat_model.specs.Circles.IsAfter g y.vertex (vertex t) → ⊥) stops q n.nothing_between cq
+              All-contains (λ y. IsAfter g (vertex s) y.vertex → IsAfter g y.vertex (vertex t) → ⊥) stops q n.nothing_between cq
               (subst (λ y. pos 0 <ℤ turn g (vertex s) y) (sym eq) a) (subst (λ y. pos 0 <ℤ turn g y (vertex t)) (sym eq) b);
         },
       )
@@ -378,7 +308,7 @@ module _ (planes : List V3) (linked : List ℕ) (r : Ring) (p : ℕ) (apart : Ar
         let q = pass s f.0 in
         subst (λ (y : Stop). Lists nat_cmp (PassesThrough planes (planes_without p linked) c y.vertex) y.through) es
         (subst (λ u. Lists nat_cmp (PassesThrough planes (planes_without p linked) c u) (map (λ e. e.plane) (filter (other_than p) s.entries))) (sym v)
-        (subst (Lists nat_cmp (PassesThrough planes (planes_without p linked) c (vertex s))) (sym (filter_planes p s.entries)) (record {
+        (subst (Lists nat_cmp (PassesThrough planes (planes_without p linked) c (vertex s))) (map_filter (λ e. e.plane) (λ k. not (k == p)) s.entries) (record {
           ascending = IsStrictlySortedBy-filter nat_cmp (λ k. not (k == p)) (map (λ e. e.plane) s.entries) q.ascending;
           each = λ k ck.
               let w = filter_from (λ k. not (k == p)) (map (λ e. e.plane) s.entries) k ck in
@@ -408,15 +338,6 @@ module _ (planes : List V3) (linked : List ℕ) (r : Ring) (p : ℕ) (apart : Ar
 
 -- ---- all rings
 
-along_x : (v : V3) → dot (vector (pos 1) (pos 0) (pos 0)) v ≡ v.x
-along_x v = omega (arith, ints)
-
-along_y : (v : V3) → dot (vector (pos 0) (pos 1) (pos 0)) v ≡ v.y
-along_y v = omega (arith, ints)
-
-along_z : (v : V3) → dot (vector (pos 0) (pos 0) (pos 1)) v ≡ v.z
-along_z v = omega (arith, ints)
-
 module _ (planes : List V3) (table : AreTablePlanes planes) (linked : List ℕ) (all : (a : ℕ) → a < 3 → Contains linked a) (p : ℕ) (no_axis : 3 ≤ p) (c : ℕ) (g : V3) (g_is : IsLinked planes linked c g) where
   axis_at : (a : ℕ) → a < 3 → slice_get planes a ≡ Some (get_or axes a origin)
   axis_at a lt = slice_get-get_or planes a origin (let e = ap length table.is in let l = length-append axes table.others in omega (arith, e, l, lt)) ∙ ap (λ x. Some x) (ap (λ ps. get_or ps a origin) table.is ∙ get_or_append_left axes table.others origin a lt)
@@ -433,21 +354,16 @@ module _ (planes : List V3) (table : AreTablePlanes planes) (linked : List ℕ) 
 
   -- an axis that is linked, stays, and does not pass through v
   pub off_axis : (v : V3) → v ≢ origin → dot g v ≡ pos 0 → (a : ℕ) × (h : V3) × IsLinked planes linked a h × (a ≢ p) × (a ≢ c) × (dot h v ≢ pos 0)
-  off_axis v some on = x_or (zero_or v.x) (zero_or v.y) (zero_or v.z)
+  off_axis v some on = by (zero_or (dot (unit 0) v)) (zero_or (dot (unit 1) v)) (zero_or (dot (unit 2) v))
     where
-      x_or : (v.x ≡ pos 0) ⊎ (v.x ≢ pos 0) → (v.y ≡ pos 0) ⊎ (v.y ≢ pos 0) → (v.z ≡ pos 0) ⊎ (v.z ≢ pos 0) → (a : ℕ) × (h : V3) × IsLinked planes linked a h × (a ≢ p) × (a ≢ c) × (dot h v ≢ pos 0)
-      x_or (inr nx) y z = by_axis 0 (omega arith) v on (λ e. nx (sym (along_x v) ∙ e))
-      x_or (inl ex) (inr ny) z = by_axis 1 (omega arith) v on (λ e. ny (sym (along_y v) ∙ e))
-      x_or (inl ex) (inl ey) (inr nz) = by_axis 2 (omega arith) v on (λ e. nz (sym (along_z v) ∙ e))
-      x_or (inl ex) (inl ey) (inl ez) = absurd (some (same_vector v origin ex ey ez))
+      by : (dot (unit 0) v ≡ pos 0) ⊎ (dot (unit 0) v ≢ pos 0) → (dot (unit 1) v ≡ pos 0) ⊎ (dot (unit 1) v ≢ pos 0) → (dot (unit 2) v ≡ pos 0) ⊎ (dot (unit 2) v ≢ pos 0) → (a : ℕ) × (h : V3) × IsLinked planes linked a h × (a ≢ p) × (a ≢ c) × (dot h v ≢ pos 0)
+      by (inr nx) y z = by_axis 0 (omega arith) v on nx
+      by (inl ex) (inr ny) z = by_axis 1 (omega arith) v on ny
+      by (inl ex) (inl ey) (inr nz) = by_axis 2 (omega arith) v on nz
+      by (inl ex) (inl ey) (inl ez) = absurd (some (same_vector v origin (omega (arith, ints, ex)) (omega (arith, ints, ey)) (omega (arith, ints, ez))))
 
 pub linked_without : (p : ℕ) (rings : List Ring) → linked_of (rings_without p rings) ≡ planes_without p (linked_of rings)
-linked_without p [] = refl
-linked_without p (r ∷ rings) = go (not (r.plane == p)) (linked_without p rings)
-  where
-    go : (b : Bool) → linked_of (rings_without p rings) ≡ planes_without p (linked_of rings) → linked_of (map (ring_without p) (cond b (r ∷ filter (λ r. not (r.plane == p)) rings) (filter (λ r. not (r.plane == p)) rings))) ≡ cond b (r.plane ∷ planes_without p (linked_of rings)) (planes_without p (linked_of rings))
-    go true e = ap (λ ks. r.plane ∷ ks) e
-    go false e = e
+linked_without p rings = map_twice (λ r. r.plane) (ring_without p) (filter (λ r. not (r.plane == p)) rings) ∙ sym (map_filter (λ r. r.plane) (λ k. not (k == p)) rings)
 
 -- the law: what unlinking leaves are the rings of the planes that are left
 pub rings_stay : (planes : List V3) (rings : List Ring) (out : List ℕ) (p : ℕ) → AreTablePlanes planes → AreRings planes rings out → 3 ≤ p → AreRings planes (rings_without p rings) (out ++ p ∷ [])

@@ -1,6 +1,5 @@
 -- The rings of a circle's stops have no node in common.
-use Rattle.std.proofs.Common.{rules}
-use Rattle.std.proofs.Common.{◌≡◌, ◌≢◌, ◌⊎◌, inl, inr, ⊎_elim, ℕ, zero, suc, ◌*◌, ◌<◌, ◌≤◌, arith, ap, sym, subst, ◌∙◌, List, [], ◌∷◌, length, All, Contains}
+use Rattle.std.proofs.Common.{rules, ◌≡◌, ◌≢◌, ◌⊎◌, inl, inr, ⊎_elim, ℕ, zero, suc, ◌*◌, ◌<◌, ◌≤◌, arith, ap, sym, subst, ◌∙◌, List, [], ◌∷◌, length, All, Contains}
 use Rattle.std.specs.Prelude.{map}
 use Rattle.std.proofs.lemmas.List.{get_or-map, get_or_default, length-map}
 use Rattle.std.proofs.lemmas.List.Elements.{All-contains}
@@ -14,7 +13,7 @@ use Rattle.staat_ring.proofs.Rows.{AreRows}
 use Rattle.staat_ring.specs.Numbered.{HasEntry, head_number, node_number, vertex_row, entry_number}
 use Rattle.staat_ring.specs.RingViews.{shape}
 use Rattle.staat_ring.specs.Rows.{Row, all_of, row_at}
-use Rattle.staat_ring.proofs.Mapped.{apart_from, distinct_by}
+use Rattle.staat_ring.proofs.WithoutNumber.{apart_from, distinct_by}
 use Rattle.staat_ring.proofs.Numbering.{entry_circle, entry_small, first_entry, head_circle, head_small, node_circle, node_great, node_small, one_entry}
 use Rattle.staat_vec.proofs.ListLaws.{Contains-from_map}
 

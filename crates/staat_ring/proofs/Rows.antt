@@ -1,18 +1,15 @@
 -- A ring is linked node by node, and rings one after another.
-use Rattle.std.proofs.Common.{rules}
-use Rattle.std.proofs.lemmas.Grind.{common_steps}
+use Rattle.std.proofs.Common.{rules, ◌≡◌, ◌≢◌, ⊎_elim, ℕ, zero, suc, ◌+◌, ◌<◌, refl, sym, ap, subst, ◌∙◌, List, [], ◌∷◌, ◌++◌, length, get_or, set, take, All, Contains, arith}
+use Rattle.std.proofs.lemmas.Grind.{common_steps, get_or-set_at}
 use Rattle.std.proofs.lemmas.Bool.Decides.{nat_tests}
-use Rattle.std.proofs.Common.{◌≡◌, ◌≢◌, ⊎_elim, ℕ, zero, suc, ◌+◌, ◌<◌, refl, sym, ap, subst, ◌∙◌, List, [], ◌∷◌, ◌++◌, length, get_or, set, take, All, Contains, arith}
 use Rattle.std.proofs.lemmas.List.{get_or-set_other, take_more}
-use Rattle.std.proofs.lemmas.Grind.{get_or-set_at}
 use Rattle.std.proofs.Math.ListN.{length-set}
 use Rattle.std.proofs.lemmas.List.Elements.{All-cons, All-contains, All-get_or, All-more, All-take, All-weaker, Contains-get_or}
 use Rattle.staat_ring.specs.Links.{Apart, Chain, Distinct, Links, IsLinkedRing, append}
-use Rattle.staat_ring.proofs.Ends.{last_of}
+use Rattle.staat_ring.proofs.Chains.{last_of, apart_last, kept, prev_last, ring-append}
 use Rattle.staat_ring.specs.Linking.{AreHomedAt, AreLinked, IsSameAt}
-use Rattle.staat_ring.proofs.Mapped.{from_apart}
+use Rattle.staat_ring.proofs.WithoutNumber.{from_apart}
 use Rattle.staat_ring.specs.Rows.{Row, all_of, row_at}
-use Rattle.staat_ring.proofs.Appending.{apart_last, kept, prev_last, ring-append}
 use Rattle.staat_vec.proofs.ListLaws.{only_one}
 use Rattle.staat_vec.proofs.Unique.{Contains-front, Contains-later}
 use Rattle.staat_vec.proofs.Naturals.{same_or}

@@ -1,11 +1,9 @@
 -- All linked planes get their signs.
-use Rattle.std.proofs.Common.{rules}
-use Rattle.std.proofs.Common.{◌≡◌, ⊎_elim, ℕ, ◌+◌, ◌<◌, ◌≤◌, arith, ap, subst, List, [], ◌∷◌, length, cond, Contains, get_or-set_other}
+use Rattle.std.proofs.Common.{rules, ◌≡◌, ⊎_elim, ℕ, ◌+◌, ◌<◌, ◌≤◌, arith, ap, subst, List, [], ◌∷◌, length, cond, Contains, get_or-set_other, eq-eqb, get_or, refl}
 use Rattle.std.specs.Prelude.{Some, ◌==◌, nat_lt, slice_get}
 use Rattle.std.proofs.lemmas.List.Sums.{sum_by-cons, count_by-le-length, get_or-le-sum_by}
 use Rattle.std.proofs.lemmas.Bool.Decides.{nat_tests}
 use Rattle.staat_ring.specs.Pairs.{occurs}
-use Rattle.std.proofs.Common.{eq-eqb, get_or, refl}
 use Rattle.staat_vec.specs.declared.vector.V3.{V3}
 use Rattle.staat_vec.specs.declared.vector.Sign.{Sign}
 use Rattle.staat_vec.specs.Vectors.{dot, sign}

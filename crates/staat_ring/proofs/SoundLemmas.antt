@@ -8,20 +8,18 @@ use Rattle.std.proofs.lemmas.List.Sums.{count_by-le-length, length-filter}
 use Rattle.std.proofs.lemmas.List.Elements.{Contains-append_cases}
 use Rattle.staat_ring.proofs.WithoutLemmas.{filter_from}
 use Rattle.staat_ring.specs.Links.{Arrays, Apart, Distinct, unlink, is_bare, take, take_all}
-use Rattle.staat_ring.proofs.Taking.{CanTakeAll}
+use Rattle.staat_ring.proofs.RelinkUndoesUnlink.{CanTakeAll, give_all-take_all}
 use Rattle.staat_ring.specs.Stands.{Shape, RingLists, StandFor, is_empty, home_of, IsPresent, AllPresent}
-use Rattle.staat_ring.proofs.ListsWithout.{lists_without_plane, lists_without_all, lists_without, AreSame}
+use Rattle.staat_ring.proofs.WithoutNumber.{lists_without_plane, lists_without_all, lists_without, AreSame, apart_from}
 use Rattle.staat_ring.specs.Planes.{entries_of, entries_on}
 use Rattle.staat_ring.specs.Views.{lists_of}
 use Rattle.staat_ring.specs.RingViews.{shape, is_out, undo, rings_at, StandForCircles}
 use Rattle.staat_ring.specs.Numbered.{plane_of}
 use Rattle.staat_ring.specs.Without.{rings_without}
-use Rattle.staat_ring.proofs.RelinkUndoesUnlink.{give_all-take_all}
 use Rattle.staat_ring.proofs.TwoLevels.{length_if, stands-take_all, present-after}
 use Rattle.staat_ring.proofs.ViewLemmas.{AreShort, lists_of_is, stands_same}
 use Rattle.staat_ring.proofs.Filters.{without-plane}
 use Rattle.staat_ring.proofs.RingLemmas.{listed-push, rings-without, rings-same}
-use Rattle.staat_ring.proofs.Mapped.{apart_from}
 use Rattle.staat_vec.proofs.Truth.{and_split, false_true_clash, from_not_true}
 use Rattle.staat_vec.proofs.Naturals.{apart_from_test}
 

@@ -1,5 +1,5 @@
 -- The stops of a circle are linked one after another.
-use Rattle.std.proofs.Common.{◌≡◌, ◌≢◌, ⊎_elim, ℕ, ◌+◌, ◌*◌, ◌<◌, ◌≤◌, arith, ap, refl, sym, subst, ◌∙◌, List, [], ◌∷◌, length, get_or, All}
+use Rattle.std.proofs.Common.{◌≡◌, ◌≢◌, ⊎_elim, ℕ, ◌+◌, ◌*◌, ◌<◌, ◌≤◌, arith, ap, sym, subst, ◌∙◌, List, [], ◌∷◌, length, get_or, All}
 use Rattle.std.specs.Prelude.{map}
 use Rattle.std.proofs.lemmas.List.Elements.{All-contains}
 use Rattle.staat_model.proofs.Members.{All-from_members}
@@ -10,7 +10,7 @@ use Rattle.staat_ring.specs.Linking.{AreHomedAt, AreLinked, AreSized, AreStopsLi
 use Rattle.staat_ring.specs.Numbered.{head_number, node_number, vertex_row, entry_number}
 use Rattle.staat_ring.specs.RingViews.{shape}
 use Rattle.staat_ring.specs.Rows.{Row, all_of}
-use Rattle.staat_ring.proofs.Mapped.{apart_from}
+use Rattle.staat_ring.proofs.WithoutNumber.{apart_from}
 use Rattle.staat_ring.proofs.Numbering.{entry_circle}
 use Rattle.staat_ring.proofs.RowRules as rules
 use Rattle.staat_ring.proofs.Rows.{linked_row, ring_same}
@@ -23,19 +23,6 @@ module _ (n c : ℕ) (lc : c < n) (stops : List (List Entry)) (can : CanBeLinked
 
   abbrev row : ℕ → Row
   row k = vertex_row n c (slot k)
-
-  -- ---- none yet
-
-  pub stops_none : (first : Links) (old : List ℕ) → AreLinked first (rows_of n c stops) 0 → All (λ x. x < length old) old → AreStopsLinked n c stops 0 first first old old
-  stops_none first old linked within = record {
-    linked = linked;
-    size = refl;
-    others = λ y a. record { next = refl; prev = refl };
-    homed = λ k lt lk. absurd (omega (arith, lt));
-    home_size = refl;
-    home_others = λ y a. refl;
-    home_within = within;
-  }
 
   -- ---- one more
 

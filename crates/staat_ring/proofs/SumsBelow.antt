@@ -1,13 +1,12 @@
 -- Sums over the numbers below a number.
 use Rattle.std.proofs.Common.{◌≡◌, ◌≢◌, ⊎_elim, ℕ, zero, suc, ◌+◌, ◌<◌, ◌≤◌, arith, ap, sym, ◌∙◌, refl, List, [], ◌∷◌, length, get_or, All, eq-eqb}
-use Rattle.std.specs.Prelude.{◌==◌, ◌&&◌}
+use Rattle.std.specs.Prelude.{◌==◌, ◌&&◌, Bool, false, not}
 use Rattle.std.specs.List.{count_by, sum_by}
 use Rattle.std.proofs.lemmas.List.Sums.{sum_by-cons}
 use Rattle.std.proofs.lemmas.List.Elements.{All-get_or, All-tail}
 use Rattle.staat_vec.specs.declared.vector.Sign.{Sign}
 use Rattle.staat_ring.specs.Belonging.{PlaneFacet}
 use Rattle.staat_ring.proofs.PairLemmas.{one}
-use Rattle.std.specs.Prelude.{Bool, false, not}
 use Rattle.staat_vec.specs.declared.vector.Sign.TheVariants.{Neg, Zero, Pos}
 use Rattle.staat_vec.proofs.Naturals.{eq_test_false, same_or}
 

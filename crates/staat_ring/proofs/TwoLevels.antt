@@ -1,17 +1,15 @@
 -- Taking an entry out of the arrays takes it out of the lists that they stand for.
-use Rattle.std.proofs.Common.{rules}
-use Rattle.std.proofs.Common.{◌≡◌, ◌≢◌, ℕ, ◌<◌, refl, sym, ap, subst, ◌∙◌, List, [], ◌∷◌, length, Bool, true, false, not, if◌then◌else◌, inl, inr, get_or, set, arith, Contains}
+use Rattle.std.proofs.Common.{rules, ◌≡◌, ◌≢◌, ℕ, ◌<◌, refl, sym, ap, subst, ◌∙◌, List, [], ◌∷◌, length, Bool, true, false, not, if◌then◌else◌, inl, inr, get_or, set, arith, Contains}
 use Rattle.std.proofs.lemmas.List.{get_or-set_other}
 use Rattle.std.proofs.lemmas.Grind.{get_or-set_at}
 use Rattle.std.proofs.Math.ListN.{length-set}
 use Rattle.std.specs.Prelude.{◌==◌}
 use Rattle.staat_ring.proofs.WithoutLemmas.{filter_from, filter_in}
 use Rattle.staat_ring.specs.Links.{Links, Apart, Distinct, unlink, Arrays, is_bare, take, take_all}
-use Rattle.staat_ring.proofs.Taking.{CanTakeAll, CanTake}
+use Rattle.staat_ring.proofs.RelinkUndoesUnlink.{CanTakeAll, CanTake}
 use Rattle.staat_ring.specs.Stands.{is_empty, IsRing, Shape, RingLists, home_of, StandFor, IsPresent, AllPresent}
 use Rattle.staat_ring.specs.Within.{InRange}
-use Rattle.staat_ring.proofs.ListsWithout.{lists_without_all, lists_without, without}
-use Rattle.staat_ring.proofs.WithoutNumber.{without_none, node_between, tagged_apart, tagged_in, prev_tag, next_tag, ring_stays, ring_shrinks, bare_is}
+use Rattle.staat_ring.proofs.WithoutNumber.{lists_without_all, lists_without, without, without_none, node_between, tagged_apart, tagged_in, prev_tag, next_tag, ring_stays, ring_shrinks, bare_is}
 use Rattle.staat_vec.proofs.Naturals.{eq_test_false, same_or}
 
 pub contains_before : (x y : ℕ) (xs : List ℕ) → Contains (without x xs) y → Contains xs y

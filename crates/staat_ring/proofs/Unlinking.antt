@@ -1,25 +1,22 @@
 -- The invariant with the list of unlinked planes, and what unlink and relink do to it and to the view.
-use Rattle.std.proofs.Common.{rules}
-use Rattle.std.proofs.lemmas.Grind.{common_steps}
+use Rattle.std.proofs.Common.{rules, ◌≡◌, ◌≢◌, ℕ, zero, suc, ◌+◌, ◌<◌, refl, sym, ap, subst, ◌∙◌, arith, List, [], ◌∷◌, ◌++◌, map, length, take, drop, false, not, Contains, inl, inr, ◌-◌, set, get_or}
+use Rattle.std.proofs.lemmas.Grind.{common_steps, get_or-set_at}
 use Rattle.std.proofs.lemmas.Bool.Decides.{nat_tests}
-use Rattle.std.proofs.Common.{◌≡◌, ◌≢◌, ℕ, zero, suc, ◌+◌, ◌<◌, refl, sym, ap, subst, ◌∙◌, arith, List, [], ◌∷◌, ◌++◌, map, length, take, drop, false, not, ◌&&◌, Contains, inl, inr, ◌-◌, set, get_or}
-use Rattle.std.proofs.lemmas.List.Elements.{filter_agree}
-use Rattle.std.specs.Prelude.{◌==◌}
+use Rattle.std.proofs.lemmas.List.Folds.{map_fixed}
 use Rattle.std.proofs.lemmas.List.{drop-append-le, length-append, take-append-le, take_all as take_whole, drop_all, length_push, get_or-set_other, same_from_push, take-set-le, take_more_set}
 use Rattle.staat_ring.proofs.WithoutLemmas.{filter_from}
 use Rattle.staat_ring.specs.Links.{Arrays, Apart, Distinct, take_all, give_all}
 use Rattle.staat_ring.specs.Stands.{RingLists}
-use Rattle.staat_ring.proofs.ListsWithout.{without}
+use Rattle.staat_ring.proofs.WithoutNumber.{without, split, without_mid, distinct_filter}
 use Rattle.staat_ring.specs.Views.{undo_all, unlinked_planes, lists_of}
-use Rattle.staat_ring.specs.RingViews.{rings_of, rings_at, undo, StandForCircles, CanBeUndone, still_linked, is_out, numbers_below, shape, arrangement_of}
+use Rattle.staat_ring.specs.RingViews.{ring_of, rings_of, rings_at, undo, StandForCircles, CanBeUndone, still_linked, is_out, numbers_below, shape, arrangement_of}
 use Rattle.staat_ring.proofs.ViewLemmas.{undo-push, kept-push}
-use Rattle.staat_ring.proofs.RingLemmas.{listed-push, eqb_turned, below_small}
-use Rattle.staat_ring.proofs.WithoutNumber.{split, without_mid, distinct_filter}
+use Rattle.staat_ring.proofs.RingLemmas.{below_small, still_without}
 use Rattle.staat_vec.proofs.Truth.{from_not_true}
+use Rattle.staat_model.proofs.Members.{All-from_members}
 use Rattle.staat_vec.proofs.Naturals.{le_or_past, same_or}
-use Rattle.staat_vec.proofs.ListLaws.{filter_twice}
+use Rattle.staat_vec.proofs.ListLaws.{map_twice}
 use Rattle.std.proofs.Math.Seq.{take-suc}
-use Rattle.std.proofs.lemmas.Grind.{get_or-set_at}
 use Rattle.std.proofs.Math.ListN.{length-set}
 use Rattle.staat_ring.specs.Planes.{entries_of}
 use Rattle.staat_ring.specs.Rings.{Arrangement, UnlinkedPlane, Ring}
@@ -49,11 +46,7 @@ sound-pop n p out b s k h =
 
 -- ---- the planes that are linked
 pub planes_of_rings : (n : ℕ) (out : List ℕ) (l : RingLists) → map (λ r. r.plane) (rings_of n out l) ≡ still_linked n out
-planes_of_rings n out l = go (still_linked n out)
-  where
-    go : (cs : List ℕ) → map (λ r. r.plane) (map (λ c. Rattle.staat_ring.specs.RingViews.ring_of n l c) cs) ≡ cs
-    go [] = refl
-    go (c ∷ cs) = ap (λ xs. c ∷ xs) (go cs)
+planes_of_rings n out l = map_twice (λ r. r.plane) (ring_of n l) (still_linked n out) ∙ map_fixed (λ c. c) (still_linked n out) (All-from_members (λ c. c ≡ c) (still_linked n out) (λ c _. refl))
 
 pub linked_plane : (n : ℕ) (out : List ℕ) (p : ℕ) → Contains (still_linked n out) p → (p < n) × (is_out out p ≡ false)
 linked_plane n out p c =
@@ -77,15 +70,10 @@ one_less n p out c =
     let d : Distinct (still_linked n out) = distinct_filter (λ c. not (is_out out c)) (numbers_below n) (below_distinct n) in
     let s = split (still_linked n out) p c in
     let d' : Distinct (s.left ++ p ∷ s.right) = subst (λ xs. Distinct xs) s.is d in
-    let w : still_linked n (out ++ p ∷ []) ≡ s.left ++ s.right = planes ∙ (ap (without p) s.is ∙ without_mid p s.left s.right d') in
+    let w : still_linked n (out ++ p ∷ []) ≡ s.left ++ s.right = still_without n p out ∙ (ap (without p) s.is ∙ without_mid p s.left s.right d') in
     let lw = ap length w in
     let ls = ap length s.is in
     omega (arith, lw, ls, length-append s.left (p ∷ s.right), length-append s.left s.right)
-  where
-    planes : still_linked n (out ++ p ∷ []) ≡ without p (still_linked n out)
-    planes =
-        filter_agree (λ c. not (is_out (out ++ p ∷ []) c)) (λ c. not (is_out out c) && not (c == p)) (λ c. listed-push out p c ∙ ap (λ b. not (is_out out c) && not b) (eqb_turned p c)) (numbers_below n)
-        ∙ sym (filter_twice (λ c. not (is_out out c)) (λ c. not (c == p)) (numbers_below n))
 
 -- ---- unlink
 

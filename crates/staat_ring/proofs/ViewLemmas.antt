@@ -1,10 +1,10 @@
 -- The view: what it is after unlink and relink.
-use Rattle.std.proofs.Common.{◌≡◌, ℕ, zero, suc, ◌<◌, refl, sym, ap, subst, ◌∙◌, arith, List, [], ◌∷◌, ◌++◌, length, get_or, append_assoc, eqb, Contains, eq-eqb}
+use Rattle.std.proofs.Common.{◌≡◌, ℕ, zero, suc, ◌<◌, refl, sym, ap, subst, ◌∙◌, arith, List, [], ◌∷◌, ◌++◌, length, get_or, append-nil, append_assoc, eqb, Contains, eq-eqb}
 use Rattle.std.specs.Prelude.{if◌then◌else◌}
 use Rattle.staat_ring.specs.Links.{Links, Chain, Apart, Arrays}
 use Rattle.staat_ring.specs.Stands.{Shape, RingLists, StandFor, IsRing}
 use Rattle.staat_ring.specs.Views.{nodes_from, ring_nodes, lists_of, undo_all, unlinked_planes}
-use Rattle.staat_ring.proofs.ListsWithout.{AreSame}
+use Rattle.staat_ring.proofs.WithoutNumber.{AreSame}
 use Rattle.staat_vec.proofs.Naturals.{eqb_false}
 
 pub undo-push : {A : Type 0} (undo : ℕ → A → A) (ps : List ℕ) (q : ℕ) (a : A) → undo_all undo (ps ++ q ∷ []) a ≡ undo_all undo ps (undo q a)
@@ -15,10 +15,6 @@ undo-push undo (p ∷ ps) q a = ap (undo p) (undo-push undo ps q a)
 pub kept-push : {A R : Type 0} (undo : ℕ → A → A) (rings : List ℕ → A → R) (done ps : List ℕ) (q : ℕ) (a : A)
     → unlinked_planes undo rings done (ps ++ q ∷ []) a ≡ unlinked_planes undo rings done ps (undo q a) ++ (record { plane = q; before = rings (done ++ ps) (undo q a) }) ∷ []
 kept-push undo rings done [] q a = ap (λ d. (record { plane = q; before = rings d (undo q a) }) ∷ []) (sym (append-nil done))
-  where
-    append-nil : (xs : List ℕ) → xs ++ [] ≡ xs
-    append-nil [] = refl
-    append-nil (x ∷ xs) = ap (λ l. x ∷ l) (append-nil xs)
 kept-push undo rings done (p ∷ ps) q a =
     (λ i. (record { plane = p; before = rings done (undo p (undo-push undo ps q a i)) }) ∷ kept-push undo rings (done ++ p ∷ []) ps q a i)
     ∙ ap (λ d. (record { plane = p; before = rings done (undo p (undo_all undo ps (undo q a))) }) ∷ (unlinked_planes undo rings (done ++ p ∷ []) ps (undo q a) ++ (record { plane = q; before = rings d (undo q a) }) ∷ []))

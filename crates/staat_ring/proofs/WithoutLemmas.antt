@@ -9,6 +9,7 @@ use Rattle.staat_model.proofs.Members.{All-from_members}
 use Rattle.std.proofs.lemmas.List.Elements.{All-contains, All-contains_itself, All-filter, filter_passes}
 use Rattle.staat_ring.specs.declared.entry.Entry.{Entry}
 use Rattle.staat_ring.specs.Rings.{IsRingOf, Ring, RingStop, crossing, vertex_of}
+use Rattle.staat_ring.proofs.CircleStops.{entry_vertex}
 use Rattle.staat_ring.proofs.Stops.{AreLinkedApart}
 use Rattle.staat_ring.specs.Without.{has_some, other_than, ring_without, stays, stop_without}
 use Rattle.staat_vec.proofs.Truth.{false_true_clash, true_not_clash}
@@ -84,11 +85,8 @@ vertex_by planes c v [] all h = cc
 vertex_by planes c v (e ∷ es) all h = all e (Contains-front e es)
 
 module _ (planes : List V3) (linked : List ℕ) (r : Ring) (p : ℕ) (apart : AreLinkedApart planes linked) (is : IsRingOf planes linked r) where
-  agree : (s : RingStop) (e : Entry) → Contains r.stops s → Contains s.entries e → crossing planes r.plane e ≡ vertex_of planes r.plane s.entries
-  agree s e cs ce = All-contains (λ e. crossing planes r.plane e ≡ vertex_of planes r.plane s.entries) s.entries e (All-contains (λ s. All (λ e. crossing planes r.plane e ≡ vertex_of planes r.plane s.entries) s.entries) r.stops s is.agree cs) ce
-
   pub vertex_stays : (s : RingStop) → Contains r.stops s → stays p s ≡ true → vertex_of planes r.plane (filter (other_than p) s.entries) ≡ vertex_of planes r.plane s.entries
-  vertex_stays s cs h = vertex_by planes r.plane (vertex_of planes r.plane s.entries) (filter (other_than p) s.entries) (λ e ce. agree s e cs (filter_from (other_than p) s.entries e ce).0) h
+  vertex_stays s cs h = vertex_by planes r.plane (vertex_of planes r.plane s.entries) (filter (other_than p) s.entries) (λ e ce. entry_vertex planes linked r apart is s e cs (filter_from (other_than p) s.entries e ce).0) h
 
   -- each entry of a stop that stays still names its vertex
   pub agree_without : All (λ s. All (λ e. crossing planes r.plane e ≡ vertex_of planes r.plane s.entries) s.entries) (ring_without p r).stops
@@ -96,4 +94,4 @@ module _ (planes : List V3) (linked : List ℕ) (r : Ring) (p : ℕ) (apart : Ar
       let (s, cs, es) = Contains-from_map (stop_without p) (filter (stays p) r.stops) u cu in
       let f = filter_from (stays p) r.stops s cs in
       subst (λ (u : RingStop). All (λ e. crossing planes r.plane e ≡ vertex_of planes r.plane u.entries) u.entries) es
-      (All-from_members (λ e. crossing planes r.plane e ≡ vertex_of planes r.plane (filter (other_than p) s.entries)) (filter (other_than p) s.entries) (λ e ce. agree s e f.0 (filter_from (other_than p) s.entries e ce).0 ∙ sym (vertex_stays s f.0 f.1))))
+      (All-from_members (λ e. crossing planes r.plane e ≡ vertex_of planes r.plane (filter (other_than p) s.entries)) (filter (other_than p) s.entries) (λ e ce. entry_vertex planes linked r apart is s e f.0 (filter_from (other_than p) s.entries e ce).0 ∙ sym (vertex_stays s f.0 f.1))))

@@ -1,20 +1,78 @@
--- Lists without one number.
+-- Members of lists, and the lists without a number, without an entry and without a plane.
 use Rattle.std.proofs.lemmas.Grind.{common_steps}
-use Rattle.std.proofs.lemmas.Bool.Decides.{nat_tests}
-use Rattle.std.proofs.Common.{◌≡◌, ◌≢◌, ℕ, zero, suc, refl, sym, ap, subst, ◌∙◌, List, [], ◌∷◌, ◌++◌, Bool, true, false, not, cond, eq-eqb, get_or, arith, Contains}
-use Rattle.std.specs.List.{filter}
-use Rattle.std.specs.Prelude.{◌==◌}
-use Rattle.std.proofs.lemmas.List.Elements.{Contains-append_right}
+use Rattle.std.proofs.lemmas.Bool.Decides.{nat_tests, Decides-eqb}
+use Rattle.std.proofs.Common.{◌≡◌, ◌≢◌, ℕ, zero, suc, refl, sym, ap, subst, ◌∙◌, List, [], ◌∷◌, ◌++◌, Bool, true, false, not, cond, eq-eqb, get_or, arith, Contains, ◌<◌, ◌≤◌, length, eqb}
+use Rattle.std.specs.List.{filter, IsDistinct}
+use Rattle.std.specs.Prelude.{◌==◌, Some, map, slice_get, if◌then◌else◌}
+use Rattle.std.proofs.lemmas.List.Elements.{Contains-append_right, recursion_from_All}
 use Rattle.staat_vec.proofs.Unique.{Contains-front, Contains-later}
-use Rattle.staat_ring.proofs.Mapped.{apart_from, from_apart}
 use Rattle.staat_ring.proofs.WithoutLemmas.{filter_from}
-use Rattle.staat_vec.proofs.Naturals.{eqb_false}
+use Rattle.staat_vec.proofs.Naturals.{eqb_false, zero_not_suc, eq_test_false}
 use Rattle.staat_ring.specs.Links.{Links, IsLinkedRing, Apart, Distinct, unlink, is_bare}
-use Rattle.staat_ring.proofs.Ends.{first_of, last_of}
-use Rattle.staat_ring.proofs.Taking.{IsBetween}
-use Rattle.staat_ring.specs.Stands.{is_empty, Tagged, IsRing}
-use Rattle.staat_ring.proofs.ListsWithout.{without}
-use Rattle.staat_ring.proofs.Chains.{ring-unlink, between, chain_stays, prev_in, next_in, InRange as NodeInRange}
+use Rattle.staat_ring.proofs.Chains.{first_of, last_of, ring-unlink, between, chain_stays, prev_in, next_in, InRange as NodeInRange}
+use Rattle.staat_ring.proofs.RelinkUndoesUnlink.{IsBetween}
+use Rattle.staat_ring.specs.Stands.{is_empty, Tagged, IsRing, EachVertex, RingLists, Shape}
+use Rattle.std.proofs.lemmas.List.Folds.{Any-from_list_any}
+use Rattle.std.proofs.lemmas.Map.Steps.{length-le_from_distinct_below}
+use Rattle.staat_model.proofs.Members.{All-from_members}
+use Rattle.staat_vec.proofs.ListLaws.{Contains-from_map, place_of}
+
+-- the list without x
+abbrev pub without : ℕ → List ℕ → List ℕ
+without x xs = filter (λ y. not (y == x)) xs
+
+-- the lists without the entry e at the vertex v: the vertex leaves with its last entry
+abbrev pub lists_without : ℕ → ℕ → RingLists → RingLists
+lists_without v e l = record {
+  vertices = λ c. if is_empty (without e (l.entries v)) then without v (l.vertices c) else l.vertices c;
+  entries = λ u. without e (l.entries u);
+}
+
+-- the lists without these entries, in their order
+abbrev pub lists_without_all : (ℕ → ℕ) → List ℕ → RingLists → RingLists
+lists_without_all home [] l = l
+lists_without_all home (e ∷ es) l = lists_without_all home es (lists_without (home e) e l)
+
+-- the lists without a plane: its entries are out, and the vertices that have none left
+abbrev pub lists_without_plane : (ℕ → ℕ) → ℕ → RingLists → RingLists
+lists_without_plane plane_of p l = record {
+  vertices = λ c. filter (λ v. not (is_empty (filter (λ e. not (plane_of e == p)) (l.entries v)))) (l.vertices c);
+  entries = λ v. filter (λ e. not (plane_of e == p)) (l.entries v);
+}
+
+-- the lists agree where anything is asked of them
+pub record AreSame (g : Shape) (l m : RingLists) : Type 0 where
+  pub vertices : (c : ℕ) → c < g.count → l.vertices c ≡ m.vertices c
+  pub entries : EachVertex g.count l (λ c v. l.entries v ≡ m.entries v)
+
+pub apart_from : (x : ℕ) (ys : List ℕ) → ((y : ℕ) → Contains ys y → y ≢ x) → Apart x ys
+apart_from x [] h = tt
+apart_from x (y ∷ ys) h = (h y (zero, omega arith, refl), apart_from x ys (λ z c. h z (suc c.0, omega (arith, c.1), c.2)))
+
+pub from_apart : (x : ℕ) (ys : List ℕ) (y : ℕ) → Apart x ys → Contains ys y → y ≢ x
+from_apart x [] y a (k, lt, e) = absurd (omega arith)
+from_apart x (z ∷ ys) y a (zero, lt, e) = λ q. a.0 (e ∙ q)
+from_apart x (z ∷ ys) y a (suc k, lt, e) = from_apart x ys y a.1 (k, omega arith, e)
+
+-- no two members are the same
+pub distinct_by : {X : Type 0} (f : X → ℕ) (xs : List X) → ((k m : ℕ) (x y : X) → slice_get xs k ≡ Some x → slice_get xs m ≡ Some y → f x ≡ f y → k ≡ m) → Distinct (map f xs)
+distinct_by f [] h = tt
+distinct_by f (x ∷ xs) h = (
+  apart_from (f x) (map f xs) (λ y c e.
+      let (z, cz, ez) = Contains-from_map f xs y c in
+      let (k, at) = place_of xs z cz in
+      zero_not_suc k (h 0 (suc k) x z refl at (sym e ∙ sym ez))),
+  distinct_by f xs (λ k m y z ky mz e. let q = h (suc k) (suc m) y z ky mz e in omega (arith, q)),
+)
+
+distinct_words : (xs : List ℕ) → Distinct xs → IsDistinct eqb xs
+unfolding IsDistinct
+distinct_words [] d = tt
+distinct_words (x ∷ xs) d = (recursion_from_All (λ y. eqb x y ≡ false) xs (All-from_members (λ y. eqb x y ≡ false) xs (λ y c. eq_test_false x y (λ e. from_apart x xs y d.0 c (sym e)))), distinct_words xs d.1)
+
+-- different numbers below n are at most n
+pub few_below : (n : ℕ) (xs : List ℕ) → Distinct xs → ((x : ℕ) → Contains xs x → x < n) → length xs ≤ n
+few_below n xs d h = length-le_from_distinct_below xs n (distinct_words xs d) (λ q e. let (k, x, lt, at, same) = Any-from_list_any (eqb q) xs e in subst (λ y. y < n) (sym ((Decides-eqb q x).0 same)) (h x (k, lt, at)))
 
 pub without_same : (x : ℕ) (r : List ℕ) → without x (x ∷ r) ≡ without x r
 without_same x r = ap (λ b. cond (not b) (x ∷ without x r) (without x r)) (eq-eqb x x refl)

@@ -1,8 +1,7 @@
-use Rattle.std.proofs.Common.{◌+◌, ◌*◌, arith, ap, ◌∙◌, refl, length}
+use Rattle.std.proofs.Common.{◌+◌, ◌*◌, arith, ap, ◌∙◌, refl, length, rules}
 use Rattle.staat_pairs.specs.Tables.{facets_of}
 use Rattle.staat_ring.proofs.IndexLemmas.{no_positives, partly_more, partly_room, same_but, told_start}
 use Rattle.staat_ring.proofs.index.add_pair.Goals as goal
-use Rattle.std.proofs.Common.{rules}
 
 pub want-requires-clause-none : goal.want-requires-clause-none
 want-requires-clause-none c = no_positives c.args.signs.now c.args.q c.requires.fresh

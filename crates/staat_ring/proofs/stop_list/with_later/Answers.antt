@@ -1,7 +1,6 @@
 use Rattle.std.proofs.Common.{◌+◌, ◌<◌, arith, length, ℕ}
 use Rattle.std.proofs.lemmas.List.{get_or_read}
-use Rattle.staat_ring.proofs.Divided.{end_within}
-use Rattle.staat_ring.proofs.Divided.{image_at, image_more}
+use Rattle.staat_ring.proofs.Divided.{end_within, image_at, image_more}
 use Rattle.staat_ring.proofs.stop_list.with_later.Goals as goal
 
 pub overflow_add-end : goal.overflow_add-end

@@ -1,4 +1,4 @@
-use Rattle.std.proofs.Common.{◌≡◌, ◌+◌, ◌<◌, arith, sym, subst, ◌∙◌, length}
+use Rattle.std.proofs.Common.{◌≡◌, ◌+◌, ◌<◌, arith, sym, subst, ◌∙◌, length, rules}
 use Rattle.std.proofs.lemmas.List.{length-map}
 use Rattle.std.proofs.lemmas.Option.{slice_get_within}
 use Rattle.staat_ring.specs.Rings.{linked_of}
@@ -10,7 +10,6 @@ use Rattle.staat_ring.proofs.SignAll.{Done, count_all, count_more, count_same, m
 use Rattle.staat_ring.proofs.walk.sign_all.Goals as goal
 use Rattle.staat_ring.proofs.walk.sign_all.Goals.{then-is_linked, else-is_linked}
 use Rattle.staat_vec.proofs.Truth.{false_test_clash}
-use Rattle.std.proofs.Common.{rules}
 
 pub loop-k-preserved : goal.loop-k-preserved
 loop-k-preserved g c = elim c.if-is_linked.branch [

@@ -1,9 +1,8 @@
-use Rattle.std.proofs.Common.{◌≡◌, ℕ, suc, ◌-◌, ◌<◌, subst, arith}
+use Rattle.std.proofs.Common.{◌≡◌, ℕ, suc, ◌-◌, ◌<◌, subst, arith, rules}
 use Rattle.staat_ring.specs.Links.{Arrays, give_all}
 use Rattle.staat_ring.specs.Planes.{entries_of}
 use Rattle.staat_ring.proofs.Loops.{given, passed}
 use Rattle.staat_ring.proofs.arrays.RingArrays.give_plane.Goals as goal
-use Rattle.std.proofs.Common.{rules}
 
 one_up : (n : ℕ) → 0 < n → n ≡ suc (n - 1)
 one_up n h = omega arith

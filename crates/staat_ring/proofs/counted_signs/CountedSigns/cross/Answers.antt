@@ -1,10 +1,9 @@
-use Rattle.std.proofs.Common.{subst, sym, true, false}
+use Rattle.std.proofs.Common.{subst, sym, true, false, rules}
 use Rattle.staat_ring.specs.StopSigns.{with_stop_signs}
 use Rattle.staat_ring.specs.Belonging.{BelongTo}
 use Rattle.staat_ring.proofs.StopSigns.{belong_same, stop_signs_same}
 use Rattle.staat_ring.proofs.WholeCircles.{crossed, entries_small}
 use Rattle.staat_ring.proofs.counted_signs.CountedSigns.cross.Goals as goal
-use Rattle.std.proofs.Common.{rules}
 
 pub sign_entries-left-requires : goal.sign_entries-left-requires
 sign_entries-left-requires c = search (rules, entries_small)

@@ -1,9 +1,8 @@
-use Rattle.std.proofs.Common.{arith}
+use Rattle.std.proofs.Common.{arith, rules}
 use Rattle.staat_ring.proofs.Flags.{flags_relinked}
 use Rattle.staat_ring.proofs.Made.{relinked_made}
 use Rattle.staat_ring.proofs.Unlinking.{last_small, relink_invariant, relink_kept, some, split_is}
 use Rattle.staat_ring.proofs.rings.Rings.relink.Goals as goal
-use Rattle.std.proofs.Common.{rules}
 
 pub give_plane-requires-clause-plane : goal.give_plane-requires-clause-plane
 give_plane-requires-clause-plane c = last_small c.self.inside.planes c.self.inside.count c.self.inside.order.items c.self.inside.arrays c.args.self.now c.args.plane c.self.invariant.arrays c.self.view_is c.requires.others c.requires.before c.requires.is

@@ -1,9 +1,8 @@
-use Rattle.std.proofs.Common.{arith, take}
+use Rattle.std.proofs.Common.{arith, take, rules}
 use Rattle.staat_ring.proofs.Flags.{flags_unlinked}
 use Rattle.staat_ring.proofs.Made.{unlinked_made}
 use Rattle.staat_ring.proofs.Unlinking.{has_room, is_small, unlink_invariant, unlink_is}
 use Rattle.staat_ring.proofs.rings.Rings.unlink.Goals as goal
-use Rattle.std.proofs.Common.{rules}
 
 pub take_plane-requires-clause-plane : goal.take_plane-requires-clause-plane
 take_plane-requires-clause-plane c = is_small c.self.inside.planes (take c.self.inside.count c.self.inside.order.items) c.self.inside.arrays c.args.self.now c.args.plane c.self.view_is c.requires.linked

@@ -1,4 +1,4 @@
-use Rattle.std.proofs.Common.{◌≡◌, ◌∙◌, ◌↔◌, ◌<ℤ◌, false, true, FitsSigned, ap, arith, neg_ℤ, of_z, pos, subst, sym, to_z, ℤ}
+use Rattle.std.proofs.Common.{◌≡◌, ◌∙◌, ◌↔◌, ◌<ℤ◌, false, true, FitsSigned, arith, neg_ℤ, of_z, pos, subst, sym, to_z, ℤ}
 use Rattle.std.specs.Prelude.{IsTrue}
 use Rattle.std.specs.Int.{w128}
 use Rattle.std.specs.Int.Signed.{lt_z}
