@@ -2,6 +2,8 @@
 use Rattle.std.proofs.Common.{◌≡◌, ◌⊎◌, ◌↔◌, inl, inr, ⊎_elim, ℕ, ◌+◌, ◌-◌, ◌<◌, ◌≤◌, refl, sym, ap, subst}
 use Rattle.std.proofs.Common.{◌∙◌, arith, List, [], ◌∷◌, ◌++◌, length, get_or, All}
 use Rattle.std.specs.Prelude.{Some, slice_get, slice_set}
+use Rattle.std.specs.declared.alloc.Global.{Global}
+use Rattle.std.specs.declared.vec.Vec.{Vec}
 use Rattle.std.proofs.lemmas.List.{get_or_push, length_push}
 use Rattle.std.proofs.lemmas.List.Elements.{All-push, All-set}
 use Rattle.staat_vec.specs.declared.vector.Sign.{Sign}
@@ -13,8 +15,7 @@ use Rattle.staat_cells.specs.HalfSpaces.{AreInside}
 use Rattle.staat_cells.specs.Batches.{AddsToBatch, AreInsideCone, HasCone, HasConeAmong, HasParts, IsBatch, IsBatchArc, IsLeftByAll, outside_by}
 use Rattle.staat_cells.specs.CellGraphs.{AddsCone, HasConeRoom}
 use Rattle.staat_cells.proofs.ConeTests.{AddsHalfSpaces}
-use Rattle.staat_cells.proofs.Elements.{any_pushed, any_set, turned}
-use Rattle.staat_cells.proofs.Growing.{grown_first, grown_same}
+use Rattle.staat_cells.proofs.Growing.{any_pushed, any_set, grown_first, grown_same, itself, turned}
 use Rattle.staat_vec.proofs.ListLaws.{push_cases, push_front, push_end}
 
 -- the arcs have grown by the cone j of the parts a and b
@@ -40,32 +41,23 @@ among_more old new before after a b j x y Q adds same here = (from, to)
 
 -- ---- parts more
 
-pub parts_batch : (old new : Batch) (cone : List HalfSpace) (a b j : ℕ) → IsBatch old
-    → new.cones.items ≡ old.cones.items
-    → new.tests.items ≡ old.tests.items → slice_get old.cones.items j ≡ Some cone
-    → All HasParts new.arcs.items
-    → AddsArc a b j old.arcs.items new.arcs.items → AddsToBatch cone a b old new
-parts_batch old new cone a b j rules cones_are tests_are at parts adds = record {
+pub parts_batch : (old : Batch) (arcs : Vec ArcCones Global) (cone : List HalfSpace) (a b j : ℕ) → IsBatch old
+    → slice_get old.cones.items j ≡ Some cone → All HasParts arcs.items → AddsArc a b j old.arcs.items arcs.items
+    → AddsToBatch cone a b old (record { cones = old.cones; tests = old.tests; arcs = arcs })
+parts_batch old arcs cone a b j rules at parts adds = record {
   batch = record {
-    few = subst (λ l. length l ≤ 128) (sym cones_are) rules.few;
-    tests = λ signs k. subst (λ l. IsLeftByAll (outside_by signs) l k ↔ AreInsideCone signs new.cones.items k)
-        (sym tests_are) (subst (λ l. IsLeftByAll (outside_by signs) old.tests.items k ↔ AreInsideCone signs l k)
-        (sym cones_are) (rules.tests signs k));
-    within = λ x y k h. subst (λ l. k < length l) (sym cones_are) (⊎_elim {C = k < length old.cones.items}
-        (λ o. rules.within x y k o)
+    few = rules.few;
+    tests = rules.tests;
+    within = λ x y k h. ⊎_elim {C = k < length old.cones.items} (λ o. rules.within x y k o)
         (λ p. subst (λ n. n < length old.cones.items) (sym p.2) (place_within old.cones.items j cone at))
-        ((adds x y k).0 h));
+        ((adds x y k).0 h);
     parts = parts;
   };
-  arcs = λ signs x y. among_more old.arcs.items new.arcs.items (IsLeftByAll (outside_by signs) old.tests.items)
-      (IsLeftByAll (outside_by signs) new.tests.items) a b j x y (AreInside signs cone) adds
-      (λ k o. (
-        subst (λ l. IsLeftByAll (outside_by signs) l k) (sym tests_are),
-        subst (λ l. IsLeftByAll (outside_by signs) l k) tests_are,
-      )) (
-        λ left. (rules.tests signs j).0 (subst (λ l. IsLeftByAll (outside_by signs) l j) tests_are left) cone at,
-        λ inside. subst (λ l. IsLeftByAll (outside_by signs) l j) (sym tests_are) ((rules.tests signs j).1
-            (λ o is. subst (AreInside signs) (one_at_place old.cones.items j cone o at is) inside)),
+  arcs = λ signs x y. among_more old.arcs.items arcs.items (IsLeftByAll (outside_by signs) old.tests.items)
+      (IsLeftByAll (outside_by signs) old.tests.items) a b j x y (AreInside signs cone) adds (λ k o. itself) (
+        λ left. (rules.tests signs j).0 left cone at,
+        λ inside. (rules.tests signs j).1
+            (λ o is. subst (AreInside signs) (one_at_place old.cones.items j cone o at is) inside),
       );
 }
 
@@ -136,10 +128,7 @@ pub batch_set : (batches : List Batch) (k : ℕ) (old new : Batch) (cone : List 
     → AddsCone cone a b batches (slice_set batches k new)
 batch_set batches k old new cone a b lt at rules added = record {
   arcs = λ signs x y. any_set (λ batch. IsBatchArc batch signs x y) batches k old new
-      ((x ≡ a) × (y ≡ b) × AreInside signs cone) lt
-      (subst (λ batch. IsBatchArc new signs x y
-      ↔ (IsBatchArc batch signs x y ⊎ ((x ≡ a) × (y ≡ b)
-      × AreInside signs cone))) at (added.arcs signs x y));
+      ((x ≡ a) × (y ≡ b) × AreInside signs cone) lt at (added.arcs signs x y);
   batches = All-set IsBatch batches k new added.batch rules;
 }
 

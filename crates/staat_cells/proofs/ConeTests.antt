@@ -14,7 +14,7 @@ use Rattle.staat_cells.specs.declared.batches.PlaneTest.{PlaneTest}
 use Rattle.staat_cells.specs.declared.half_spaces.HalfSpace.{HalfSpace}
 use Rattle.staat_cells.specs.HalfSpaces.{AreInside, IsInHalfSpace, sign_at}
 use Rattle.staat_cells.specs.Batches.{IsLeft, IsLeftByAll, outside_at, outside_by}
-use Rattle.staat_cells.proofs.Elements.{all_more, all_pushed, all_set}
+use Rattle.staat_cells.proofs.Growing.{all_more, all_pushed, all_set, itself, through, with_both}
 use Rattle.staat_vec.proofs.Naturals.{lt_or_le, zero_not_one, same_or}
 
 -- ---- a bit more
@@ -61,46 +61,30 @@ pub half_space_set : (tests : List PlaneTest) (half_space : HalfSpace) (j at : �
     → d ≡ get_or tests at d → d.plane ≡ half_space.plane → x.plane ≡ d.plane → HasGrown d x half_space.sign j
     → AddsHalfSpaces (λ signs. IsInHalfSpace signs half_space) j tests (slice_set tests at x)
 half_space_set tests half_space j at d x lt is plane same grown signs k =
-    all_set (λ t. IsLeft (outside_at t (sign_at signs t.plane)) k) tests at d x (k ≡ j → IsInHalfSpace signs half_space) lt own
-  where
-    own : IsLeft (outside_at x (sign_at signs x.plane)) k
-        ↔ (IsLeft (outside_at (get_or tests at d) (sign_at signs (get_or tests at d).plane)) k × (k ≡ j
-        → IsInHalfSpace signs half_space))
-    own = subst (λ (y : PlaneTest). IsLeft (outside_at x (sign_at signs x.plane)) k
-        ↔ (IsLeft (outside_at y (sign_at signs y.plane)) k × (k ≡ j → IsInHalfSpace signs half_space))) is
-        (subst (λ n. IsLeft (outside_at x (sign_at signs n)) k
-        ↔ (IsLeft (outside_at d (sign_at signs d.plane)) k × (k ≡ j → IsInHalfSpace signs half_space))) (sym same)
-        (subst (λ n. IsLeft (outside_at x (sign_at signs d.plane)) k
-        ↔ (IsLeft (outside_at d (sign_at signs d.plane)) k × (k ≡ j → sign_at signs n ≡ half_space.sign))) plane
-        (grown (sign_at signs d.plane) k)))
+    all_set (λ t. IsLeft (outside_at t (sign_at signs t.plane)) k) tests at d x (k ≡ j → IsInHalfSpace signs half_space) lt is
+    (subst (λ n. IsLeft (outside_at x (sign_at signs n)) k
+    ↔ (IsLeft (outside_at d (sign_at signs d.plane)) k × (k ≡ j → IsInHalfSpace signs half_space))) (sym same)
+    (subst (λ n. IsLeft (outside_at x (sign_at signs d.plane)) k
+    ↔ (IsLeft (outside_at d (sign_at signs d.plane)) k × (k ≡ j → sign_at signs n ≡ half_space.sign))) plane
+    (grown (sign_at signs d.plane) k)))
 
 pub half_space_pushed : (tests new : List PlaneTest) (half_space : HalfSpace) (j : ℕ) (x : PlaneTest) → x.plane ≡ half_space.plane
     → HasGrown (record { plane = half_space.plane; outside = 0 ∷ 0 ∷ 0 ∷ [] }) x half_space.sign j
     → new ≡ tests ++ x ∷ []
     → AddsHalfSpaces (λ signs. IsInHalfSpace signs half_space) j tests new
 half_space_pushed tests new half_space j x same grown is signs k =
-    subst (λ l. IsLeftByAll (outside_by signs) l k ↔ (IsLeftByAll (outside_by signs) tests k × (k ≡ j
-    → IsInHalfSpace signs half_space))) (sym is) (from, to)
+    through (all_pushed (λ t. IsLeft (outside_at t (sign_at signs t.plane)) k) tests new x is) (with_both itself own)
   where
-    P : PlaneTest → Type 0
-    P t = IsLeft (outside_at t (sign_at signs t.plane)) k
-
     left : (t : Sign) → IsLeft (outside_at (record { plane = half_space.plane; outside = 0 ∷ 0 ∷ 0 ∷ [] }) t) k
     left Neg = bit_at-zero k
     left Zero = bit_at-zero k
     left Pos = bit_at-zero k
 
-    own : P x ↔ (k ≡ j → IsInHalfSpace signs half_space)
+    own : IsLeft (outside_at x (sign_at signs x.plane)) k ↔ (k ≡ j → IsInHalfSpace signs half_space)
     own = subst (λ n. IsLeft (outside_at x (sign_at signs n)) k ↔ (k ≡ j → IsInHalfSpace signs half_space)) (sym same) (
       λ h. ((grown (sign_at signs half_space.plane) k).0 h).1,
       λ h. (grown (sign_at signs half_space.plane) k).1 (left (sign_at signs half_space.plane), h),
     )
-
-    from : IsLeftByAll (outside_by signs) (tests ++ x ∷ []) k → IsLeftByAll (outside_by signs) tests k × (k ≡ j → IsInHalfSpace signs half_space)
-    from h = let both = (all_pushed P tests x).0 h in (both.0, own.0 both.1)
-
-    to : IsLeftByAll (outside_by signs) tests k × (k ≡ j → IsInHalfSpace signs half_space) → IsLeftByAll (outside_by signs) (tests ++ x ∷ []) k
-    to h = (all_pushed P tests x).1 (h.0, own.1 h.1)
 
 pub no_half_spaces : (tests : List PlaneTest) (cone : List HalfSpace) (j : ℕ)
     → AddsHalfSpaces (λ signs. AreInside signs (take 0 cone)) j tests tests

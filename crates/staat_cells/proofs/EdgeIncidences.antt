@@ -1,6 +1,5 @@
 -- The cells beside a vertex on a plane through it are the edges that end there.
-use Rattle.std.proofs.Common.{◌≡◌, ◌≢◌, ℕ, zero, suc, refl, sym, ap, subst, ◌∙◌, arith, ℤ, pos, negsuc, neg_ℤ, ◌-ℤ◌, ◌*ℤ◌, ◌<ℤ◌, ◌⊎◌, inl, inr, ⊎_elim, List, [], ◌∷◌, Contains}
-use Rattle.std.proofs.lemmas.Int.{ints}
+use Rattle.std.proofs.Common.{◌≡◌, ◌≢◌, ℕ, zero, suc, refl, sym, ap, subst, ◌∙◌, ℤ, pos, negsuc, neg_ℤ, ◌-ℤ◌, ◌*ℤ◌, ◌⊎◌, inl, inr, ⊎_elim, List, [], ◌∷◌, Contains}
 use Rattle.staat_vec.specs.declared.vector.V3.{V3}
 use Rattle.staat_vec.specs.declared.vector.Sign.{Sign}
 use Rattle.staat_vec.specs.declared.vector.Sign.TheVariants.{Neg, Zero, Pos}
@@ -18,7 +17,7 @@ use Rattle.staat_cells.specs.Beside.{then_sign, beside, IsBeside}
 use Rattle.staat_cells.specs.Stages.{IsBesideOn}
 use Rattle.staat_cells.proofs.Beside.{beside_is, beside_border, border_at, at_plane, from_planes}
 use Rattle.staat_cells.proofs.Zeros.{one_zero}
-use Rattle.staat_vec.proofs.Integers.{mul-zero_ℤ, other_factor_zero, opposite_zero_back, opposite_zero, products_zero, products_swapped}
+use Rattle.staat_vec.proofs.Integers.{mul-zero_ℤ, other_factor_zero, opposite_zero_back, opposite_zero, positive_not_zero, products_zero, products_swapped}
 use Rattle.staat_vec.proofs.Divisors.{neg-neg}
 use Rattle.staat_vec.proofs.VectorLaws.{dot_cross_about, some_square, dot_origin}
 use Rattle.staat_vec.proofs.Signs.{sign_some, sign_times, zero_sign}
@@ -26,13 +25,7 @@ use Rattle.staat_vec.proofs.Signs.{sign_some, sign_times, zero_sign}
 -- ---- numbers
 
 pub mul_some : (a b : ℤ) → a ≢ pos 0 → b ≢ pos 0 → a *ℤ b ≢ pos 0
-mul_some (pos zero) b n m e = n refl
-mul_some (pos (suc a)) (pos zero) n m e = m refl
-mul_some (pos (suc a)) (pos (suc b)) n m e = omega (arith, ints)
-mul_some (pos (suc a)) (negsuc b) n m e = omega (arith, ints)
-mul_some (negsuc a) (pos zero) n m e = m refl
-mul_some (negsuc a) (pos (suc b)) n m e = omega (arith, ints)
-mul_some (negsuc a) (negsuc b) n m e = omega (arith, ints)
+mul_some a b n m e = m (other_factor_zero a b n e)
 
 same_sign : (a b : ℕ) (x y : ℤ) → pos (suc a) *ℤ x ≡ pos (suc b) *ℤ y → sign x ≡ sign y
 same_sign a b x y e = sym (sign_times a x) ∙ ap sign e ∙ sign_times b y
@@ -63,15 +56,12 @@ pub dot_same : (g w f : V3) → IsSame w f → dot g f ≡ pos 0 → dot g w ≡
 dot_same g w f (inl e) h = ap (dot g) e ∙ h
 dot_same g w f (inr e) h = opposite_zero (dot g w) (dot g f) (ap (dot g) e ∙ dot_negative g f) h
 
-some_positive : (a : ℤ) → pos 0 <ℤ a → a ≢ pos 0
-some_positive a h e = omega (arith, ints)
-
 -- two planes through v, and a third one that is not: on the plane c only planes parallel to it hold v and the crossing with m
 pub off_crossing : (g c m v : V3) → dot g v ≡ pos 0 → dot c v ≡ pos 0 → dot m v ≢ pos 0 → cross g c ≢ origin → dot g (cross c m) ≢ pos 0
 off_crossing g c m v on_g on_c off some e =
     let p = cross g c in
     let both : dot p p *ℤ dot m v ≡ dot v p *ℤ dot m p = sym (dot_scale (dot p p) m v) ∙ ap (dot m) (along v g c on_g on_c) ∙ dot_scale (dot v p) m p in
-    mul_some (dot p p) (dot m v) (some_positive (dot p p) (some_square p some)) off
+    mul_some (dot p p) (dot m v) (positive_not_zero (dot p p) (some_square p some)) off
     (both ∙ ap (λ z. dot v p *ℤ z) (sym (dot_cross_about g c m) ∙ e) ∙ mul-zero_ℤ (dot v p))
 
 -- ---- what is beside a vertex on a plane is an edge
@@ -84,6 +74,11 @@ then_zero Pos t e = cc
 -- beside v, the sign at a plane through v is that of w, and at another plane that of v
 abbrev beside_at : V3 → V3 → V3 → Sign
 beside_at v w n = then_sign (sign (dot n v)) (sign (dot n w))
+
+pub by_sign : (s t u : Sign) → (s ≡ u) ⊎ (s ≡ Zero) → (s ≡ Zero → u ≡ t) → u ≡ then_sign s t
+by_sign Zero t u h z = z refl
+by_sign Neg t u h z = ⊎_elim (λ e. sym e) (λ e. cc) h
+by_sign Pos t u h z = ⊎_elim (λ e. sym e) (λ e. cc) h
 
 then_first : (s t : Sign) → s ≢ Zero → then_sign s t ≡ s
 then_first Neg t n = refl
@@ -137,7 +132,7 @@ drop_zero k a x b y e = ring (k ∷ a ∷ x ∷ b ∷ []) ((at 0 ⊗ at 1) ⊗ a
 -- where m is not through v, no multiple of it is c
 crossing_some : (c m v : V3) → c ≢ origin → dot c v ≡ pos 0 → dot m v ≢ pos 0 → cross c m ≢ origin
 crossing_some c m v some on off e =
-    mul_some (dot c c) (dot m v) (some_positive (dot c c) (some_square c some)) off
+    mul_some (dot c c) (dot m v) (positive_not_zero (dot c c) (some_square c some)) off
     (ring_by_two (values (c ∷ m ∷ v ∷ []) []) (dotE v0 v0 ⊗ dotE v1 v2) (num (pos 0)) (dotE v0 v1) (dotE v0 v2) (num (pos 0)) (num (pos 1)) (dotE (crossE v0 v1) (crossE v0 v2)) (num (pos 0)) on (dot_origin_left (cross c m) (cross c v) e) tt)
   where
     dot_origin_left : (p q : V3) → p ≡ origin → dot p q ≡ pos 0
@@ -157,7 +152,7 @@ module _ (planes : List V3) (v d c m : V3) (some_c : c ≢ origin) (on_d : dot c
       ∙ dot_scale (dot x w) g w
 
   left_some : dot (cross c m) (cross c m) *ℤ dot m v ≢ pos 0
-  left_some = mul_some (dot (cross c m) (cross c m)) (dot m v) (some_positive (dot (cross c m) (cross c m)) (some_square (cross c m) (crossing_some c m v some_c on_v off))) off
+  left_some = mul_some (dot (cross c m) (cross c m)) (dot m v) (positive_not_zero (dot (cross c m) (cross c m)) (some_square (cross c m) (crossing_some c m v some_c on_v off))) off
 
   right_some : dot (across m d v) (cross c m) ≢ pos 0
   right_some e = crossed.independent ((λ i. cross (same crossed.g crossed.g_in crossed.on_g i) (same crossed.h crossed.h_in crossed.on_h i)) ∙ cross_self c)
@@ -171,13 +166,6 @@ module _ (planes : List V3) (v d c m : V3) (some_c : c ≢ origin) (on_d : dot c
       (λ turned. inr (from_planes (λ n. sign (dot n d)) (beside_at v (negative (cross c m))) planes (λ g g_in. at g g_in (negative (cross c m)) (λ on. turned (dot g d) (dot g (cross c m)) (in_ratio g on) ∙ ap sign (sym (dot_negative g (cross c m)))))))
       (ratio (dot (cross c m) (cross c m) *ℤ dot m v) (dot (across m d v) (cross c m)) left_some right_some)
     where
-      by_sign : (s t u : Sign) → (s ≡ u) ⊎ (s ≡ Zero) → (s ≡ Zero → u ≡ t) → u ≡ then_sign s t
-      by_sign Neg t u (inl e) z = sym e
-      by_sign Neg t u (inr e) z = cc
-      by_sign Zero t u h z = z refl
-      by_sign Pos t u (inl e) z = sym e
-      by_sign Pos t u (inr e) z = cc
-
       at : (g : V3) → Contains planes g → (w : V3) → (dot g v ≡ pos 0 → sign (dot g d) ≡ sign (dot g w)) → sign (dot g d) ≡ beside_at v w g
       at g g_in w h = by_sign (sign (dot g v)) (sign (dot g w)) (sign (dot g d)) (border_at (λ n. sign (dot n v)) (λ n. sign (dot n d)) planes g border g_in) (λ z. h (zero_sign (dot g v) z))
 

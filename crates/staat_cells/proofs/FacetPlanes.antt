@@ -1,11 +1,9 @@
 -- The facets of two pieces by their planes, one more at a time.
-use Rattle.std.proofs.Common.{◌≡◌, ◌↔◌, ℕ, zero, suc, ◌+◌, ◌≤◌, sym, ap, subst}
-use Rattle.std.proofs.Common.{◌≢◌, ◌∙◌, ⊎_elim, arith, Contains}
+use Rattle.std.proofs.Common.{◌≡◌, ◌≢◌, ◌↔◌, ℕ, zero, suc, ◌+◌, ◌≤◌, sym, ap, subst, ◌∙◌, ⊎_elim, arith, Contains}
 use Rattle.std.proofs.Common.{pos, ◌<ℤ◌, List, [], ◌∷◌, ◌++◌, length, take, All}
 use Rattle.std.specs.Prelude.{Some, slice_get}
 use Rattle.std.proofs.lemmas.List.{take_all}
 use Rattle.std.proofs.lemmas.List.Elements.{All-contains}
-use Rattle.std.proofs.lemmas.Option.{slice_get-get_or}
 use Rattle.staat_vec.specs.declared.vector.V3.{V3}
 use Rattle.staat_vec.specs.declared.vector.Sign.{Sign}
 use Rattle.staat_vec.specs.declared.vector.Sign.TheVariants.{Neg, Pos}
@@ -24,9 +22,9 @@ use Rattle.staat_pairs.specs.Tables.{AreTablePlanes, IsTable, IsTableArc, IsTabl
 use Rattle.staat_model.specs.declared.certificate.Arc.{Arc}
 use Rattle.staat_model.proofs.Decisions.{nat_or}
 use Rattle.staat_model.proofs.Members.{All-from_members}
-use Rattle.staat_cells.proofs.Elements.{all_pushed}
+use Rattle.staat_cells.proofs.Growing.{all_pushed, back, through, with_both}
 use Rattle.staat_vec.proofs.Integers.{opposite_positive_back, turned_negative}
-use Rattle.staat_vec.proofs.ListLaws.{take_next}
+use Rattle.staat_vec.proofs.ListLaws.{place_of, take_next}
 use Rattle.staat_vec.proofs.Signs.{positive_sign, negative_sign, sign_positive, sign_negative}
 use Rattle.staat_vec.proofs.VectorLaws.{some_square}
 
@@ -63,8 +61,7 @@ half_space_is planes rules n k t at own signs = (
 ahead_by_sign : (planes : List V3) (rules : AreTablePlanes planes) (n d : V3) → IsTableFacet planes n
     → IsSignAhead planes (signs_of planes d) n ↔ (pos 0 <ℤ dot n d)
 ahead_by_sign planes rules n d facet =
-    let (k, lt, is) = facet.plane in
-    let at : slice_get planes k ≡ Some (canon n) = slice_get-get_or planes k (canon n) lt ∙ ap Some is in
+    let (k, at) = place_of planes (canon n) facet.plane in
     let some = IsPrimitive-some n facet.primitive in
     let there = sign_there planes k (canon n) d at in
     let m = negative n in
@@ -84,28 +81,23 @@ ahead_by_sign planes rules n d facet =
 pub ahead_by_signs : (t : Table) (d : V3) (a b : ℕ) → IsTable t
     → IsAheadBy t (signs_of t.planes d) a b ↔ IsAhead t d a b
 ahead_by_signs t d a b rules = (
-  λ h. record {
-    i = h.i;
-    j = h.j;
-    across = h.across;
-    ahead = All-from_members (λ n. pos 0 <ℤ dot n d) (facets_of t (arc_of a h.i b h.j)) (λ n c.
-        (one (arc_of a h.i b h.j) h.across n c).0
-        (All-contains (IsSignAhead t.planes (signs_of t.planes d)) (facets_of t (arc_of a h.i b h.j)) n h.ahead c));
-  },
-  λ h. record {
-    i = h.i;
-    j = h.j;
-    across = h.across;
-    ahead = All-from_members (IsSignAhead t.planes (signs_of t.planes d)) (facets_of t (arc_of a h.i b h.j)) (λ n c.
-        (one (arc_of a h.i b h.j) h.across n c).1
-        (All-contains (λ n. pos 0 <ℤ dot n d) (facets_of t (arc_of a h.i b h.j)) n h.ahead c));
-  },
+  λ h. record { i = h.i; j = h.j; across = h.across; ahead = (each (arc_of a h.i b h.j) h.across).0 h.ahead },
+  λ h. record { i = h.i; j = h.j; across = h.across; ahead = (each (arc_of a h.i b h.j) h.across).1 h.ahead },
 )
   where
-    one : (arc : Arc) → IsTableArc t arc → (n : V3) → Contains (facets_of t arc) n
-        → IsSignAhead t.planes (signs_of t.planes d) n ↔ (pos 0 <ℤ dot n d)
-    one arc across n c = ahead_by_sign t.planes rules.planes n d
-        (All-contains (IsTableFacet t.planes) (facets_of t arc) n (rules.facets arc across).each c)
+    BySign : V3 → Type 0
+    BySign = IsSignAhead t.planes (signs_of t.planes d)
+
+    Ahead : V3 → Type 0
+    Ahead n = pos 0 <ℤ dot n d
+
+    each : (arc : Arc) → IsTableArc t arc → All BySign (facets_of t arc) ↔ All Ahead (facets_of t arc)
+    each arc across =
+        let one : (n : V3) → Contains (facets_of t arc) n → BySign n ↔ Ahead n = λ n c. ahead_by_sign t.planes rules.planes n d
+        (All-contains (IsTableFacet t.planes) (facets_of t arc) n (rules.facets arc across).each c) in (
+          λ h. All-from_members Ahead (facets_of t arc) (λ n c. (one n c).0 (All-contains BySign (facets_of t arc) n h c)),
+          λ h. All-from_members BySign (facets_of t arc) (λ n c. (one n c).1 (All-contains Ahead (facets_of t arc) n h c)),
+        )
 
 -- ---- facet by facet
 
@@ -120,21 +112,8 @@ pub facet_more : (planes facets : List V3) (n : V3) (k : ℕ) (old new : List Ha
     → new ≡ old ++ half_space ∷ []
     → AreAhead planes (take k facets) old → AreAhead planes (take (k + 1) facets) new
 facet_more planes facets n k old new half_space at ahead grown before signs =
-    subst (λ l. AreInside signs new ↔ All Ahead l) (sym (take_next facets k n at))
-    (subst (λ l. AreInside signs l ↔ All Ahead (take k facets ++ n ∷ [])) (sym grown) (from, to))
-  where
-    Ahead : V3 → Type 0
-    Ahead m = IsSignAhead planes signs m
-
-    from : AreInside signs (old ++ half_space ∷ []) → All Ahead (take k facets ++ n ∷ [])
-    from i =
-        let both = (all_pushed (IsInHalfSpace signs) old half_space).0 i in
-        (all_pushed Ahead (take k facets) n).1 ((before signs).0 both.0, (ahead signs).0 both.1)
-
-    to : All Ahead (take k facets ++ n ∷ []) → AreInside signs (old ++ half_space ∷ [])
-    to all =
-        let both = (all_pushed Ahead (take k facets) n).0 all in
-        (all_pushed (IsInHalfSpace signs) old half_space).1 ((before signs).1 both.0, (ahead signs).1 both.1)
+    through (all_pushed (IsInHalfSpace signs) old new half_space grown) (through (with_both (before signs) (ahead signs))
+    (back (all_pushed (IsSignAhead planes signs) (take k facets) (take (k + 1) facets) n (take_next facets k n at))))
 
 pub facets_all : (planes facets : List V3) (k : ℕ) (cone : List HalfSpace) → length facets ≤ k
     → AreAhead planes (take k facets) cone → AreAhead planes facets cone

@@ -22,7 +22,7 @@ use Rattle.staat_cells.specs.Batches.{HasLeft, IsJoinedArc, IsLeft, IsLeftByAll,
 use Rattle.staat_cells.specs.CellGraphs.{HasArcsOf, IsAheadBy, IsArcAt, IsCellGraph}
 use Rattle.staat_cells.proofs.FacetPlanes.{ahead_by_signs}
 use Rattle.staat_planes.proofs.Gaining.{adds_nothing}
-use Rattle.staat_cells.proofs.Growing.{grown_first, grown_same, grown_take}
+use Rattle.staat_cells.proofs.Growing.{grown_first, grown_same, grown_take, through}
 
 -- ---- the arcs of a batch
 
@@ -42,19 +42,9 @@ one_left : (outside word : ℕ) (x : ArcCones) (rows : List ℕ) → x.a < lengt
     → ((q : ℕ) → (bit_at word q ≡ 1) ↔ ((bit_at (slice_index rows x.a) q ≡ 1) ⊎ ((q ≡ x.b)
     × HasLeft x outside)))
     → (a b : ℕ) → HasArc (slice_set rows x.a word) a b ↔ (HasArc rows a b ⊎ IsArcLeft outside a b x)
-one_left outside word x rows lt bits a =
-    row_set rows x.a a word (λ p q. HasArc rows p q ⊎ IsArcLeft outside p q x) lt own other
-  where
-    own : (q : ℕ) → (bit_at word q ≡ 1) ↔ (HasArc rows x.a q ⊎ IsArcLeft outside x.a q x)
-    own q = (
-      λ h. ⊎_elim {C = HasArc rows x.a q ⊎ IsArcLeft outside x.a q x} (λ o. inl o)
-          (λ p. inr (refl, sym p.0, p.1)) ((bits q).0 h),
-      λ h. (bits q).1 (⊎_elim {C = HasArc rows x.a q ⊎ ((q ≡ x.b) × HasLeft x outside)} (λ o. inl o)
-          (λ p. inr (sym p.1, p.2)) h),
-    )
-
-    other : (q : ℕ) → a ≢ x.a → HasArc rows a q ↔ (HasArc rows a q ⊎ IsArcLeft outside a q x)
-    other q ne = (λ h. inl h, ⊎_elim {C = HasArc rows a q} (λ h. h) (λ p. absurd (ne (sym p.0))))
+one_left outside word x rows lt bits a = row_set rows x.a a word (λ p q. HasArc rows p q ⊎ IsArcLeft outside p q x) lt
+    (λ q. grown_same (bits q) (λ p. (refl, sym p.0, p.1), λ p. (sym p.1, p.2)))
+    (λ q ne. adds_nothing (λ p. ne (sym p.0)))
 
 pub left_more : (outside word k : ℕ) (arcs : List ArcCones) (x : ArcCones) (old mid : List ℕ) → length old ≡ 32
     → k < length arcs → x ≡ get_or arcs k x → x.a < 32
@@ -67,42 +57,17 @@ left_more outside word k arcs x old mid is lt at small bits before = record {
       (one_left outside word x mid (let e = before.long is in omega (arith, e, small)) bits a b);
 }
 
-pub batch_arcs : (batch : JoinedBatch) (signs : List Sign) (outside k : ℕ) (arcs : List ArcCones) (tests : List JoinedTest)
-    (old new : List ℕ) → arcs ≡ batch.arcs.items → tests ≡ batch.tests.items → length arcs ≤ k
-    → ((j : ℕ) → IsLeft outside j ↔ IsLeftByAll (joined_outside signs) tests j)
+pub batch_arcs : (batch : JoinedBatch) (signs : List Sign) (outside k : ℕ) (arcs : List ArcCones) (old new : List ℕ)
+    → arcs ≡ batch.arcs.items → length arcs ≤ k
+    → ((j : ℕ) → IsLeft outside j ↔ IsLeftByAll (joined_outside signs) batch.tests.items j)
     → AddsLeft outside (take k arcs) old new
     → (a b : ℕ) → HasArc new a b ↔ (HasArc old a b ⊎ IsJoinedArc batch signs a b)
-batch_arcs batch signs outside k arcs tests old new arcs_are tests_are le ruled all a b =
-    grown_same (all.has a b) (λ p. from (whole.0 p), λ p. whole.1 (to p))
-  where
-    Left : List ArcCones → Type 0
-    Left l = Any (IsArcLeft outside a b) l
-
-    whole : Left (take k arcs) ↔ Left batch.arcs.items
-    whole = (subst Left (take_all k arcs le ∙ arcs_are), subst Left (sym (take_all k arcs le ∙ arcs_are)))
-
-    from : Left batch.arcs.items → IsJoinedArc batch signs a b
-    from (i, x, lt, e, (a_is, b_is, (j, one, out))) = record {
-      cone = j;
-      has = (i, x, lt, e, (a_is, b_is, one));
-      is_left = subst (λ l. IsLeftByAll (joined_outside signs) l j) tests_are ((ruled j).0 out);
-    }
-
-    to : IsJoinedArc batch signs a b → Left batch.arcs.items
-    to h = let (i, x, lt, e, (a_is, b_is, one)) = h.has in (
-      i,
-      x,
-      lt,
-      e,
-      (
-        a_is,
-        b_is,
-        (
-          h.cone,
-          one,
-          (ruled h.cone).1 (subst (λ l. IsLeftByAll (joined_outside signs) l h.cone) (sym tests_are) h.is_left),
-        ),
-      ),
+batch_arcs batch signs outside k arcs old new arcs_are le ruled all a b = grown_same
+    (subst (λ l. HasArc new a b ↔ (HasArc old a b ⊎ Any (IsArcLeft outside a b) l)) (take_all k arcs le ∙ arcs_are) (all.has a b)) (
+      λ (i, x, lt, e, (a_is, b_is, (j, one, out))).
+          record { cone = j; has = (i, x, lt, e, (a_is, b_is, one)); is_left = (ruled j).0 out },
+      λ h. let (i, x, lt, e, (a_is, b_is, one)) = h.has in
+          (i, x, lt, e, (a_is, b_is, (h.cone, one, (ruled h.cone).1 h.is_left))),
     )
 
 -- ---- all batches
@@ -117,20 +82,15 @@ pub graph_is : (t : Table) (batches : List JoinedBatch) (signs : List Sign) (row
     → HasArcsUpTo rows batches signs k → HasArcsOf t batches
     → IsCellGraph t signs rows
 graph_is t batches signs rows k le all tells a b =
-    let law = grown_first (all a b) (empty_graph a b) in (
-      λ h. (tells.arcs signs a b).0 (subst (λ l. IsArcAt l signs a b) (take_all k batches le) (law.0 h)),
-      λ h. law.1 (subst (λ l. IsArcAt l signs a b) (sym (take_all k batches le)) ((tells.arcs signs a b).1 h)),
-    )
+    through (subst (λ l. HasArc rows a b ↔ IsArcAt l signs a b) (take_all k batches le)
+    (grown_first (all a b) (empty_graph a b))) (tells.arcs signs a b)
 
 -- the arcs by the signs of a direction are those at the direction
 pub graph_at : (t : Table) (d : V3) (signs : List Sign) (rows : List ℕ) → IsTable t → IsCellGraph t signs rows
     → signs_of t.planes d ≡ signs
     → (a b : ℕ) → HasArc rows a b ↔ IsAhead t d a b
 graph_at t d signs rows rules graph e a b =
-    let law = ahead_by_signs t d a b rules in (
-      λ h. law.0 (subst (λ s. IsAheadBy t s a b) (sym e) ((graph a b).0 h)),
-      λ h. (graph a b).1 (subst (λ s. IsAheadBy t s a b) e (law.1 h)),
-    )
+    through (graph a b) (subst (λ s. IsAheadBy t s a b ↔ IsAhead t d a b) e (ahead_by_signs t d a b rules))
 
 pub graph_shows : (t : Table) (parts : List Part) (d : V3) (signs : List Sign) (rows : List ℕ) → IsTable t
     → IsCellGraph t signs rows → WasMadeFrom parts t

@@ -1,16 +1,13 @@
 -- The first open cell is between the last two edges on its border.
-use Rattle.std.proofs.Common.{◌≡◌, ◌≢◌, ◌⊎◌, inl, inr, ⊎_elim, ℕ, zero, suc, ◌<◌, ◌≤◌}
-use Rattle.std.proofs.Common.{refl, sym, ap, subst, ◌∙◌}
-use Rattle.std.proofs.Common.{arith, ℤ, pos, negsuc, ◌<ℤ◌, unsigned_abs, List, []}
-use Rattle.std.proofs.Common.{◌∷◌, length}
-use Rattle.std.proofs.Common.{map, Contains}
+use Rattle.std.proofs.Common.{◌≡◌, ◌≢◌, ◌⊎◌, inl, inr, ⊎_elim, ℕ, zero, suc, ◌<◌, ◌≤◌, refl, sym, ap, subst, ◌∙◌}
+use Rattle.std.proofs.Common.{arith, ℤ, pos, negsuc, ◌<ℤ◌, unsigned_abs, List, [], ◌∷◌, length, map, Contains}
 use Rattle.std.specs.Prelude.{Some, slice_get}
 use Rattle.std.specs.Ordering.{nat_cmp, ordering_then}
 use Rattle.std.specs.declared.cmp.Ordering.TheVariants.{Less}
 use Rattle.std.proofs.lemmas.Int.{ints}
 use Rattle.std.proofs.lemmas.List.Elements.{All-cons, All-contains, All-head, All-tail}
 use Rattle.std.proofs.lemmas.Map.Views.{All-after_first}
-use Rattle.std.proofs.lemmas.Option.{slice_get-get_or}
+use Rattle.staat_vec.proofs.ListLaws.{place_of}
 use Rattle.staat_vec.specs.declared.vector.V3.{V3}
 use Rattle.staat_vec.specs.declared.vector.Sign.{Sign}
 use Rattle.staat_vec.specs.declared.vector.Sign.TheVariants.{Neg, Zero, Pos}
@@ -21,15 +18,13 @@ use Rattle.staat_vec.proofs.Unique.{Contains-cases, Contains-nothing, from_place
 use Rattle.staat_vec.proofs.VecRing.{cross_self}
 use Rattle.staat_model.specs.declared.tree.Kind.TheVariants.{Open}
 use Rattle.staat_model.specs.Cells.{AreCellsOf, CellEntry, IsBorder, IsBorderEdge, IsCell, IsEntry, IsOpenSum, kind_of}
-use Rattle.staat_model.specs.Cells.{sign_place, signs_cmp}
-use Rattle.staat_model.specs.Cells.{signs_of}
+use Rattle.staat_model.specs.Cells.{sign_place, signs_cmp, signs_of}
 use Rattle.staat_model.proofs.CellLemmas.{edge_zeros, two_edges_lemma, zeros}
 use Rattle.staat_model.proofs.EndLemmas.{on_one}
 use Rattle.staat_model.proofs.Places.{place_within}
 use Rattle.staat_pairs.specs.Tables.{AreTablePlanes, IsPlaneNormal}
 use Rattle.staat_cells.specs.declared.first_cell.LowEdge.{LowEdge}
-use Rattle.staat_cells.specs.FirstCell.{HasNoLowEdge, IsLastLowEdge, IsLowEdge, IsLowOn, all_negative}
-use Rattle.staat_cells.specs.FirstCell.{first_entry}
+use Rattle.staat_cells.specs.FirstCell.{HasNoLowEdge, IsLastLowEdge, IsLowEdge, IsLowOn, all_negative, first_entry}
 use Rattle.staat_cells.proofs.Beside.{border_at, border_from, from_planes}
 use Rattle.staat_cells.proofs.Borders.{open_sum}
 use Rattle.staat_cells.proofs.LowEdges.{low_kind, same_or_apart}
@@ -136,14 +131,15 @@ module _ (planes : List V3) (are : AreTablePlanes planes) where
   edge_at : (s : List Sign) → IsBorderEdge planes (all_negative planes) s → (k : ℕ) × IsEdgeAt s k
   edge_at s b =
       let cell = b.cell in
-      let (c, (k, lt, at), on, only) = on_one planes cell.d (ap zeros cell.is ∙ edge_zeros s b.edge) in
+      let (c, c_in, on, only) = on_one planes cell.d (ap zeros cell.is ∙ edge_zeros s b.edge) in
+      let (k, at) = place_of planes c c_in in
       let border : IsBorder (signs_of planes cell.d) (all_negative planes) =
       subst (λ t. IsBorder t (all_negative planes)) (sym cell.is) b.border in (
         k,
         record {
           g = c;
           d = cell.d;
-          at = slice_get-get_or planes k c lt ∙ ap Some at;
+          at = at;
           low = record { on = on; below = λ m m_in. side cell.d c m m_in border (only m m_in) };
           is = cell.is;
         },

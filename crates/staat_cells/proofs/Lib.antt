@@ -26,9 +26,7 @@ pub mod VertexSigns
 pub mod EdgeIncidences
 pub mod Zeros
 pub mod Beside
-pub mod Elements
 pub mod Growing
-pub mod Cones
 pub mod ConeTests
 pub mod BatchCones
 pub mod FacetPlanes

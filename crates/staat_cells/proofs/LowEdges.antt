@@ -1,10 +1,10 @@
 -- The edges on the border of the first open cell.
 use Rattle.std.proofs.Common.{◌≡◌, ◌≢◌, ◌⊎◌, inl, inr, ⊎_elim, refl, sym, ap, subst, ◌∙◌, arith}
 use Rattle.std.proofs.Common.{ℤ, pos, ◌+ℤ◌, ◌*ℤ◌, ◌<ℤ◌, ◌≤ℤ◌, List, Contains}
-use Rattle.std.specs.Prelude.{Some, slice_get}
+use Rattle.std.specs.Prelude.{slice_get}
 use Rattle.std.proofs.lemmas.Int.{ints, by_lt_z}
 use Rattle.std.proofs.lemmas.List.Elements.{All-contains}
-use Rattle.std.proofs.lemmas.Option.{slice_get-get_or}
+use Rattle.staat_vec.proofs.ListLaws.{place_of}
 use Rattle.staat_vec.specs.declared.vector.V3.{V3}
 use Rattle.staat_vec.specs.declared.vector.Sign.TheVariants.{Neg, Zero}
 use Rattle.staat_vec.specs.declared.vector.TheConstants.{EDGE}
@@ -37,16 +37,13 @@ use Rattle.staat_model.proofs.CellLemmas.{kind_edge}
 
 pub same_or_apart : (planes : List V3) (m g : V3) → AreTablePlanes planes → Contains planes m → Contains planes g
     → (m ≡ g) ⊎ (cross m g ≢ origin)
-same_or_apart planes m g are (k, lt, at) (j, below, is) = elim (same_or k j) [
-  | inl same ↦ inl (some_injective m g (sym m_at ∙ ap (slice_get planes) same ∙ g_at))
-  | inr other ↦ inr (are.apart k j m g m_at g_at other)
-]
-  where
-    m_at : slice_get planes k ≡ Some m
-    m_at = slice_get-get_or planes k m lt ∙ ap Some at
-
-    g_at : slice_get planes j ≡ Some g
-    g_at = slice_get-get_or planes j g below ∙ ap Some is
+same_or_apart planes m g are m_in g_in =
+    let (k, m_at) = place_of planes m m_in in
+    let (j, g_at) = place_of planes g g_in in
+    elim (same_or k j) [
+      | inl same ↦ inl (some_injective m g (sym m_at ∙ ap (slice_get planes) same ∙ g_at))
+      | inr other ↦ inr (are.apart k j m g m_at g_at other)
+    ]
 
 -- a direction on the negative side of some plane is not zero
 some_low : (m d : V3) → dot m d <ℤ pos 0 → d ≢ origin

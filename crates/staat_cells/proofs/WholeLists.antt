@@ -147,5 +147,5 @@ module _ (planes : List V3) (are : AreTablePlanes planes) where
             is = ⊎_elim {C = (x ≡ incidence_of (filled Neg c.signs) x.of) ⊎ (x ≡ incidence_of (filled Pos c.signs) x.of)}
                 (λ e. inl (s.is ∙ ap (λ l. incidence_of l x.of) e))
                 (λ e. inr (s.is ∙ ap (λ l. incidence_of l x.of) e))
-                (open_filled c.signs s.signs entry.by_count u.by_count u.border);
+                (open_filled planes c.signs s.signs some entry.cell entry.by_count u.cell u.by_count u.border);
           }

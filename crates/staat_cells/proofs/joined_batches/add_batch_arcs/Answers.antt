@@ -24,5 +24,5 @@ loop-arc-preserved c =
 pub returns : goal.returns
 returns c =
     batch_arcs c.args.batch.now c.args.signs.now c.ruled_out_of-outside.result c.loop-arc.arc-index
-    c.deref-arc-items.result.now c.args.batch.now.tests.items c.args.rows.now c.loop-arc.rows c.deref-arc-items.ensures.value
-    refl c.loop-arc-test.false c.ruled_out_of-outside.ensures c.loop-arc.invariant
+    c.deref-arc-items.result.now c.args.rows.now c.loop-arc.rows c.deref-arc-items.ensures.value c.loop-arc-test.false
+    c.ruled_out_of-outside.ensures c.loop-arc.invariant
