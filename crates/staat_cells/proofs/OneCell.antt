@@ -12,7 +12,7 @@ use Rattle.staat_model.specs.Cells.{kind_of, signs_of, AreCells, AreCellsOf, Cel
 use Rattle.staat_model.proofs.Places.{get_behind, place_cases}
 use Rattle.staat_cells.specs.Compositions.{no_cell}
 use Rattle.staat_cells.specs.Stages.{cell_at}
-use Rattle.staat_cells.proofs.Listed.{entry_at, not_same, place_of}
+use Rattle.staat_cells.proofs.MadeUpCells.{entry_at, not_same, place_of}
 
 module _ (planes : List V3) (d : V3) where
   -- no listed cell has the signs of d

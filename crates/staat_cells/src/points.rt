@@ -1,6 +1,5 @@
 // The points, ascending by their signs.
-ghost use Rattle.std.specs.Prelude.{◌≡◌, ◌<◌, ◌≤◌, ◌↔◌};
-ghost use Rattle.std.specs.Prelude.{All, Contains, IfOk, IsTrue, length, map, slice_index_or, take};
+ghost use Rattle.std.specs.Prelude.{◌≡◌, ◌<◌, ◌≤◌, ◌↔◌, All, Contains, IfOk, IsTrue, length, map, slice_index_or, take};
 ghost use Rattle.staat_vec.specs.Vectors.{IsWithin, origin};
 ghost use Rattle.staat_model.specs.declared.tree.Kind.TheVariants.{Point};
 ghost use Rattle.staat_model.specs.Cells.{AreCellsOf, signs_of};

@@ -1,4 +1,3 @@
-use Rattle.std.proofs.Common.{refl}
 use Rattle.staat_cells.proofs.BatchCones.{parts_batch}
 use Rattle.staat_cells.proofs.batches.add_parts.Goals as goal
 

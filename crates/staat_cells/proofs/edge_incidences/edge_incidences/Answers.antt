@@ -10,9 +10,9 @@ use Rattle.staat_cells.specs.Compositions.{entry_of}
 use Rattle.staat_cells.specs.Packing.{incidence_cmp}
 use Rattle.staat_cells.specs.Stages.{GrewByAll, IsEdgeIncidence, IsIncidence}
 use Rattle.staat_planes.proofs.Gaining.{adds_nothing}
-use Rattle.staat_cells.proofs.EdgeCells.{point_in}
+use Rattle.staat_cells.proofs.MadeUpCells.{point_in}
 use Rattle.staat_cells.proofs.Growing.{Below, grown_first, grown_more, grown_same, none_below}
-use Rattle.staat_cells.proofs.Numbered.{IsEdgeAt, edges_all, entry_is, listed_is, own_at, own_place}
+use Rattle.staat_cells.proofs.ListedIncidences.{IsEdgeAt, edges_all, entry_is, listed_is, own_at, own_place}
 use Rattle.staat_cells.proofs.WholeLists.{lists_as}
 use Rattle.staat_cells.proofs.edge_incidences.edge_incidences.Goals as goal
 

@@ -1,4 +1,4 @@
-use Rattle.std.proofs.Common.{◌≡◌, All, arith, get_or, length, refl, subst, sym}
+use Rattle.std.proofs.Common.{◌≡◌, All, arith, get_or, length, subst, sym}
 use Rattle.std.proofs.lemmas.List.{get_or_default}
 use Rattle.std.proofs.lemmas.List.Elements.{All-get_or}
 use Rattle.staat_cells.specs.declared.batches.ArcCones.{ArcCones}

@@ -1,7 +1,7 @@
 use Rattle.std.proofs.Common.{[], arith, get_or}
 use Rattle.std.proofs.lemmas.List.{get_or_default}
 use Rattle.staat_cells.specs.declared.joined_batches.JoinedTest.{JoinedTest}
-use Rattle.staat_cells.proofs.JoinedBatches.{all_planes, more_planes}
+use Rattle.staat_cells.proofs.GraphRows.{all_planes, more_planes}
 use Rattle.staat_cells.proofs.joined_batches.last_plane.Goals as goal
 
 pub loop-test-preserved : goal.loop-test-preserved

@@ -10,8 +10,7 @@ use Rattle.staat_cells.specs.Packing.{incidence_cmp, incidence_of}
 use Rattle.staat_cells.specs.Stages.{GrewByAll, IsFilledIncidence, cell_at}
 use Rattle.staat_planes.proofs.Gaining.{adds_nothing}
 use Rattle.staat_cells.proofs.Growing.{Below, grown_first, grown_more, grown_same, none_below}
-use Rattle.staat_cells.proofs.Numbered.{IsFilledAt, filled_all, listed_is, own_place}
-use Rattle.staat_cells.proofs.PushingIncidences.{grew_pair}
+use Rattle.staat_cells.proofs.ListedIncidences.{IsFilledAt, filled_all, own_place, own_signs, grew_pair}
 use Rattle.staat_cells.proofs.WholeLists.{lists_as}
 use Rattle.staat_cells.proofs.open_incidences.open_incidences.Goals as goal
 
@@ -31,7 +30,7 @@ loop-k-preserved c =
     λ x. grown_more (IsFilledAt cells x) k (c.loop-k.invariant x)
     (grew_pair (λ z. IsFilledAt cells z k) c.loop-k.incidences.items c.push_both.new.incidences.items
     (incidence_of (filled Neg s) k) (incidence_of (filled Pos s) k)
-    (c.in_ok-push_both.ensures s (c.requires.each k (listed_is c.args.edges.now k c.loop-k-test.true)))
+    (c.in_ok-push_both.ensures s (own_signs c.args.edges.now c.args.own.now c.requires k c.loop-k-test.true))
     (λ z. (λ h. h, λ h. h)) x)
 
 pub returns : goal.returns

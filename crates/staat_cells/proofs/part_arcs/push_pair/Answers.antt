@@ -5,7 +5,7 @@ use Rattle.staat_vec.specs.declared.vector.Sign.{Sign}
 use Rattle.staat_cells.specs.CellGraphs.{IsAheadBy}
 use Rattle.staat_cells.specs.declared.half_spaces.HalfSpace.{HalfSpace}
 use Rattle.staat_cells.specs.HalfSpaces.{AreInside}
-use Rattle.staat_cells.proofs.PartArcs.{pair_added}
+use Rattle.staat_cells.proofs.PieceCones.{pair_added}
 use Rattle.staat_cells.proofs.part_arcs.push_pair.Goals as goal
 
 pub returns : goal.returns

@@ -8,8 +8,7 @@ use Rattle.staat_cells.specs.Packing.{incidence_of}
 use Rattle.staat_cells.specs.Stages.{GrewByAll, cell_at}
 use Rattle.staat_planes.proofs.Gaining.{adds_nothing}
 use Rattle.staat_cells.proofs.Growing.{Below, grown_first, grown_more, grown_same, none_below}
-use Rattle.staat_cells.proofs.Numbered.{IsOwnAt, entry_is, own_all}
-use Rattle.staat_cells.proofs.PushingIncidences.{grew_one}
+use Rattle.staat_cells.proofs.ListedIncidences.{IsOwnAt, entry_is, own_all, grew_one}
 use Rattle.staat_cells.proofs.points.own_incidences.Goals as goal
 
 pub loop-k-init : goal.loop-k-init

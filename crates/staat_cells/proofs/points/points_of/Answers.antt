@@ -6,9 +6,8 @@ use Rattle.staat_cells.specs.declared.cell.Cell.{Cell}
 use Rattle.staat_cells.specs.declared.incidence.Incidence.{Incidence}
 use Rattle.staat_cells.specs.Compositions.{entry_of}
 use Rattle.staat_cells.specs.Stages.{IsOwnIncidence, cell_at, point_entry}
-use Rattle.staat_cells.proofs.KindLists.{points_listed, points_signs, incidences_listed}
+use Rattle.staat_cells.proofs.WholeLists.{points_listed, points_signs, incidences_listed, lists_as}
 use Rattle.staat_cells.specs.Packing.{incidence_cmp}
-use Rattle.staat_cells.proofs.WholeLists.{lists_as}
 use Rattle.staat_cells.proofs.TableRules.{listed_small, planes_apart, vertices_listed}
 use Rattle.staat_cells.proofs.points.points_of.Goals as goal
 
