@@ -213,9 +213,11 @@ module _ (planes : List V3) (d c : V3) (some : c ≢ origin) (c_in : Contains pl
 
   towards : (w : V3) (t : Sign) → sign (dot c w) ≡ t → (x : V3) × (signs_of planes x ≡ filled t (signs_of planes d))
   towards w t e =
-      let (x, is) = beside_is planes d w in
-      (x, is ∙ from_planes (λ n. then_sign (sign (dot n d)) (sign (dot n w))) (λ n. then_sign (sign (dot n d)) t) planes (filled_at w t e)
-      ∙ sym (map_twice (λ s. then_sign s t) (λ n. sign (dot n d)) planes))
+      let (x, is) = beside_is planes d w in (
+        x,
+        is ∙ from_planes (λ n. then_sign (sign (dot n d)) (sign (dot n w))) (λ n. then_sign (sign (dot n d)) t) planes (filled_at w t e)
+            ∙ sym (map_twice (λ s. then_sign s t) (λ n. sign (dot n d)) planes),
+      )
 
   -- what has d on its border is filled by its sign at c
   pub filled_towards : (w : V3) → IsBorder (signs_of planes d) (signs_of planes w)

@@ -153,10 +153,6 @@ more_planes tests k last new x lt at before le own =
         let c = h.third in
         record { first = omega (arith, a, le); second = omega (arith, b, le); third = omega (arith, c, le) }
 
-pub all_planes : (tests : List JoinedTest) (k last : ℕ) → length tests ≤ k → All (HasPlanesUpTo last) (take k tests)
-    → All (HasPlanesUpTo last) tests
-all_planes tests k last le = subst (All (HasPlanesUpTo last)) (take_all k tests le)
-
 -- ---- batches
 
 pub joined_arc : (batch : Batch) (joined : JoinedBatch) → joined.arcs.items ≡ batch.arcs.items

@@ -9,15 +9,17 @@ use Rattle.staat_model.specs.Cells.{signs_of, CellEntry, IsBorder}
 use Rattle.staat_cells.specs.declared.cell.Cell.{Cell}
 use Rattle.staat_cells.specs.declared.incidence.Incidence.{Incidence}
 use Rattle.staat_cells.specs.Compositions.{entry_of, no_cell, no_incidence, composed}
-use Rattle.staat_cells.specs.Packing.{incidence_of}
+use Rattle.staat_cells.specs.Packing.{incidence_cmp, incidence_of}
 use Rattle.staat_cells.specs.Beside.{filled, beside}
 use Rattle.staat_cells.specs.Stages.{cell_at, words_of, HaveSigns, IsEdgeIncidence, IsFilledIncidence}
 use Rattle.staat_cells.specs.Stages.{IsOwnIncidence, IsIncidence, GrewByAll, IsBesideIncidence}
-use Rattle.staat_cells.proofs.Growing.{Below, grown_both}
+use Rattle.staat_cells.proofs.Growing.{Below, grown_both, grown_first, grown_same, none_below}
+use Rattle.staat_planes.proofs.Gaining.{adds_nothing}
+use Rattle.staat_vec.specs.Lists.{Lists}
 use Rattle.std.proofs.lemmas.List.Elements.{Contains-append_left, Contains-push, Contains-push_cases}
 use Rattle.staat_vec.specs.declared.vector.Sign.{Sign}
 use Rattle.staat_vec.specs.Vectors.{cross, dot, negative, sign}
-use Rattle.staat_vec.proofs.Unique.{Contains-front}
+use Rattle.staat_vec.proofs.Unique.{Contains-front, Contains-nothing}
 use Rattle.staat_cells.proofs.MadeUpCells.{composed_map}
 use Rattle.staat_vec.proofs.ListLaws.{only_one}
 use Rattle.staat_vec.proofs.Signs.{zero_sign}
@@ -98,6 +100,21 @@ module _ (cells : List CellEntry) (n : ℕ) (all : n ≡ length cells) (x : Inci
                 is = s.is;
               },
             )
+
+pub lists_as : (P Q : Incidence → Type 0) (incidences : List Incidence) → ((x : Incidence) → P x ↔ Q x)
+    → Lists incidence_cmp P incidences → Lists incidence_cmp Q incidences
+lists_as P Q incidences same lists = record { ascending = lists.ascending; each = λ x c. (same x).0 (lists.each x c); all = λ x p. lists.all x ((same x).1 p) }
+
+-- none where no cell was passed
+pub grew_none : (F : Incidence → ℕ → Type 0) (new : List Incidence) → new ≡ [] → GrewByAll (λ x. Below (F x) 0) [] new
+grew_none F new is = subst (GrewByAll (λ x. Below (F x) 0) []) (sym is) (λ x. adds_nothing (none_below (F x)))
+
+-- what was listed of all cells, in order
+pub sorted_all : (P : Incidence → Type 0) (F : Incidence → ℕ → Type 0) (found sorted : List Incidence) (k : ℕ)
+    → GrewByAll (λ x. Below (F x) k) [] found → ((x : Incidence) → Below (F x) k ↔ P x)
+    → Lists incidence_cmp (Contains found) sorted → Lists incidence_cmp P sorted
+sorted_all P F found sorted k grew all = lists_as (Contains found) P sorted
+    (λ x. grown_first (grown_same (grew x) (all x)) (Contains-nothing x))
 
 -- ---- incidences that stand where the cells do
 

@@ -34,16 +34,12 @@ use Rattle.staat_vec.proofs.ListLaws.{map_twice}
 use Rattle.staat_cells.specs.declared.skeleton.Skeleton.{Skeleton}
 use Rattle.staat_cells.specs.Skeletons.{IsSkeleton}
 use Rattle.staat_model.proofs.Members.{All-from_members}
-use Rattle.staat_cells.proofs.ListedIncidences.{listed_was}
+use Rattle.staat_cells.proofs.ListedIncidences.{listed_was, lists_as}
 use Rattle.staat_cells.proofs.PointCells.{points_are}
 
 -- what holds of all entries holds of the cells
 pub of_cells : (P : CellEntry → Type 0) (cells : List Cell) → All P (map entry_of cells) → All (λ c. P (entry_of c)) cells
 of_cells P cells all k d lt = subst P (get_or-map entry_of cells k d no_cell lt) (all k no_cell (let e = length-map cells entry_of in omega (arith, e)))
-
-pub lists_as : (P Q : Incidence → Type 0) (incidences : List Incidence) → ((x : Incidence) → P x ↔ Q x)
-    → Lists incidence_cmp P incidences → Lists incidence_cmp Q incidences
-lists_as P Q incidences same lists = record { ascending = lists.ascending; each = λ x c. (same x).0 (lists.each x c); all = λ x p. lists.all x ((same x).1 p) }
 
 module _ (planes : List V3) (are : AreTablePlanes planes) where
   some : (g : V3) → Contains planes g → g ≢ origin
