@@ -6,7 +6,7 @@ use Rattle.std.specs.declared.cmp.Ordering.TheVariants.{Less}
 use Rattle.std.specs.List.Sorted.{IsStrictlySortedBy}
 use Rattle.std.proofs.lemmas.Bool.{eq-eqb, eqb-true}
 use Rattle.std.proofs.lemmas.Cmp.{tied_itself}
-use Rattle.std.proofs.lemmas.List.{get_or_append_left, get_or_push, length-map, length_push, map-append}
+use Rattle.std.proofs.lemmas.List.{length-map, map-append}
 use Rattle.std.proofs.lemmas.List.Elements.{All-nil, All-push, Contains-get_or, Contains-push, Contains-push_cases, Contains-append_left}
 use Rattle.std.proofs.lemmas.Map.Keys.{Less-from_sorted}
 use Rattle.staat_vec.specs.declared.vector.V3.{V3}
@@ -17,13 +17,14 @@ use Rattle.staat_vec.proofs.Unique.{Contains-nothing}
 use Rattle.staat_model.specs.declared.tree.Kind.{Kind}
 use Rattle.staat_model.specs.Cells.{kind_of, signs_cmp, CellEntry, IsCell, IsEntry, AreCellsOf}
 use Rattle.staat_cells.specs.declared.incidence.Incidence.{Incidence}
-use Rattle.staat_cells.specs.Compositions.{begins_cell, begun_up_to, composed, composed_at, composed_cell, composed_up_to, no_cell, no_incidence, same_words, HavePairs}
+use Rattle.staat_cells.specs.Compositions.{begins_cell, begun_up_to, composed, composed_at, composed_cell}
+use Rattle.staat_cells.specs.Compositions.{composed_up_to, no_incidence, same_words, HavePairs}
 use Rattle.staat_cells.specs.Packing.{incidence_cmp, incidence_of}
-use Rattle.staat_cells.specs.Stages.{cell_at, HaveSigns, IsIncidence, IsUnder}
+use Rattle.staat_cells.specs.Stages.{cell_at, words_of, HaveSigns, IsIncidence, IsUnder}
 use Rattle.staat_cells.proofs.IncidenceOrder.{incidence_total}
 use Rattle.staat_cells.proofs.SignOrder.{not_below_itself, signs_exact, signs_total, sorted_push, then_equal, then_less}
 use Rattle.staat_cells.proofs.Words.{incidence_order}
-use Rattle.staat_vec.proofs.Naturals.{lt_suc_cases, trichotomy, lt_one_more_cases}
+use Rattle.staat_vec.proofs.Naturals.{lt_suc_cases, trichotomy}
 use Rattle.staat_vec.proofs.Comparisons.{less_number}
 use Rattle.staat_vec.proofs.Truth.{and_split, from_not_false, not_true_clash}
 use Rattle.staat_vec.proofs.ListLaws.{append_nothing, any_default}
@@ -35,35 +36,6 @@ words_themselves : (s : List Sign) (j k : ℕ) → same_words (incidence_of s j)
 words_themselves s j k =
     let x = incidence_of s j in
     λ i. eq-eqb x.a x.a refl i && (eq-eqb x.b x.b refl i && (eq-eqb x.c x.c refl i && eq-eqb x.d x.d refl i))
-
--- one cell more, and one incidence more with its signs
-more_signs : (cells : List CellEntry) (c : CellEntry) (incidences : List Incidence) (x : Incidence)
-    → HaveSigns cells incidences → x ≡ incidence_of c.signs x.of → HaveSigns (cells ++ c ∷ []) (incidences ++ x ∷ [])
-more_signs cells c incidences x have is = record { long = long; each = each }
-  where
-    long : length (incidences ++ x ∷ []) ≡ length (cells ++ c ∷ [])
-    long = length_push incidences x ∙ ap (λ n. n + 1) have.long ∙ sym (length_push cells c)
-
-    Here : ℕ → Type 0
-    Here k = get_or (incidences ++ x ∷ []) k no_incidence
-        ≡ incidence_of (cell_at (cells ++ c ∷ []) k).signs (get_or (incidences ++ x ∷ []) k no_incidence).of
-
-    early : (k : ℕ) → k < length cells → Here k
-    early k lt =
-        let x_at = get_or_append_left incidences (x ∷ []) no_incidence k (omega (arith, lt, have.long)) in
-        let c_at = get_or_append_left cells (c ∷ []) no_cell k lt in
-        x_at ∙ have.each k lt
-        ∙ (λ i. incidence_of (sym c_at i).signs (sym x_at i).of)
-
-    last : (k : ℕ) → length cells ≡ k → Here k
-    last k e =
-        let x_at = get_or_push incidences x no_incidence k (have.long ∙ e) in
-        let c_at = get_or_push cells c no_cell k e in
-        x_at ∙ is ∙ (λ i. incidence_of (sym c_at i).signs (sym x_at i).of)
-
-    each : (k : ℕ) → k < length (cells ++ c ∷ []) → Here k
-    each k lt = ⊎_elim {C = Here k} (λ l. early k l) (λ e. last k (sym e))
-        (lt_one_more_cases k (length cells) (omega (arith, lt, length_push cells c)))
 
 -- the cells of the kind are made up of lower cells: each has two of them at least on its border, and the first two make it
 pub record AreMadeUp (planes : List V3) (kind : Kind) (lower : List CellEntry) : Type 0 where
@@ -143,12 +115,9 @@ module _ (planes : List V3) (kind : Kind) (lower : List CellEntry) (incidences :
       let u = a.under in
       let v = b.under in
       same_signs s t 0 0 u.cell v.cell
-      (unnumbered x s a.is
+      (ap words_of (sym a.is)
       ∙ (λ i. record { a = eqb-true x.a y.a ea i; b = eqb-true x.b y.b eb i; c = eqb-true x.c y.c ec i; d = eqb-true x.d y.d ed i; of = 0 })
-      ∙ sym (unnumbered y t b.is))
-    where
-      unnumbered : (x : Incidence) (s : List Sign) → x ≡ incidence_of s x.of → incidence_of s 0 ≡ record { a = x.a; b = x.b; c = x.c; d = x.d; of = 0 }
-      unnumbered x s e = ap (λ z. record { a = z.a; b = z.b; c = z.c; d = z.d; of = 0 }) (sym e)
+      ∙ ap words_of b.is)
 
   -- each incidence stands somewhere
   record StandsAt (s : List Sign) (k i : ℕ) : Type 0 where
@@ -226,23 +195,26 @@ module _ (planes : List V3) (kind : Kind) (lower : List CellEntry) (incidences :
     signs_in cells = map (λ c. c.signs) cells
 
     -- the cells of the first incidences
-    record AreUpTo (i : ℕ) (cells : List CellEntry) : Type 0 where
+    record AreUpTo (i : ℕ) (cells : List CellEntry) (found : List Incidence) : Type 0 where
       ascending : IsStrictlySortedBy signs_cmp (signs_in cells)
       from : (s : List Sign) → Contains (signs_in cells) s → (j : ℕ) × (j < i) × HasSigns j s
       has : (j : ℕ) (s : List Sign) → HasSigns j s → j < i → Contains (signs_in cells) s
       each : All (IsEntry planes kind) cells
+      begun : HaveSigns cells found
 
-    none : AreUpTo 0 []
+    none : AreUpTo 0 [] []
     unfolding IsStrictlySortedBy
-    none = record { ascending = tt; from = λ s c. absurd (Contains-nothing s c); has = λ j s a lt. absurd (omega arith); each = All-nil (IsEntry planes kind) }
+    none = record { ascending = tt; from = λ s c. absurd (Contains-nothing s c); has = λ j s a lt. absurd (omega arith); each = All-nil (IsEntry planes kind); begun = refl }
 
-    same : (i : ℕ) (cells : List CellEntry) → i < length incidences → begins_cell incidences i ≡ false → AreUpTo i cells → AreUpTo (suc i) cells
-    same zero cells lt none up = cc
-    same (suc m) cells lt none up = record {
+    same : (i : ℕ) (cells : List CellEntry) (found : List Incidence) → i < length incidences → begins_cell incidences i ≡ false → AreUpTo i cells found
+        → AreUpTo (suc i) cells found
+    same zero cells found lt none up = cc
+    same (suc m) cells found lt none up = record {
       ascending = up.ascending;
       from = λ s c. let (j, less, a) = up.from s c in (j, omega arith, a);
       has = has;
       each = up.each;
+      begun = up.begun;
     }
       where
         has : (j : ℕ) (s : List Sign) → HasSigns j s → j < suc (suc m) → Contains (signs_in cells) s
@@ -250,10 +222,11 @@ module _ (planes : List V3) (kind : Kind) (lower : List CellEntry) (incidences :
             (λ e. let (t, b) = signs_at m (omega arith) in subst (Contains (signs_in cells)) (goes_on m t s b (subst (λ k. HasSigns k s) e a) none) (up.has m t b (omega arith)))
             (lt_suc_cases j (suc m) less)
 
-    more : (i : ℕ) (cells : List CellEntry) → i < length incidences → begins_cell incidences i ≡ true → AreUpTo i cells → AreUpTo (suc i) (cells ++ composed_at kind lower incidences i ∷ [])
-    more i cells lt first up = go (signs_at i lt)
+    more : (i : ℕ) (cells : List CellEntry) (found : List Incidence) → i < length incidences → begins_cell incidences i ≡ true → AreUpTo i cells found
+        → AreUpTo (suc i) (cells ++ composed_at kind lower incidences i ∷ []) (found ++ get_or incidences i no_incidence ∷ [])
+    more i cells found lt first up = go (signs_at i lt)
       where
-        go : (s : List Sign) × HasSigns i s → AreUpTo (suc i) (cells ++ composed_at kind lower incidences i ∷ [])
+        go : (s : List Sign) × HasSigns i s → AreUpTo (suc i) (cells ++ composed_at kind lower incidences i ∷ []) (found ++ get_or incidences i no_incidence ∷ [])
         go (s, a) =
             let made = made_at i s a first in
             let list : signs_in (cells ++ composed_at kind lower incidences i ∷ []) ≡ signs_in cells ++ s ∷ [] =
@@ -262,6 +235,9 @@ module _ (planes : List V3) (kind : Kind) (lower : List CellEntry) (incidences :
               from = λ t c. from s a t (Contains-push_cases (signs_in cells) s t (subst (λ l. Contains l t) list c));
               has = λ m t d less. subst (λ l. Contains l t) (sym list) (has s a m t d (lt_suc_cases m i less));
               each = All-push (IsEntry planes kind) cells (composed_at kind lower incidences i) up.each made.0;
+              begun = map-append words_of found (get_or incidences i no_incidence ∷ [])
+                  ∙ (λ k. up.begun k ++ (ap words_of a.is ∙ ap (λ t. incidence_of t 0) (sym made.1)) k ∷ [])
+                  ∙ sym (map-append (λ (c : CellEntry). incidence_of c.signs 0) cells (composed_at kind lower incidences i ∷ []));
             }
           where
             below : (s : List Sign) → HasSigns i s → (t : List Sign) → (m : ℕ) × (m < i) × HasSigns m t → signs_cmp t s ≡ Less
@@ -275,35 +251,10 @@ module _ (planes : List V3) (kind : Kind) (lower : List CellEntry) (incidences :
             has s a m t d (inl less) = Contains-append_left (signs_in cells) (s ∷ []) t (up.has m t d less)
             has s a m t d (inr e) = subst (Contains (signs_in cells ++ s ∷ [])) (one_list i s t a (subst (λ k. HasSigns k t) e d)) (Contains-push (signs_in cells) s)
 
-    up_to : (i : ℕ) → i ≤ length incidences → AreUpTo i (composed_up_to kind lower incidences i)
-    unfolding composed_up_to
+    up_to : (i : ℕ) → i ≤ length incidences → AreUpTo i (composed_up_to kind lower incidences i) (begun_up_to incidences i)
+    unfolding composed_up_to begun_up_to
     up_to zero le = none
     up_to (suc i) le = by_start (begins_cell incidences i) refl (up_to i (omega arith))
-      where
-        cells : List CellEntry
-        cells = composed_up_to kind lower incidences i
-
-        With : Bool → Type 0
-        With b = AreUpTo (suc i) (cells ++ (if b then composed_at kind lower incidences i ∷ [] else []))
-
-        by_start : (b : Bool) → begins_cell incidences i ≡ b → AreUpTo i cells → With (begins_cell incidences i)
-        by_start true e up = subst With (sym e) (more i cells (omega arith) e up)
-        by_start false e up = subst With (sym e)
-            (subst (AreUpTo (suc i)) (sym (append_nothing cells)) (same i cells (omega arith) e up))
-
-    -- an incidence at which a cell begins has the signs of what is composed there
-    begun_at : (i : ℕ) → i < length incidences → begins_cell incidences i ≡ true
-        → get_or incidences i no_incidence
-        ≡ incidence_of (composed_at kind lower incidences i).signs (get_or incidences i no_incidence).of
-    begun_at i lt first =
-        let (s, a) = signs_at i lt in
-        a.is ∙ ap (λ t. incidence_of t (get_or incidences i no_incidence).of) (sym (made_at i s a first).1)
-
-    begun_to : (i : ℕ) → i ≤ length incidences
-        → HaveSigns (composed_up_to kind lower incidences i) (begun_up_to incidences i)
-    unfolding composed_up_to begun_up_to
-    begun_to zero le = record { long = refl; each = λ k lt. absurd (omega arith) }
-    begun_to (suc i) le = by_start (begins_cell incidences i) refl (begun_to i (omega arith))
       where
         cells : List CellEntry
         cells = composed_up_to kind lower incidences i
@@ -312,20 +263,18 @@ module _ (planes : List V3) (kind : Kind) (lower : List CellEntry) (incidences :
         found = begun_up_to incidences i
 
         With : Bool → Type 0
-        With b = HaveSigns (cells ++ (if b then composed_at kind lower incidences i ∷ [] else []))
+        With b = AreUpTo (suc i) (cells ++ (if b then composed_at kind lower incidences i ∷ [] else []))
             (found ++ (if b then get_or incidences i no_incidence ∷ [] else []))
 
-        by_start : (b : Bool) → begins_cell incidences i ≡ b → HaveSigns cells found → With (begins_cell incidences i)
-        by_start true e before = subst With (sym e)
-            (more_signs cells (composed_at kind lower incidences i) found (get_or incidences i no_incidence) before
-            (begun_at i (omega arith) e))
-        by_start false e before = subst With (sym e)
-            (subst (λ l. HaveSigns l (found ++ [])) (sym (append_nothing cells))
-            (subst (HaveSigns cells) (sym (append_nothing found)) before))
+        by_start : (b : Bool) → begins_cell incidences i ≡ b → AreUpTo i cells found → With (begins_cell incidences i)
+        by_start true e up = subst With (sym e) (more i cells found (omega arith) e up)
+        by_start false e up = subst With (sym e) (subst (λ l. AreUpTo (suc i) l (found ++ [])) (sym (append_nothing cells))
+            (subst (AreUpTo (suc i) cells) (sym (append_nothing found)) (same i cells found (omega arith) e up)))
 
+    -- the incidences at which they begin have their signs
     pub begun_signs : HaveSigns (composed_up_to kind lower incidences (length incidences))
         (begun_up_to incidences (length incidences))
-    begun_signs = begun_to (length incidences) (omega arith)
+    begun_signs = (up_to (length incidences) (omega arith)).begun
 
     -- the composed cells are all cells of the kind
     pub composed_are_cells : AreCellsOf planes kind (composed_up_to kind lower incidences (length incidences))

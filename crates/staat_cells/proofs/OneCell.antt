@@ -1,7 +1,6 @@
 -- Each direction lies in exactly one of the cells that are listed.
-use Rattle.std.proofs.Common.{◌≡◌, ◌≢◌, inl, inr, ℕ, ◌+◌, refl, sym, ap, subst, ◌∙◌, arith, List, ◌++◌, length}
+use Rattle.std.proofs.Common.{◌≡◌, ◌≢◌, inl, inr, ℕ, ◌+◌, refl, sym, ap, subst, ◌∙◌, List, ◌++◌, length}
 use Rattle.std.specs.Prelude.{slice_get, Some}
-use Rattle.std.proofs.lemmas.List.{get_or-append-add, length-append}
 use Rattle.std.proofs.lemmas.Option.{get_or_from_slice_get, slice_get-get_or, slice_get_within}
 use Rattle.staat_vec.specs.declared.vector.V3.{V3}
 use Rattle.staat_vec.specs.Vectors.{origin}
@@ -10,10 +9,10 @@ use Rattle.staat_vec.proofs.Naturals.{same_from_neither}
 use Rattle.staat_model.specs.declared.tree.Kind.{Kind}
 use Rattle.staat_model.specs.declared.tree.Kind.TheVariants.{Edge, Open, Point}
 use Rattle.staat_model.specs.Cells.{kind_of, signs_of, AreCells, AreCellsOf, CellEntry, HasOneCell, IsEntry}
-use Rattle.staat_model.proofs.Places.{place_cases}
+use Rattle.staat_model.proofs.Places.{get_behind, place_cases}
 use Rattle.staat_cells.specs.Compositions.{no_cell}
 use Rattle.staat_cells.specs.Stages.{cell_at}
-use Rattle.staat_cells.proofs.Listed.{entry_at, not_same, place_of}
+use Rattle.staat_cells.proofs.MadeUpCells.{entry_at, not_same, place_of}
 
 module _ (planes : List V3) (d : V3) where
   -- no listed cell has the signs of d
@@ -42,10 +41,7 @@ module _ (planes : List V3) (d : V3) where
   one_later xs ys none one = record {
     place = length xs + one.place;
     cell = one.cell;
-    at = slice_get-get_or (xs ++ ys) (length xs + one.place) one.cell
-        (omega (arith, slice_get_within ys one.place one.cell one.at, length-append xs ys))
-        ∙ ap Some (get_or-append-add xs ys one.place one.cell
-        ∙ get_or_from_slice_get ys one.place one.cell one.cell one.at);
+    at = get_behind xs ys one.place (length xs + one.place) one.cell refl one.at;
     is = one.is;
     only = λ k c at e. elim (place_cases xs ys k c at) [
       | inl here ↦ absurd (none k c here e)

@@ -1,7 +1,6 @@
 -- There are lists of all cells.
-use Rattle.std.proofs.Common.{◌≡◌, ◌≢◌, ◌⊎◌, inl, inr, ⊎_elim, ℕ, ◌<◌, ◌≤◌, pos, refl, sym}
-use Rattle.std.proofs.Common.{subst, arith}
-use Rattle.std.proofs.Common.{List, [], ◌∷◌, ◌++◌, length, map, Contains}
+use Rattle.std.proofs.Common.{◌≡◌, ◌≢◌, ◌⊎◌, inl, inr, ⊎_elim, ℕ, ◌<◌, ◌≤◌, pos, refl, sym, subst, arith, List, [], ◌∷◌}
+use Rattle.std.proofs.Common.{◌++◌, length, map, Contains}
 use Rattle.std.proofs.lemmas.Int.{ints}
 use Rattle.staat_vec.specs.declared.vector.V3.{V3}
 use Rattle.staat_vec.specs.declared.vector.Sign.TheVariants.{Neg, Pos}
@@ -12,26 +11,23 @@ use Rattle.staat_vec.proofs.VectorOrder.{vector_exact, vector_total}
 use Rattle.staat_model.specs.declared.tree.Kind.TheVariants.{Edge, Open, Point}
 use Rattle.staat_model.specs.Cells.{AreCells, AreCellsOf, CellEntry, signs_of}
 use Rattle.staat_model.specs.Planes.{vertices}
-use Rattle.staat_model.proofs.Corners.{HoldsAxes}
 use Rattle.staat_model.proofs.Decisions.{lt_or}
 use Rattle.staat_model.proofs.Listings.{Listing, listing_and, listing_as, listing_below, listing_image}
 use Rattle.staat_model.proofs.Listings.{listing_members, listing_none, listing_over, listing_sorted}
-use Rattle.staat_model.proofs.PlaneLemmas.{NoneParallel}
 use Rattle.staat_pairs.specs.Tables.{AreTablePlanes}
 use Rattle.staat_cells.specs.Beside.{beside, filled}
 use Rattle.staat_cells.specs.Compositions.{composed_up_to}
 use Rattle.staat_cells.specs.Packing.{incidence_cmp, incidence_of}
 use Rattle.staat_cells.specs.Stages.{IsAxisOff, IsBesideIncidence, IsBesideOn, IsEdgeIncidence, IsFilledIncidence}
 use Rattle.staat_cells.specs.Stages.{IsIncidence, IsOwnIncidence, cell_at, point_entry}
-use Rattle.staat_cells.proofs.EdgeCells.{edges_made_up, point_in}
+use Rattle.staat_cells.proofs.MadeUpCells.{edges_made_up, point_in, opens_made_up}
 use Rattle.staat_cells.proofs.Grouping.{composed_are_cells}
 use Rattle.staat_cells.proofs.IncidenceOrder.{incidence_exact, incidence_total}
-use Rattle.staat_cells.proofs.Numbered.{IsFilledAt, edges_all, filled_all, own_all}
-use Rattle.staat_cells.proofs.OpenCells.{opens_made_up}
+use Rattle.staat_cells.proofs.ListedIncidences.{IsFilledAt, edges_all, filled_all, own_all}
 use Rattle.staat_cells.proofs.PointCells.{points_are}
 use Rattle.staat_vec.proofs.Integers.{zero_or}
 use Rattle.staat_vec.proofs.ListLaws.{only_one}
-use Rattle.staat_cells.proofs.TableRules.{edge_incidences_are, holds_axes, planes_apart, planes_some, vertex_off}
+use Rattle.staat_cells.proofs.TableRules.{edge_incidences_are, holds_axes, planes_apart, vertex_off}
 use Rattle.staat_cells.proofs.WholeLists.{open_incidences_are}
 
 listing_pair : {X : Type 0} (a b : X) → Listing (λ x. (x ≡ a) ⊎ (x ≡ b))
@@ -56,15 +52,6 @@ axis_off v some = by (zero_or v.x) (zero_or v.y)
         off e = let z : v.z ≡ pos 0 = omega (arith, ints, e) in some (λ i. vector (x i) (y i) (z i))
 
 module _ (planes : List V3) (are : AreTablePlanes planes) (few : length planes ≤ 256) where
-  rules : HoldsAxes planes
-  rules = holds_axes planes are
-
-  apart : NoneParallel planes
-  apart = planes_apart planes are
-
-  some : (g : V3) → Contains planes g → g ≢ origin
-  some = planes_some planes are
-
   -- ---- points
 
   corners : (vs : List V3) × Lists vector_cmp (Contains (vertices planes)) vs
@@ -80,7 +67,7 @@ module _ (planes : List V3) (are : AreTablePlanes planes) (few : length planes �
       let (incidences, sorted) = listing_sorted incidence_cmp incidence_total incidence_exact
       (own_listing (map (point_entry planes) vs)) in (
         map (λ x. cell_at (map (point_entry planes) vs) x.of) incidences,
-        points_are planes rules apart few vs listed incidences sorted,
+        points_are planes (holds_axes planes are) (planes_apart planes are) few vs listed incidences sorted,
       )
 
   -- ---- edges

@@ -1,8 +1,9 @@
 -- What the rules of a table say of its planes.
-use Rattle.std.proofs.Common.{◌≡◌, ◌≢◌, ◌⊎◌, ◌↔◌, inl, inr, ℕ, All, suc, refl, sym, ap, subst, ⊎_elim, lit≤, ◌*◌, ◌∙◌, arith, pos, List, [], ◌∷◌, Contains}
+use Rattle.std.proofs.Common.{◌≡◌, ◌≢◌, ◌⊎◌, ◌↔◌, inl, inr, ℕ, All, suc, refl, sym, subst, ⊎_elim, lit≤, ◌*◌, ◌∙◌}
+use Rattle.std.proofs.Common.{arith, pos, List, [], ◌∷◌, Contains}
 use Rattle.std.specs.Prelude.{slice_get, Some}
 use Rattle.std.proofs.lemmas.List.Elements.{All-contains, Contains-append_left}
-use Rattle.std.proofs.lemmas.Option.{slice_get-get_or}
+use Rattle.staat_vec.proofs.ListLaws.{place_of}
 use Rattle.staat_vec.specs.declared.vector.V3.{V3}
 use Rattle.staat_vec.specs.declared.vector.Sign.{Sign}
 use Rattle.staat_vec.specs.declared.vector.TheConstants.{NORMAL, VERTEX}
@@ -43,7 +44,7 @@ planes_some planes are g c = let n = All-contains IsPlaneNormal planes g are.eac
 apart_from : (gs : List V3) → ((k m : ℕ) (g h : V3) → slice_get gs k ≡ Some g → slice_get gs m ≡ Some h → k ≢ m → cross g h ≢ origin) → NoneParallel gs
 apart_from [] f = tt
 apart_from (g ∷ gs) f = (
-  All-from_members (λ h. cross g h ≢ origin) gs (λ h (m, lt, e). f 0 (suc m) g h refl (slice_get-get_or gs m h lt ∙ ap Some e) (λ z. omega arith)),
+  All-from_members (λ h. cross g h ≢ origin) gs (λ h c. let (m, at) = place_of gs h c in f 0 (suc m) g h refl at (λ z. omega arith)),
   apart_from gs (λ k m g h p q n. f (suc k) (suc m) g h p q (λ e. n (omega arith))),
 )
 

@@ -1,26 +1,26 @@
 -- The vertices of planes and their signs.
-use Rattle.std.proofs.Common.{◌≡◌, ◌≢◌, zero, suc, refl, sym, ap, subst, ◌∙◌, ℤ, pos, negsuc, neg_ℤ, inl, inr, ⊎_elim, List, [], ◌∷◌, Contains}
+use Rattle.std.proofs.Common.{◌≡◌, ◌≢◌, zero, suc, refl, sym, ap, ◌∙◌, ℤ, pos, negsuc, neg_ℤ, inl, inr, ⊎_elim, List}
+use Rattle.std.proofs.Common.{[], ◌∷◌, Contains}
 use Rattle.staat_vec.specs.declared.vector.V3.{V3}
 use Rattle.staat_vec.specs.declared.vector.Sign.{Sign}
 use Rattle.staat_vec.specs.declared.vector.Sign.TheVariants.{Neg, Zero, Pos}
 use Rattle.staat_vec.specs.Vectors.{vector, dot, cross, negative, origin, sign}
 use Rattle.staat_vec.specs.Primitives.{IsPrimitive, primitive}
 use Rattle.staat_vec.proofs.Ring.{Ex, num, ring}
-use Rattle.staat_vec.proofs.VecRing.{dotE, values, v0, same_vector, dot_negative, cross_turned, dot_cross_left, dot_cross_right}
-use Rattle.staat_vec.proofs.Order.{cancel_zero}
+use Rattle.staat_vec.proofs.VecRing.{dotE, values, v0, same_vector, dot_negative, cross_turned}
 use Rattle.staat_vec.proofs.Canons.{negative-negative}
-use Rattle.staat_vec.proofs.Primitives.{IsPrimitive-negative, primitive-is, primitive-negative}
+use Rattle.staat_vec.proofs.Primitives.{primitive-is, primitive-negative}
 use Rattle.staat_model.specs.declared.tree.Kind.TheVariants.{Point}
 use Rattle.staat_model.specs.Cells.{signs_of, kind_of, IsCell}
 use Rattle.staat_model.specs.Planes.{vertices}
-use Rattle.staat_model.proofs.Corners.{HoldsAxes, IsSame}
-use Rattle.staat_model.proofs.CornerLemmas.{dot_multiple}
+use Rattle.staat_model.proofs.Corners.{HoldsAxes, IsSame, on_both}
+use Rattle.staat_model.proofs.CornerLemmas.{across_primitive, dot_multiple}
 use Rattle.staat_model.proofs.EndLemmas.{from_vertices}
 use Rattle.staat_model.proofs.FacetLemmas.{across_crosses}
 use Rattle.staat_model.proofs.PlaneLemmas.{NoneParallel}
 use Rattle.staat_model.proofs.VertexLemmas.{in_vertices}
 use Rattle.staat_cells.proofs.Beside.{at_plane, from_planes}
-use Rattle.staat_cells.proofs.EdgeIncidences.{IsCrossed, dot_same}
+use Rattle.staat_cells.proofs.EdgeIncidences.{IsCrossed}
 use Rattle.staat_cells.proofs.Zeros.{two_zeros, point_kind, two_planes}
 use Rattle.staat_model.proofs.ListedVertices.{vertex_some}
 use Rattle.staat_vec.proofs.Signs.{times_sign, zero_sign}
@@ -31,15 +31,12 @@ use Rattle.staat_model.proofs.PointLemmas.{point_zeros}
 pub vertex_crossed : (planes : List V3) (v : V3) → NoneParallel planes → Contains (vertices planes) v → IsCrossed planes v
 vertex_crossed planes v apart has =
     let x = from_vertices planes v apart has in
-    let p = primitive-is (cross x.g x.h) x.independent in
-    let flat : (g : V3) → dot g (cross x.g x.h) ≡ pos 0 → dot g v ≡ pos 0 = λ g on. dot_same g v (primitive (cross x.g x.h)) x.is (cancel_zero p.factor (dot g (primitive (cross x.g x.h))) p.positive (sym (dot_multiple g (cross x.g x.h) (primitive (cross x.g x.h)) p.factor p.multiple) ∙ on)) in
-    record { g = x.g; h = x.h; g_in = x.g_in; h_in = x.h_in; independent = x.independent; on_g = flat x.g (dot_cross_left x.g x.h); on_h = flat x.h (dot_cross_right x.g x.h) }
+    let o = on_both v x.g x.h x.independent x.is in
+    record { g = x.g; h = x.h; g_in = x.g_in; h_in = x.h_in; independent = x.independent; on_g = o.on_g; on_h = o.on_h }
 
 pub vertex_primitive : (planes : List V3) (v : V3) → NoneParallel planes → Contains (vertices planes) v → IsPrimitive v
 vertex_primitive planes v apart has =
-    let x = from_vertices planes v apart has in
-    let p = primitive-is (cross x.g x.h) x.independent in
-    ⊎_elim (λ e. subst IsPrimitive (sym e) p.primitive) (λ e. subst IsPrimitive (sym e) (IsPrimitive-negative (primitive (cross x.g x.h)) p.primitive)) x.is
+    let x = from_vertices planes v apart has in (on_both v x.g x.h x.independent x.is).primitive
 
 pub vertex_point : (planes : List V3) (v : V3) → NoneParallel planes → Contains (vertices planes) v → kind_of (signs_of planes v) ≡ Point
 vertex_point planes v apart has =
@@ -47,6 +44,13 @@ vertex_point planes v apart has =
     point_kind (signs_of planes v) (two_zeros (λ n. sign (dot n v)) planes x.g x.h x.g_in x.h_in x.independent (ap sign x.on_g) (ap sign x.on_h))
 
 -- ---- a direction on two planes
+
+-- a primitive vector on both is along their crossing
+along_crossing : (n g h : V3) → IsPrimitive n → cross g h ≢ origin → dot g n ≡ pos 0 → dot h n ≡ pos 0
+    → IsSame n (primitive (cross g h))
+along_crossing n g h p independent on_g on_h =
+    ⊎_elim (λ e. inl e) (λ e. inr (e ∙ ap primitive (cross_turned h g) ∙ primitive-negative (cross g h)))
+    (across_crosses n g h p independent on_g on_h)
 
 -- a direction and the primitive vector on its ray have the same signs
 pub primitive_signs : (planes : List V3) (d : V3) → d ≢ origin → signs_of planes (primitive d) ≡ signs_of planes d
@@ -59,10 +63,10 @@ pub point_vertex : (planes : List V3) (d : V3) → NoneParallel planes → d ≢
 point_vertex planes d apart some point =
     let (g, h, g_in, h_in, independent, on_g, on_h) = two_planes (λ n. sign (dot n d)) planes apart (point_zeros (signs_of planes d) point) in
     let p = primitive-is d some in
-    let n = primitive d in
-    let flat : (g : V3) → sign (dot g d) ≡ Zero → dot g n ≡ pos 0 = λ g on. cancel_zero p.factor (dot g n) p.positive (sym (dot_multiple g d n p.factor p.multiple) ∙ zero_sign (dot g d) on) in
-    in_vertices planes g h n g_in h_in independent
-    (⊎_elim (λ e. inl e) (λ e. inr (e ∙ ap primitive (cross_turned h g) ∙ primitive-negative (cross g h))) (across_crosses n g h p.primitive independent (flat g on_g) (flat h on_h)))
+    let flat : (m : V3) → sign (dot m d) ≡ Zero → dot m (primitive d) ≡ pos 0 =
+    λ m on. across_primitive m d some (zero_sign (dot m d) on) in
+    in_vertices planes g h (primitive d) g_in h_in independent
+    (along_crossing (primitive d) g h p.primitive independent (flat g on_g) (flat h on_h))
 
 -- each cell of a point has a vertex with its signs
 pub point_has_vertex : (planes : List V3) (s : List Sign) → NoneParallel planes → IsCell planes s → kind_of s ≡ Point → (v : V3) × Contains (vertices planes) v × (signs_of planes v ≡ s)
@@ -88,18 +92,21 @@ axes_zero planes v axes f =
 
 pub same_vertex : (planes : List V3) (v w : V3) → HoldsAxes planes → NoneParallel planes → Contains (vertices planes) v → Contains (vertices planes) w → signs_of planes v ≡ signs_of planes w → v ≡ w
 same_vertex planes v w axes apart v_in w_in same =
-    let x = vertex_crossed planes v apart v_in in
-    let u = cross x.g x.h in
-    let same_at : (g : V3) → Contains planes g → sign (dot g v) ≡ sign (dot g w) = λ g c. at_plane (λ n. sign (dot n v)) (λ n. sign (dot n w)) planes g same c in
-    let on : (g : V3) → Contains planes g → dot g v ≡ pos 0 → dot g w ≡ pos 0 = λ g c z. zero_sign (dot g w) (sym (same_at g c) ∙ ap sign z) in
-    let two : (z : V3) → IsPrimitive z → dot x.g z ≡ pos 0 → dot x.h z ≡ pos 0 → IsSame z (primitive u) = λ z p on_g on_h. ⊎_elim (λ e. inl e) (λ e. inr (e ∙ ap primitive (cross_turned x.h x.g) ∙ primitive-negative u)) (across_crosses z x.g x.h p x.independent on_g on_h) in
-    go u same_at (two v (vertex_primitive planes v apart v_in) x.on_g x.on_h) (two w (vertex_primitive planes w apart w_in) (on x.g x.g_in x.on_g) (on x.h x.h_in x.on_h))
+    let x = from_vertices planes v apart v_in in
+    let o = on_both v x.g x.h x.independent x.is in
+    let on : (g : V3) → Contains planes g → dot g v ≡ pos 0 → dot g w ≡ pos 0 =
+    λ g c z. zero_sign (dot g w) (sym (same_at g c) ∙ ap sign z) in
+    go (cross x.g x.h) x.is (along_crossing w x.g x.h (vertex_primitive planes w apart w_in) x.independent
+    (on x.g x.g_in o.on_g) (on x.h x.h_in o.on_h))
   where
-    opposite : ((g : V3) → Contains planes g → sign (dot g v) ≡ sign (dot g w)) → v ≡ negative w → v ≡ w
-    opposite same_at e = absurd (vertex_some planes w apart w_in (axes_zero planes w axes (λ g c. zero_turned (dot g v) (dot g w) (ap (dot g) e ∙ dot_negative g w) (same_at g c))))
+    same_at : (g : V3) → Contains planes g → sign (dot g v) ≡ sign (dot g w)
+    same_at g c = at_plane (λ n. sign (dot n v)) (λ n. sign (dot n w)) planes g same c
 
-    go : (u : V3) → ((g : V3) → Contains planes g → sign (dot g v) ≡ sign (dot g w)) → IsSame v (primitive u) → IsSame w (primitive u) → v ≡ w
-    go u same_at (inl e) (inl f) = e ∙ sym f
-    go u same_at (inr e) (inr f) = e ∙ sym f
-    go u same_at (inl e) (inr f) = opposite same_at (e ∙ sym (ap negative f ∙ negative-negative (primitive u)))
-    go u same_at (inr e) (inl f) = opposite same_at (e ∙ ap negative (sym f))
+    opposite : v ≡ negative w → v ≡ w
+    opposite e = absurd (vertex_some planes w apart w_in (axes_zero planes w axes (λ g c. zero_turned (dot g v) (dot g w) (ap (dot g) e ∙ dot_negative g w) (same_at g c))))
+
+    go : (u : V3) → IsSame v (primitive u) → IsSame w (primitive u) → v ≡ w
+    go u (inl e) (inl f) = e ∙ sym f
+    go u (inr e) (inr f) = e ∙ sym f
+    go u (inl e) (inr f) = opposite (e ∙ sym (ap negative f ∙ negative-negative (primitive u)))
+    go u (inr e) (inl f) = opposite (e ∙ ap negative (sym f))

@@ -1,5 +1,6 @@
--- The lists of all cells: each representative lies in its cell, and each direction in one cell.
-use Rattle.std.proofs.Common.{◌≡◌, ◌≢◌, ◌⊎◌, ◌↔◌, inl, inr, ⊎_elim, ℕ, ◌<◌, refl, sym, ap, subst, ◌∙◌, arith, lit≤, List, ◌++◌, length, get_or, map, All, Contains}
+-- The lists of all cells: each representative lies in its cell; and the lists of each kind, from the incidences found.
+use Rattle.std.proofs.Common.{◌≡◌, ◌≢◌, ◌⊎◌, ◌↔◌, inl, inr, ⊎_elim, ℕ, ◌<◌, refl, sym, ap, subst, ◌∙◌, arith, lit≤}
+use Rattle.std.proofs.Common.{List, ◌++◌, length, get_or, map, All, Contains, ◌≤◌, [], ◌∷◌}
 use Rattle.std.proofs.lemmas.List.{get_or-map, length-map}
 use Rattle.std.proofs.lemmas.List.Elements.{All-append, All-weaker}
 use Rattle.staat_vec.specs.declared.vector.V3.{V3}
@@ -7,44 +8,40 @@ use Rattle.staat_vec.specs.declared.vector.Sign.{Sign}
 use Rattle.staat_vec.specs.declared.vector.Sign.TheVariants.{Neg, Zero, Pos}
 use Rattle.staat_vec.specs.declared.vector.TheConstants.{DIRECTION, EDGE, VERTEX}
 use Rattle.staat_vec.specs.Lists.{Lists}
-use Rattle.staat_vec.specs.Vectors.{IsWithin, origin}
+use Rattle.staat_vec.specs.Vectors.{IsWithin, origin, vector_cmp}
 use Rattle.staat_vec.proofs.Bounds.{IsWithin-plus, IsWithin-wider}
-use Rattle.staat_vec.proofs.Unique.{IsFirst-in}
+use Rattle.staat_vec.proofs.Unique.{IsFirst-in, Contains-front, Contains-later}
 use Rattle.staat_model.specs.declared.tree.Kind.{Kind}
 use Rattle.staat_model.specs.declared.tree.Kind.TheVariants.{Edge, Open, Point}
-use Rattle.staat_model.specs.Cells.{kind_of, signs_of, AreCells, AreCellsOf, CellEntry, IsCell, IsEdgeSum, IsEntry, IsOpenSum}
+use Rattle.staat_model.specs.Cells.{kind_of, signs_of, AreCells, AreCellsOf, CellEntry, IsCell, IsEdgeSum, IsEntry}
+use Rattle.staat_model.specs.Cells.{IsOpenSum}
 use Rattle.staat_model.specs.Planes.{vertices}
 use Rattle.staat_model.proofs.CellLemmas.{edges_add_up_lemma}
-use Rattle.staat_model.proofs.Corners.{HoldsAxes}
 use Rattle.staat_model.proofs.EndLemmas.{edge_sum_in}
-use Rattle.staat_model.proofs.PlaneLemmas.{NoneParallel}
 use Rattle.staat_pairs.specs.Tables.{AreTablePlanes}
 use Rattle.staat_cells.specs.declared.cell.Cell.{Cell}
 use Rattle.staat_cells.specs.declared.incidence.Incidence.{Incidence}
-use Rattle.staat_cells.specs.Compositions.{entry_of, no_cell, HaveEqualLengths}
+use Rattle.staat_cells.specs.Compositions.{entry_of, no_cell, HaveEqualLengths, begun_up_to, composed_up_to, HavePairs}
 use Rattle.staat_cells.specs.Packing.{incidence_cmp, incidence_of}
 use Rattle.staat_cells.specs.Beside.{filled}
-use Rattle.staat_cells.specs.Stages.{cell_at, IsFilledIncidence, IsIncidence}
-use Rattle.staat_cells.proofs.Grouping.{cell_length}
-use Rattle.staat_cells.proofs.Listed.{entry_at}
-use Rattle.staat_cells.proofs.OpenIncidences.{filled_open, open_filled}
+use Rattle.staat_cells.specs.Stages.{cell_at, IsFilledIncidence, IsIncidence, point_entry, words_of, HaveSigns}
+use Rattle.staat_cells.specs.Stages.{IsOwnIncidence}
+use Rattle.staat_cells.proofs.Grouping.{cell_length, AreMadeUp, begun_signs, composed_are_cells, pairs}
+use Rattle.staat_cells.proofs.MadeUpCells.{entry_at, opens_made_up}
+use Rattle.staat_cells.proofs.EdgeIncidences.{filled_open, open_filled}
 use Rattle.staat_cells.proofs.TableRules.{holds_axes, planes_apart, planes_some, vertex_small}
+use Rattle.staat_vec.proofs.ListLaws.{map_twice}
+use Rattle.staat_cells.specs.declared.skeleton.Skeleton.{Skeleton}
+use Rattle.staat_cells.specs.Skeletons.{IsSkeleton}
+use Rattle.staat_model.proofs.Members.{All-from_members}
+use Rattle.staat_cells.proofs.ListedIncidences.{listed_was, lists_as}
+use Rattle.staat_cells.proofs.PointCells.{points_are}
 
 -- what holds of all entries holds of the cells
 pub of_cells : (P : CellEntry → Type 0) (cells : List Cell) → All P (map entry_of cells) → All (λ c. P (entry_of c)) cells
 of_cells P cells all k d lt = subst P (get_or-map entry_of cells k d no_cell lt) (all k no_cell (let e = length-map cells entry_of in omega (arith, e)))
 
-pub lists_as : (P Q : Incidence → Type 0) (incidences : List Incidence) → ((x : Incidence) → P x ↔ Q x)
-    → Lists incidence_cmp P incidences → Lists incidence_cmp Q incidences
-lists_as P Q incidences same lists = record { ascending = lists.ascending; each = λ x c. (same x).0 (lists.each x c); all = λ x p. lists.all x ((same x).1 p) }
-
 module _ (planes : List V3) (are : AreTablePlanes planes) where
-  axes : HoldsAxes planes
-  axes = holds_axes planes are
-
-  apart : NoneParallel planes
-  apart = planes_apart planes are
-
   some : (g : V3) → Contains planes g → g ≢ origin
   some = planes_some planes are
 
@@ -54,7 +51,7 @@ module _ (planes : List V3) (are : AreTablePlanes planes) where
   -- ---- each representative lies in its cell
 
   edge_on : (s : List Sign) (d : V3) → IsCell planes s → kind_of s ≡ Edge → IsEdgeSum planes s d → signs_of planes d ≡ s
-  edge_on s d cell edge sum = edge_sum_in planes s axes apart some cell edge d sum
+  edge_on s d cell edge sum = edge_sum_in planes s (holds_axes planes are) (planes_apart planes are) some cell edge d sum
 
   pub representative_in : (kind : Kind) (c : CellEntry) → IsEntry planes kind c → signs_of planes c.d ≡ c.signs
   representative_in Point c e = (IsFirst-in (λ v. signs_of planes v ≡ c.signs) (vertices planes) c.d e.representative).1
@@ -147,5 +144,73 @@ module _ (planes : List V3) (are : AreTablePlanes planes) where
             is = ⊎_elim {C = (x ≡ incidence_of (filled Neg c.signs) x.of) ⊎ (x ≡ incidence_of (filled Pos c.signs) x.of)}
                 (λ e. inl (s.is ∙ ap (λ l. incidence_of l x.of) e))
                 (λ e. inr (s.is ∙ ap (λ l. incidence_of l x.of) e))
-                (open_filled c.signs s.signs entry.by_count u.by_count u.border);
+                (open_filled planes c.signs s.signs some entry.cell entry.by_count u.cell u.by_count u.border);
           }
+
+module _ (planes : List V3) (are : AreTablePlanes planes) (few : length planes ≤ 256) where
+  -- ---- points
+
+  module _ (raw : List Cell) (incidences : List Incidence) (lists : Lists incidence_cmp (IsOwnIncidence (map entry_of raw)) incidences) where
+    pub incidences_listed : All (λ x. x.of < length raw) incidences
+    incidences_listed = All-from_members (λ x. x.of < length raw) incidences (λ x c. listed_was raw x.of (lists.each x c).listed)
+
+    pub points_listed : (cells : List Cell) (corners : List V3) → map entry_of raw ≡ map (point_entry planes) corners
+        → Lists vector_cmp (Contains (vertices planes)) corners
+        → map entry_of cells ≡ map (λ x. cell_at (map entry_of raw) x.of) incidences → AreCellsOf planes Point (map entry_of cells)
+    points_listed cells corners is listed made =
+        subst (AreCellsOf planes Point) (sym (made ∙ ap (λ l. map (λ x. cell_at l x.of) incidences) is))
+        (points_are planes (holds_axes planes are) (planes_apart planes are) few corners listed incidences
+        (subst (λ l. Lists incidence_cmp (IsOwnIncidence l) incidences) is lists))
+
+    pub points_signs : (cells : List Cell) → map entry_of cells ≡ map (λ x. cell_at (map entry_of raw) x.of) incidences
+        → HaveSigns (map entry_of cells) incidences
+    points_signs cells made =
+        same_maps incidences (λ x c. ap words_of (lists.each x c).is) ∙ sym (map_twice (λ (c : CellEntry). incidence_of c.signs 0) cell incidences)
+        ∙ ap (map (λ (c : CellEntry). incidence_of c.signs 0)) (sym made)
+      where
+        cell : Incidence → CellEntry
+        cell x = cell_at (map entry_of raw) x.of
+
+        same_maps : (xs : List Incidence) → ((x : Incidence) → Contains xs x → words_of x ≡ incidence_of (cell x).signs 0)
+            → map words_of xs ≡ map (λ x. incidence_of (cell x).signs 0) xs
+        same_maps [] same = refl
+        same_maps (x ∷ xs) same = λ i. same x (Contains-front x xs) i ∷ same_maps xs (λ y c. same y (Contains-later x xs y c)) i
+
+  -- ---- edges and open cells
+
+  module _ (kind : Kind) (lower : List Cell) (incidences : List Incidence)
+      (made_up : AreMadeUp planes kind (map entry_of lower))
+      (lists : Lists incidence_cmp (IsIncidence planes kind (map entry_of lower)) incidences) where
+    pub lower_pairs : HavePairs incidences (length lower)
+    lower_pairs = subst (HavePairs incidences) (length-map lower entry_of)
+        (pairs planes kind (map entry_of lower) incidences few lists made_up)
+
+    module _ (cells : List Cell)
+        (made : map entry_of cells ≡ composed_up_to kind (map entry_of lower) incidences (length incidences)) where
+      pub kind_listed : AreCellsOf planes kind (map entry_of cells)
+      kind_listed = subst (AreCellsOf planes kind) (sym made)
+          (composed_are_cells planes kind (map entry_of lower) incidences few lists made_up)
+
+      pub kind_signs : HaveSigns (map entry_of cells) (begun_up_to incidences (length incidences))
+      kind_signs = subst (λ l. HaveSigns l (begun_up_to incidences (length incidences))) (sym made)
+          (begun_signs planes kind (map entry_of lower) incidences few lists made_up)
+
+  pub skeleton_is : (s : Skeleton) → AreCellsOf planes Point (map entry_of s.points.items)
+      → AreCellsOf planes Edge (map entry_of s.edges.items)
+      → Lists incidence_cmp (IsFilledIncidence (map entry_of s.edges.items)) s.incidences.items → IsSkeleton planes s
+  skeleton_is s points edges filled =
+      let lower = map entry_of s.edges.items in
+      let incidences = s.incidences.items in
+      let made_up = opens_made_up planes are lower edges in
+      let lists = lists_as (IsFilledIncidence lower) (IsIncidence planes Open lower) incidences
+      (open_incidences_are planes are lower edges) filled in
+      record {
+        has = record {
+          pairs = lower_pairs Open s.edges.items incidences made_up lists;
+          size = edges_small planes are s.edges.items edges;
+          signs = equal_lengths planes are Edge s.edges.items edges;
+        };
+        points = points;
+        edges = edges;
+        opens = composed_are_cells planes Open lower incidences few lists made_up;
+      }

@@ -1,7 +1,6 @@
 -- Batches of cones: up to 128 of them with a bit for each, and tests by which the signs of planes rule cones out.
-use Rattle.std.specs.Prelude.{◌≡◌, ◌↔◌, ◌<◌, ◌≤◌, ◌⊎◌, ◌+◌, ◌*◌, ℕ}
-use Rattle.std.specs.Prelude.{List, [], ◌∷◌}
-use Rattle.std.specs.Prelude.{All, Any, length, Some, bit_or, slice_get, slice_index}
+use Rattle.std.specs.Prelude.{◌≡◌, ◌↔◌, ◌<◌, ◌≤◌, ◌⊎◌, ◌+◌, ◌*◌, ℕ, List, [], ◌∷◌, All, Any, length, Some, bit_or}
+use Rattle.std.specs.Prelude.{slice_get, slice_index}
 use Rattle.std.specs.Int.{bit_at}
 use Rattle.staat_vec.specs.declared.vector.Sign.{Sign}
 use Rattle.staat_limits.specs.declared.limits.TheConstants.{MOST_PARTS}

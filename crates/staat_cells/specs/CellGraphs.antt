@@ -1,6 +1,5 @@
 -- The blocking graph of a cell: its arcs at every direction with the signs of the cell.
-use Rattle.std.specs.Prelude.{◌≡◌, ◌↔◌, ◌⊎◌, ◌-◌, ◌/◌, ◌%◌, ◌<◌, ℕ}
-use Rattle.std.specs.Prelude.{List, All, Any, length, slice_index_or}
+use Rattle.std.specs.Prelude.{◌≡◌, ◌↔◌, ◌⊎◌, ◌-◌, ◌/◌, ◌%◌, ◌<◌, ℕ, List, All, Any, length, slice_index_or}
 use Rattle.staat_vec.specs.declared.vector.Sign.{Sign}
 use Rattle.staat_graph.specs.Graphs.{HasArc}
 use Rattle.staat_pairs.specs.Searches.{arc_of}
@@ -12,7 +11,7 @@ use Rattle.staat_cells.specs.Batches.{IsBatch, IsBatchArc, IsJoinedArc}
 use Rattle.staat_cells.specs.HalfSpaces.{AreInside, IsSignAhead}
 
 -- directions with these signs lead ahead of all facets of piece i of the part a against some piece of the part b
-pub record IsAheadFromBy (t : Table) (signs : List Sign) (a i b : ℕ) : Type 0 where
+pub record IsPieceAhead (t : Table) (a b i : ℕ) (signs : List Sign) : Type 0 where
   pub j : ℕ
   pub across : IsTableArc t (arc_of a i b j)
   pub ahead : All (IsSignAhead t.planes signs) (facets_of t (arc_of a i b j))
@@ -79,10 +78,6 @@ AddsConesOf cones a b old new = AddsArcs (λ signs x y. Any (IsArcInside a b sig
 abbrev pub IsPairAhead : Table → ℕ → ℕ → ℕ → ℕ → List Sign → Type 0
 IsPairAhead t a i b j signs =
     IsTableArc t (arc_of a i b j) × All (IsSignAhead t.planes signs) (facets_of t (arc_of a i b j))
-
--- of piece i of a and some piece of b
-abbrev pub IsPieceAhead : Table → ℕ → ℕ → ℕ → List Sign → Type 0
-IsPieceAhead t a b i signs = IsAheadFromBy t signs a i b
 
 -- the arc from a to b, where the signs lead ahead of some pieces of them
 abbrev pub ArePartsAhead : Table → ℕ → ℕ → List Sign → ℕ → ℕ → Type 0

@@ -1,6 +1,5 @@
 -- The points and edges of planes, and their open cells one after another.
-use Rattle.std.specs.Prelude.{◌≡◌, ℕ, List, [], ◌∷◌, All, MatchOption, Option}
-use Rattle.std.specs.Prelude.{if◌then◌else◌, length, map, true, false}
+use Rattle.std.specs.Prelude.{◌≡◌, ℕ, List, [], ◌∷◌, All, MatchOption, Option, if◌then◌else◌, length, map, true, false}
 use Rattle.staat_vec.specs.declared.vector.V3.{V3}
 use Rattle.staat_vec.specs.declared.vector.TheConstants.{EDGE}
 use Rattle.staat_vec.specs.Vectors.{IsWithin}

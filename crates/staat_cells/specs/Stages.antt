@@ -1,7 +1,6 @@
 -- The incidences of the cells of one kind with those of the next, on whose borders they are.
-use Rattle.std.specs.Prelude.{◌≡◌, ◌≢◌, ◌⊎◌, ◌↔◌, ℕ, ◌-◌, ◌<◌, pos, Bool}
-use Rattle.std.specs.Prelude.{if◌then◌else◌}
-use Rattle.std.specs.Prelude.{List, length, slice_index_or, Contains}
+use Rattle.std.specs.Prelude.{◌≡◌, ◌≢◌, ◌⊎◌, ◌↔◌, ℕ, ◌-◌, ◌<◌, pos, Bool, if◌then◌else◌, List, length, slice_index_or}
+use Rattle.std.specs.Prelude.{Contains, map}
 use Rattle.staat_vec.specs.declared.vector.V3.{V3}
 use Rattle.staat_vec.specs.declared.vector.Sign.{Sign}
 use Rattle.staat_vec.specs.declared.vector.Sign.TheVariants.{Neg, Zero, Pos}
@@ -11,7 +10,7 @@ use Rattle.staat_model.specs.declared.tree.Kind.TheVariants.{Edge, Point}
 use Rattle.staat_model.specs.Planes.{axes}
 use Rattle.staat_model.specs.Cells.{kind_of, signs_of, CellEntry, IsBorder, IsCell}
 use Rattle.staat_cells.specs.declared.incidence.Incidence.{Incidence}
-use Rattle.staat_cells.specs.Compositions.{no_cell, no_incidence}
+use Rattle.staat_cells.specs.Compositions.{no_cell}
 use Rattle.staat_cells.specs.Packing.{incidence_of}
 use Rattle.staat_cells.specs.Beside.{beside, filled}
 
@@ -47,11 +46,13 @@ pub record IsOwnIncidence (cells : List CellEntry) (x : Incidence) : Type 0 wher
   pub listed : x.of < length cells
   pub is : x ≡ incidence_of (cell_at cells x.of).signs x.of
 
+-- the signs of an incidence, without its number
+abbrev pub words_of : Incidence → Incidence
+words_of x = record { a = x.a; b = x.b; c = x.c; d = x.d; of = 0 }
+
 -- at each place the incidence has the signs of the cell there
-pub record HaveSigns (cells : List CellEntry) (incidences : List Incidence) : Type 0 where
-  pub long : length incidences ≡ length cells
-  pub each : (k : ℕ) → k < length cells → slice_index_or incidences k no_incidence
-      ≡ incidence_of (cell_at cells k).signs (slice_index_or incidences k no_incidence).of
+abbrev pub HaveSigns : List CellEntry → List Incidence → Type 0
+HaveSigns cells incidences = map words_of incidences ≡ map (λ (c : CellEntry). incidence_of c.signs 0) cells
 
 -- one of the two incidences of the edge at its place
 pub record IsFilledIncidence (cells : List CellEntry) (x : Incidence) : Type 0 where

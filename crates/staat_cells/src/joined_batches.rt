@@ -65,7 +65,7 @@ fn joined_words(x: &PlaneTest, y: &PlaneTest, z: &PlaneTest) -> [u128; 27]
 // three tests as one
 fn joined(x: PlaneTest, y: PlaneTest, z: PlaneTest) -> JoinedTest
     ensures { (signs : List SignValue) (j : ℕ) → IsLeft (joined_outside signs result) j
-        ↔ (IsLeft (outside_by signs x) j × IsLeft (outside_by signs y) j × IsLeft (outside_by signs z) j) }
+        ↔ ((IsLeft (outside_by signs x) j × IsLeft (outside_by signs y) j) × IsLeft (outside_by signs z) j) }
 {
     JoinedTest {
         first: x.plane,

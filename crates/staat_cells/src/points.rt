@@ -1,11 +1,11 @@
 // The points, ascending by their signs.
-ghost use Rattle.std.specs.Prelude.{◌≡◌, ◌<◌, ◌≤◌, ◌↔◌};
-ghost use Rattle.std.specs.Prelude.{All, Contains, IfOk, IsTrue, length, map, slice_index_or, take};
+ghost use Rattle.std.specs.Prelude.{◌≡◌, ◌<◌, ◌≤◌, All, IfOk, IsTrue, length, map, slice_index_or, take};
+ghost use Rattle.staat_vec.specs.Lists.{Lists};
 ghost use Rattle.staat_vec.specs.Vectors.{IsWithin, origin};
 ghost use Rattle.staat_model.specs.declared.tree.Kind.TheVariants.{Point};
 ghost use Rattle.staat_model.specs.Cells.{AreCellsOf, signs_of};
 ghost use Rattle.staat_pairs.specs.Tables.{AreTablePlanes};
-ghost use Rattle.staat_cells.specs.declared.incidence.Incidence.{Incidence as IncidenceValue};
+ghost use Rattle.staat_cells.specs.Packing.{incidence_cmp};
 ghost use Rattle.staat_cells.specs.Compositions.{entry_of};
 ghost use Rattle.staat_cells.specs.Stages.{HaveSigns, IsOwnIncidence, cell_at, point_entry};
 
@@ -62,16 +62,15 @@ fn points_at(alloc: Global, planes: &[Normal], vertices: &[V3]) -> Result<Vec<Ce
     Ok(cells)
 }
 
-// the incidences of cells with their own signs and places
+// the incidences of cells with their own signs and places, in order
 fn own_incidences(alloc: Global, cells: &[Cell]) -> Result<Vec<Incidence>, OutOfMemory>
-    ensures { IfOk result (λ incidences. (x : IncidenceValue) → Contains incidences.items x
-        ↔ IsOwnIncidence (map entry_of cells.now) x) }
+    ensures { IfOk result (λ found. Lists incidence_cmp (IsOwnIncidence (map entry_of cells.now)) found.items) }
 {
     let mut incidences = Vec::with_capacity(alloc, cells.len())?;
     for k in 0..cells.len() {
         incidences.push(incidence_of(cells[k].signs.as_slice(), k))?;
     }
-    Ok(incidences)
+    in_order(incidences)
 }
 
 // a cell once more
@@ -117,7 +116,7 @@ pub(crate) fn points_of(
 {
     // a refusal of version 1 lists just the vertices
     let raw = points_at(alloc, planes, &directions(alloc, 1, planes)?)?;
-    let incidences = in_order(own_incidences(alloc, &raw)?)?;
+    let incidences = own_incidences(alloc, &raw)?;
     let points = cells_of(alloc, &raw, &incidences)?;
     Ok((points, incidences))
 }

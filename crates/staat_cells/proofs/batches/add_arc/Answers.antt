@@ -4,8 +4,7 @@ use Rattle.std.proofs.lemmas.List.Elements.{All-push, All-set}
 use Rattle.std.proofs.lemmas.Nat.Bits.{bit_at-zero}
 use Rattle.staat_cells.specs.declared.batches.ArcCones.{ArcCones}
 use Rattle.staat_cells.specs.Batches.{HasParts, IsConeOf}
-use Rattle.staat_cells.proofs.Elements.{any_pushed, any_set}
-use Rattle.staat_cells.proofs.Growing.{grown_first, grown_same}
+use Rattle.staat_cells.proofs.Growing.{any_pushed, any_set, grown_first, grown_same}
 use Rattle.staat_cells.proofs.batches.add_arc.Goals as goal
 
 -- arcs of the same parts, of which the new one has the cone j too
@@ -52,6 +51,6 @@ returns-then-is_last c =
     record {
       parts = All-set HasParts old i new (record { a_is = subst (λ n. n < 32) (sym (c.with_bit.ensures.a ∙ a_is)) c.requires.a; b_is = subst (λ n. n < 32) (sym (c.with_bit.ensures.b ∙ b_is)) c.requires.b }) c.requires.parts;
       cones = λ x y k. any_set (λ w. IsConeOf w x y k) old i arc new ((x ≡ c.args.a) × (y ≡ c.args.b) × (k ≡ c.args.j)) inside
-          (subst (λ (w : ArcCones). IsConeOf new x y k ↔ (IsConeOf w x y k ⊎ ((x ≡ c.args.a) × (y ≡ c.args.b) × (k ≡ c.args.j)))) c.index.ensures
-          (cone_more arc new c.args.a c.args.b c.args.j a_is b_is c.with_bit.ensures.a c.with_bit.ensures.b c.with_bit.ensures.cones x y k));
+          c.index.ensures
+          (cone_more arc new c.args.a c.args.b c.args.j a_is b_is c.with_bit.ensures.a c.with_bit.ensures.b c.with_bit.ensures.cones x y k);
     }

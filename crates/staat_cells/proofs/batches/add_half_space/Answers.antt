@@ -1,7 +1,7 @@
 use Rattle.std.proofs.Common.{◌≡◌, ◌∙◌, ◌<◌, List, ap, arith, length, subst}
 use Rattle.std.specs.Prelude.{slice_index_or}
 use Rattle.staat_cells.specs.declared.batches.PlaneTest.{PlaneTest}
-use Rattle.staat_cells.proofs.ConeTests.{half_space_pushed, half_space_set}
+use Rattle.staat_cells.proofs.BatchCones.{half_space_pushed, half_space_set}
 use Rattle.staat_cells.proofs.batches.add_half_space.Goals as goal
 
 pub returns-then-at-len : goal.returns-then-at-len

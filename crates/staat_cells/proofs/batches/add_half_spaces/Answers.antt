@@ -2,7 +2,7 @@ use Rattle.std.proofs.Common.{get_or}
 use Rattle.std.proofs.lemmas.List.{get_or_default}
 use Rattle.staat_vec.specs.declared.vector.Sign.TheVariants.{Neg}
 use Rattle.staat_cells.specs.declared.half_spaces.HalfSpace.{HalfSpace}
-use Rattle.staat_cells.proofs.ConeTests.{all_half_spaces, more_half_spaces, no_half_spaces}
+use Rattle.staat_cells.proofs.BatchCones.{all_half_spaces, more_half_spaces, no_half_spaces}
 use Rattle.staat_cells.proofs.batches.add_half_spaces.Goals as goal
 
 pub loop-half_space-init : goal.loop-half_space-init

@@ -1,6 +1,6 @@
 use Rattle.std.proofs.Common.{take}
 use Rattle.staat_cells.specs.HalfSpaces.{AreInside}
-use Rattle.staat_cells.proofs.ConeTests.{AddsHalfSpaces}
+use Rattle.staat_cells.proofs.BatchCones.{AddsHalfSpaces}
 use Rattle.staat_cells.proofs.batches.add_half_spaces.Given as goal
 
 abbrev pub invariant-loop-half_space : goal.invariant-loop-half_space

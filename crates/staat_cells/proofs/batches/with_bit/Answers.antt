@@ -1,4 +1,4 @@
-use Rattle.staat_cells.proofs.ConeTests.{set_bit}
+use Rattle.staat_cells.proofs.BatchCones.{set_bit}
 use Rattle.staat_cells.proofs.batches.with_bit.Goals as goal
 
 pub returns-clause-cones : goal.returns-clause-cones

@@ -1,6 +1,6 @@
 use Rattle.std.proofs.Common.{◌≡◌, ◌↔◌, ℕ}
 use Rattle.staat_cells.specs.Batches.{IsLeft, outside_at}
-use Rattle.staat_cells.proofs.ConeTests.{each_side}
+use Rattle.staat_cells.proofs.BatchCones.{each_side}
 use Rattle.staat_cells.proofs.batches.with_cone.Goals as goal
 
 pub returns-clause-left : goal.returns-clause-left

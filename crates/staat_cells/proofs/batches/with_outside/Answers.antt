@@ -1,5 +1,5 @@
 use Rattle.std.proofs.Common.{◌≡◌, rules}
-use Rattle.staat_cells.proofs.ConeTests.{clear_bit}
+use Rattle.staat_cells.proofs.BatchCones.{clear_bit}
 use Rattle.staat_cells.proofs.batches.with_outside.Goals as goal
 
 pub returns-else-eq : goal.returns-else-eq

@@ -2,25 +2,20 @@ use Rattle.std.proofs.Common.{◌≡◌, [], arith, length, map, subst, sym, Con
 use Rattle.std.proofs.lemmas.List.{length-map}
 use Rattle.std.proofs.lemmas.Result.{IfOk-weaker}
 use Rattle.staat_vec.specs.Lists.{Lists}
-use Rattle.staat_vec.proofs.Unique.{Contains-nothing}
 use Rattle.staat_model.specs.declared.tree.Kind.TheVariants.{Edge}
 use Rattle.staat_model.specs.Cells.{CellEntry, signs_of}
 use Rattle.staat_model.specs.Planes.{vertices}
 use Rattle.staat_cells.specs.Compositions.{entry_of}
 use Rattle.staat_cells.specs.Packing.{incidence_cmp}
 use Rattle.staat_cells.specs.Stages.{GrewByAll, IsEdgeIncidence, IsIncidence}
-use Rattle.staat_planes.proofs.Gaining.{adds_nothing}
-use Rattle.staat_cells.proofs.EdgeCells.{point_in}
-use Rattle.staat_cells.proofs.Growing.{Below, grown_first, grown_more, grown_same, none_below}
-use Rattle.staat_cells.proofs.Numbered.{IsEdgeAt, edges_all, entry_is, listed_is, own_at, own_place}
-use Rattle.staat_cells.proofs.WholeLists.{lists_as}
+use Rattle.staat_cells.proofs.MadeUpCells.{point_in}
+use Rattle.staat_cells.proofs.Growing.{grown_more}
+use Rattle.staat_cells.proofs.ListedIncidences.{IsEdgeAt, edges_all, entry_is, grew_none, listed_is, own_at, own_place, sorted_all}
 use Rattle.staat_cells.proofs.edge_incidences.edge_incidences.Goals as goal
 
 pub loop-k-init : goal.loop-k-init
 loop-k-init c =
-    subst (GrewByAll (λ x. Below (IsEdgeAt c.args.planes.now (map entry_of c.args.points.now) x) 0) [])
-    (sym c.in_ok-incidences.ensures.items)
-    (λ x. adds_nothing (none_below (IsEdgeAt c.args.planes.now (map entry_of c.args.points.now) x)))
+    grew_none (IsEdgeAt c.args.planes.now (map entry_of c.args.points.now)) c.in_ok-incidences.incidences.items c.in_ok-incidences.ensures.items
 
 pub bounds-own-k : goal.bounds-own-k
 bounds-own-k c = own_place c.args.points.now c.args.own.now c.requires.own c.loop-k.k c.loop-k-test.true
@@ -66,7 +61,7 @@ returns c =
     omega (arith, c.loop-k-test.false, c.loop-k.auto.k-end, length-map c.args.points.now entry_of) in
     IfOk-weaker c.in_order.result (λ sorted. Lists incidence_cmp (Contains c.loop-k.incidences.items) sorted.items)
     (λ sorted. Lists incidence_cmp (IsIncidence planes Edge cells) sorted.items)
-    (λ sorted. lists_as (Contains c.loop-k.incidences.items) (IsIncidence planes Edge cells) sorted.items
-    (λ x. grown_first (grown_same (c.loop-k.invariant x) (edges_all cells c.loop-k.k all x planes
-    (λ k lt. sym (point_in planes c.requires.planes cells c.requires.points k lt).1))) (Contains-nothing x)))
+    (λ sorted. sorted_all (IsIncidence planes Edge cells) (IsEdgeAt planes cells) c.loop-k.incidences.items sorted.items c.loop-k.k
+    c.loop-k.invariant (λ x. edges_all cells c.loop-k.k all x planes
+    (λ k lt. sym (point_in planes c.requires.planes cells c.requires.points k lt).1)))
     c.in_order.ensures

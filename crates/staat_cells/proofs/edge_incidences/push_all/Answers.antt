@@ -5,7 +5,7 @@ use Rattle.staat_cells.specs.ZeroSigns.{zero_places}
 use Rattle.staat_cells.specs.Stages.{GrewByAll, IsBesideIncidence}
 use Rattle.staat_planes.proofs.Gaining.{adds_nothing}
 use Rattle.staat_cells.proofs.Growing.{grown_more, grown_same, none_below}
-use Rattle.staat_cells.proofs.ZeroPlanes.{IsPassed, all_passed}
+use Rattle.staat_cells.proofs.ZeroPlaces.{IsPassed, all_passed}
 use Rattle.staat_cells.proofs.edge_incidences.push_all.Goals as goal
 
 pub loop-i-init : goal.loop-i-init

@@ -1,6 +1,6 @@
 use Rattle.staat_cells.specs.Stages.{GrewByAll}
 use Rattle.staat_cells.proofs.Growing.{Below}
-use Rattle.staat_cells.proofs.ZeroPlanes.{IsPassed}
+use Rattle.staat_cells.proofs.ZeroPlaces.{IsPassed}
 use Rattle.staat_cells.proofs.edge_incidences.push_all.Given as goal
 
 -- the incidences on the planes that were passed

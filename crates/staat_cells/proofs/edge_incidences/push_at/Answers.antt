@@ -3,8 +3,8 @@ use Rattle.std.proofs.lemmas.List.{length-map}
 use Rattle.staat_vec.specs.Vectors.{cross, dot, negative, origin, sign}
 use Rattle.staat_vec.proofs.ListLaws.{other_default}
 use Rattle.staat_cells.specs.ZeroSigns.{zero_places}
-use Rattle.staat_cells.proofs.PushingIncidences.{incidences_on, towards}
-use Rattle.staat_cells.proofs.ZeroPlanes.{zero_place, zero_sign_there}
+use Rattle.staat_cells.proofs.ListedIncidences.{incidences_on, towards}
+use Rattle.staat_cells.proofs.ZeroPlaces.{zero_place, zero_sign_there}
 use Rattle.staat_cells.proofs.edge_incidences.push_at.Goals as goal
 
 pub bounds-planes-j : goal.bounds-planes-j

@@ -1,7 +1,7 @@
 use Rattle.std.proofs.Common.{◌≡◌, ◌≢◌, arith, pos, refl, rules}
 use Rattle.std.proofs.lemmas.Int.{ints}
 use Rattle.staat_vec.specs.Vectors.{vector}
-use Rattle.staat_cells.proofs.Narrowing.{x_leads, y_leads, z_leads}
+use Rattle.staat_cells.proofs.LeastCell.{x_leads, y_leads, z_leads}
 use Rattle.staat_cells.proofs.first_cell.axis_ends.Goals as goal
 
 pub ends_between-requires-clause-turn : goal.ends_between-requires-clause-turn

@@ -2,7 +2,7 @@ use Rattle.std.proofs.Common.{lit≤, ◌∙◌}
 use Rattle.staat_vec.specs.declared.vector.TheConstants.{EDGE, VERTEX}
 use Rattle.staat_vec.specs.Vectors.{plus}
 use Rattle.staat_vec.proofs.Bounds.{IsWithin-wider}
-use Rattle.staat_cells.proofs.LowEdges.{first_some, low_edge, second_some}
+use Rattle.staat_cells.proofs.LeastCell.{first_some, low_edge, second_some}
 use Rattle.staat_cells.proofs.first_cell.edge_on.Goals as goal
 
 pub primitive-requires-clause-some : goal.primitive-requires-clause-some

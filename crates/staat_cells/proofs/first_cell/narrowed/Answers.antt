@@ -1,8 +1,8 @@
 use Rattle.std.proofs.Common.{◌*◌, ◌<◌, ◌^◌, arith, refl}
 use Rattle.staat_vec.specs.declared.vector.TheConstants.{DIRECTION, NORMAL}
 use Rattle.staat_vec.proofs.Order.{positive_nonneg}
-use Rattle.staat_cells.proofs.MachineWords.{above_zero, below_zero, from_zero, to_zero}
-use Rattle.staat_cells.proofs.Narrowing.{both_kept, first_cut, none_left, over, second_cut}
+use Rattle.staat_cells.proofs.LeastCell.{above_zero, below_zero, from_zero, to_zero, both_kept, first_cut, none_left}
+use Rattle.staat_cells.proofs.LeastCell.{over, second_cut}
 use Rattle.staat_cells.proofs.first_cell.narrowed.Goals as goal
 
 -- the size of a product

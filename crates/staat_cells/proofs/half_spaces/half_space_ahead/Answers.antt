@@ -4,7 +4,7 @@ use Rattle.staat_vec.specs.Primitives.{canon}
 use Rattle.staat_vec.specs.Vectors.{negative}
 use Rattle.staat_vec.proofs.Canons.{canon-either}
 use Rattle.staat_vec.proofs.Primitives.{IsPrimitive-some}
-use Rattle.staat_cells.proofs.FacetPlanes.{half_space_is, own_negative, own_positive}
+use Rattle.staat_cells.proofs.PieceCones.{half_space_is, own_negative, own_positive}
 use Rattle.staat_cells.proofs.half_spaces.half_space_ahead.Goals as goal
 
 pub canon-requires-clause-some : goal.canon-requires-clause-some

@@ -1,6 +1,6 @@
 use Rattle.std.proofs.Common.{◌≤◌, subst}
 use Rattle.staat_pairs.specs.Tables.{facets_of}
-use Rattle.staat_cells.proofs.FacetPlanes.{facet_more, facets_all, no_facets}
+use Rattle.staat_cells.proofs.PieceCones.{facet_more, facets_all, no_facets}
 use Rattle.staat_cells.proofs.half_spaces.half_spaces.Goals as goal
 
 pub loop-m-init : goal.loop-m-init

@@ -1,5 +1,4 @@
-use Rattle.std.proofs.Common.{◌≡◌, ◌∙◌, sym, true}
-use Rattle.std.proofs.Common.{rules}
+use Rattle.std.proofs.Common.{◌≡◌, ◌∙◌, sym, true, rules}
 use lib.Pointwise.{pointwise_decides}
 use Rattle.staat_cells.specs.declared.half_spaces.HalfSpace.{HalfSpace}
 use Rattle.staat_cells.specs.contracts.half_spaces.HalfSpacePartialEq.TheImpl.{eq-value}

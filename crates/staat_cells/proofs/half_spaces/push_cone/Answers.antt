@@ -2,8 +2,7 @@ use Rattle.std.proofs.Common.{Any, List, subst}
 use Rattle.std.proofs.lemmas.Result.{on_ok_weaker}
 use Rattle.staat_cells.specs.declared.half_spaces.HalfSpace.{HalfSpace}
 use Rattle.staat_cells.specs.HalfSpaces.{AreAmong, AreInside}
-use Rattle.staat_cells.proofs.Cones.{cone_left_out}
-use Rattle.staat_cells.proofs.Elements.{any_pushed}
+use Rattle.staat_cells.proofs.Growing.{any_pushed, cone_left_out}
 use Rattle.staat_cells.proofs.half_spaces.push_cone.Goals as goal
 
 pub returns-then-any_wider : goal.returns-then-any_wider

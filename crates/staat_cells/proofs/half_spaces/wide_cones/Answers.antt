@@ -2,9 +2,8 @@ use Rattle.std.proofs.Common.{◌∙◌, ◌-◌, ◌⊎◌, ◌↔◌, [], List
 use Rattle.staat_cells.specs.declared.half_spaces.HalfSpace.{HalfSpace}
 use Rattle.staat_cells.specs.CellGraphs.{AddsCones}
 use Rattle.staat_cells.specs.HalfSpaces.{AreInside}
-use Rattle.staat_cells.proofs.Cones.{from_last}
+use Rattle.staat_cells.proofs.Growing.{Below, from_last, grown_first, grown_more, grown_same, none_below}
 use Rattle.staat_planes.proofs.Gaining.{adds_nothing}
-use Rattle.staat_cells.proofs.Growing.{Below, grown_first, grown_more, grown_same, none_below}
 use Rattle.staat_cells.proofs.half_spaces.wide_cones.Goals as goal
 use Rattle.staat_vec.proofs.ListLaws.{any_default}
 

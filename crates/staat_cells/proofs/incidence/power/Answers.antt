@@ -1,4 +1,4 @@
-use Rattle.staat_cells.proofs.Halves.{power_is}
+use Rattle.staat_cells.proofs.Words.{power_is}
 use Rattle.staat_cells.proofs.incidence.power.Goals as goal
 
 pub returns : goal.returns

@@ -1,7 +1,7 @@
 use Rattle.std.proofs.Common.{◌≡◌, ◌+◌, ◌*◌, ◌^◌, ◌≤◌, ◌∙◌, ap, arith, length, take, drop}
 use Rattle.std.proofs.lemmas.List.{length-take-le, take_rest}
 use Rattle.staat_cells.specs.Packing.{packed}
-use Rattle.staat_cells.proofs.Halves.{halves, halves_fit}
+use Rattle.staat_cells.proofs.Words.{halves, halves_fit}
 use Rattle.staat_cells.proofs.incidence.word.Goals as goal
 
 pub slice_bounds-half-end : goal.slice_bounds-half-end

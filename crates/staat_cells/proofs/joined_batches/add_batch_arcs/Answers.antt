@@ -1,4 +1,4 @@
-use Rattle.std.proofs.Common.{◌≡◌, All, arith, get_or, length, refl, subst, sym}
+use Rattle.std.proofs.Common.{◌≡◌, All, arith, get_or, length, subst, sym}
 use Rattle.std.proofs.lemmas.List.{get_or_default}
 use Rattle.std.proofs.lemmas.List.Elements.{All-get_or}
 use Rattle.staat_cells.specs.declared.batches.ArcCones.{ArcCones}
@@ -24,5 +24,5 @@ loop-arc-preserved c =
 pub returns : goal.returns
 returns c =
     batch_arcs c.args.batch.now c.args.signs.now c.ruled_out_of-outside.result c.loop-arc.arc-index
-    c.deref-arc-items.result.now c.args.batch.now.tests.items c.args.rows.now c.loop-arc.rows c.deref-arc-items.ensures.value
-    refl c.loop-arc-test.false c.ruled_out_of-outside.ensures c.loop-arc.invariant
+    c.deref-arc-items.result.now c.args.rows.now c.loop-arc.rows c.deref-arc-items.ensures.value c.loop-arc-test.false
+    c.ruled_out_of-outside.ensures c.loop-arc.invariant

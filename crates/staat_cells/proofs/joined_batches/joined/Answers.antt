@@ -1,4 +1,4 @@
-use Rattle.staat_cells.proofs.JoinedBatches.{three_left}
+use Rattle.staat_cells.proofs.GraphRows.{three_left}
 use Rattle.staat_cells.proofs.joined_batches.joined.Goals as goal
 
 pub returns : goal.returns

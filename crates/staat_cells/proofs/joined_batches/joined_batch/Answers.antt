@@ -3,7 +3,7 @@ use Rattle.staat_vec.specs.declared.vector.Sign.{Sign}
 use Rattle.staat_cells.specs.declared.batches.PlaneTest.{PlaneTest}
 use Rattle.staat_cells.specs.declared.joined_batches.JoinedTest.{JoinedTest}
 use Rattle.staat_cells.specs.Batches.{HasParts, HasPlanesUpTo, IsLeftByAll, joined_outside, outside_by}
-use Rattle.staat_cells.proofs.JoinedBatches.{joined_arc}
+use Rattle.staat_cells.proofs.GraphRows.{joined_arc}
 use Rattle.staat_cells.proofs.joined_batches.joined_batch.Goals as goal
 
 pub returns : goal.returns

@@ -4,9 +4,8 @@ use Rattle.staat_vec.specs.declared.vector.Sign.{Sign}
 use Rattle.staat_cells.specs.declared.joined_batches.JoinedBatch.{JoinedBatch}
 use Rattle.staat_cells.specs.Batches.{IsBatchArc, IsJoinedArc, IsJoinedBatch, IsBatch}
 use Rattle.staat_cells.specs.CellGraphs.{IsArcAt, IsListedArc}
-use Rattle.staat_cells.proofs.Elements.{any_pushed}
+use Rattle.staat_cells.proofs.Growing.{any_pushed, grown_first, grown_same, grown_take}
 use Rattle.staat_planes.proofs.Gaining.{adds_nothing}
-use Rattle.staat_cells.proofs.Growing.{grown_first, grown_same, grown_take}
 use Rattle.std.proofs.lemmas.List.{take_all}
 use Rattle.staat_cells.proofs.joined_batches.joined_batches.Goals as goal
 

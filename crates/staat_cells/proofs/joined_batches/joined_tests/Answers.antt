@@ -1,5 +1,5 @@
 use Rattle.std.proofs.Common.{arith}
-use Rattle.staat_cells.proofs.JoinedBatches.{three_all, three_more}
+use Rattle.staat_cells.proofs.GraphRows.{three_all, three_more}
 use Rattle.staat_cells.proofs.joined_batches.joined_tests.Goals as goal
 
 pub loop-i-preserved : goal.loop-i-preserved

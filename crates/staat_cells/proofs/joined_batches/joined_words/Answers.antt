@@ -1,7 +1,7 @@
 use Rattle.std.proofs.Common.{◌∙◌, arith}
 use Rattle.std.proofs.lemmas.List.{length-set}
 use Rattle.std.proofs.lemmas.List.Edits.{fill_by_more}
-use Rattle.staat_cells.proofs.JoinedBatches.{word_of_digits, words_are}
+use Rattle.staat_cells.proofs.GraphRows.{word_of_digits, words_are}
 use Rattle.staat_cells.proofs.joined_batches.joined_words.Goals as goal
 
 pub loop-i-preserved : goal.loop-i-preserved

@@ -1,5 +1,5 @@
 use Rattle.std.proofs.Common.{◌≡◌, ◌<◌, ℕ, length, slice_index}
-use Rattle.staat_cells.proofs.JoinedBatches.{word_of_digits}
+use Rattle.staat_cells.proofs.GraphRows.{word_of_digits}
 use Rattle.staat_cells.proofs.joined_batches.joined_words.Given as goal
 
 abbrev pub invariant-loop-i : goal.invariant-loop-i

@@ -1,7 +1,9 @@
 use Rattle.std.proofs.Common.{[], arith, get_or}
 use Rattle.std.proofs.lemmas.List.{get_or_default}
 use Rattle.staat_cells.specs.declared.joined_batches.JoinedTest.{JoinedTest}
-use Rattle.staat_cells.proofs.JoinedBatches.{all_planes, more_planes}
+use Rattle.staat_vec.proofs.ListLaws.{All-taken}
+use Rattle.staat_cells.specs.Batches.{HasPlanesUpTo}
+use Rattle.staat_cells.proofs.GraphRows.{more_planes}
 use Rattle.staat_cells.proofs.joined_batches.last_plane.Goals as goal
 
 pub loop-test-preserved : goal.loop-test-preserved
@@ -15,4 +17,5 @@ loop-test-preserved c =
     (record { first = omega arith; second = omega arith; third = omega arith })
 
 pub returns : goal.returns
-returns c = all_planes c.args.tests.now c.loop-test.test-index c.loop-test.last c.loop-test-test.false c.loop-test.invariant
+returns c = All-taken (HasPlanesUpTo c.loop-test.last) c.args.tests.now c.loop-test.test-index c.loop-test-test.false
+    c.loop-test.invariant

@@ -1,7 +1,7 @@
 use Rattle.std.proofs.Common.{[], get_or}
 use Rattle.std.proofs.lemmas.List.{get_or_default}
 use Rattle.staat_cells.specs.declared.joined_batches.JoinedTest.{JoinedTest}
-use Rattle.staat_cells.proofs.JoinedBatches.{all_out, more_out, none_out}
+use Rattle.staat_cells.proofs.GraphRows.{all_out, more_out, none_out}
 use Rattle.staat_cells.proofs.joined_batches.ruled_out.Goals as goal
 
 pub loop-test-init : goal.loop-test-init

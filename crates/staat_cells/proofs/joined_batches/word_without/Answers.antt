@@ -1,4 +1,4 @@
-use Rattle.staat_cells.proofs.ConeTests.{without_some}
+use Rattle.staat_cells.proofs.BatchCones.{without_some}
 use Rattle.staat_cells.proofs.joined_batches.word_without.Goals as goal
 
 pub returns : goal.returns

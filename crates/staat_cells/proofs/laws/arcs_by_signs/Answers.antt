@@ -1,4 +1,4 @@
-use Rattle.staat_cells.proofs.FacetPlanes.{ahead_by_signs}
+use Rattle.staat_cells.proofs.PieceCones.{ahead_by_signs}
 use Rattle.staat_cells.proofs.laws.arcs_by_signs.Goals as goal
 
 pub returns : goal.returns

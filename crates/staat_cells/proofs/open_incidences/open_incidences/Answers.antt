@@ -3,22 +3,16 @@ use Rattle.std.proofs.lemmas.List.{length-map}
 use Rattle.std.proofs.lemmas.Result.{IfOk-weaker}
 use Rattle.staat_vec.specs.Lists.{Lists}
 use Rattle.staat_vec.specs.declared.vector.Sign.TheVariants.{Neg, Pos}
-use Rattle.staat_vec.proofs.Unique.{Contains-nothing}
 use Rattle.staat_cells.specs.Beside.{filled}
 use Rattle.staat_cells.specs.Compositions.{entry_of}
 use Rattle.staat_cells.specs.Packing.{incidence_cmp, incidence_of}
 use Rattle.staat_cells.specs.Stages.{GrewByAll, IsFilledIncidence, cell_at}
-use Rattle.staat_planes.proofs.Gaining.{adds_nothing}
-use Rattle.staat_cells.proofs.Growing.{Below, grown_first, grown_more, grown_same, none_below}
-use Rattle.staat_cells.proofs.Numbered.{IsFilledAt, filled_all, listed_is, own_place}
-use Rattle.staat_cells.proofs.PushingIncidences.{grew_pair}
-use Rattle.staat_cells.proofs.WholeLists.{lists_as}
+use Rattle.staat_cells.proofs.Growing.{grown_more}
+use Rattle.staat_cells.proofs.ListedIncidences.{IsFilledAt, filled_all, grew_none, grew_pair, own_place, own_signs, sorted_all}
 use Rattle.staat_cells.proofs.open_incidences.open_incidences.Goals as goal
 
 pub loop-k-init : goal.loop-k-init
-loop-k-init c =
-    subst (GrewByAll (λ x. Below (IsFilledAt (map entry_of c.args.edges.now) x) 0) []) (sym c.clear.ensures.items)
-    (λ x. adds_nothing (none_below (IsFilledAt (map entry_of c.args.edges.now) x)))
+loop-k-init c = grew_none (IsFilledAt (map entry_of c.args.edges.now)) c.clear.new.self.items c.clear.ensures.items
 
 pub bounds-own-k : goal.bounds-own-k
 bounds-own-k c = own_place c.args.edges.now c.args.own.now c.requires c.loop-k.k c.loop-k-test.true
@@ -31,7 +25,7 @@ loop-k-preserved c =
     λ x. grown_more (IsFilledAt cells x) k (c.loop-k.invariant x)
     (grew_pair (λ z. IsFilledAt cells z k) c.loop-k.incidences.items c.push_both.new.incidences.items
     (incidence_of (filled Neg s) k) (incidence_of (filled Pos s) k)
-    (c.in_ok-push_both.ensures s (c.requires.each k (listed_is c.args.edges.now k c.loop-k-test.true)))
+    (c.in_ok-push_both.ensures s (own_signs c.args.edges.now c.args.own.now c.requires k c.loop-k-test.true))
     (λ z. (λ h. h, λ h. h)) x)
 
 pub returns : goal.returns
@@ -41,6 +35,6 @@ returns c =
     omega (arith, c.loop-k-test.false, c.loop-k.auto.k-end, length-map c.args.edges.now entry_of) in
     IfOk-weaker c.in_order.result (λ sorted. Lists incidence_cmp (Contains c.loop-k.incidences.items) sorted.items)
     (λ sorted. Lists incidence_cmp (IsFilledIncidence cells) sorted.items)
-    (λ sorted. lists_as (Contains c.loop-k.incidences.items) (IsFilledIncidence cells) sorted.items
-    (λ x. grown_first (grown_same (c.loop-k.invariant x) (filled_all cells c.loop-k.k all x)) (Contains-nothing x)))
+    (λ sorted. sorted_all (IsFilledIncidence cells) (IsFilledAt cells) c.loop-k.incidences.items sorted.items c.loop-k.k
+    c.loop-k.invariant (filled_all cells c.loop-k.k all))
     c.in_order.ensures

@@ -2,7 +2,7 @@ use Rattle.std.proofs.Common.{[], map}
 use Rattle.staat_cells.specs.Compositions.{entry_of}
 use Rattle.staat_cells.specs.Stages.{GrewByAll}
 use Rattle.staat_cells.proofs.Growing.{Below}
-use Rattle.staat_cells.proofs.Numbered.{IsFilledAt}
+use Rattle.staat_cells.proofs.ListedIncidences.{IsFilledAt}
 use Rattle.staat_cells.proofs.open_incidences.open_incidences.Given as goal
 
 -- the incidences of the edges that were passed

@@ -2,7 +2,7 @@ use Rattle.std.proofs.Common.{List, Contains, subst, sym}
 use Rattle.staat_vec.specs.Lists.{Lists}
 use Rattle.staat_cells.specs.declared.incidence.Incidence.{Incidence}
 use Rattle.staat_cells.specs.Packing.{incidence_cmp}
-use Rattle.staat_cells.proofs.Mirrors.{mirrors_listed}
+use Rattle.staat_cells.proofs.IncidenceOrder.{mirrors_listed}
 use Rattle.staat_cells.proofs.order.mirrors_sorted.Goals as goal
 
 pub returns : goal.returns

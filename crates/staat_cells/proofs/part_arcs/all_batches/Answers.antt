@@ -3,7 +3,7 @@ use Rattle.std.proofs.lemmas.List.Elements.{All-nil}
 use Rattle.staat_cells.specs.declared.batches.Batch.{Batch}
 use Rattle.staat_cells.specs.Batches.{IsBatch}
 use Rattle.staat_cells.specs.CellGraphs.{AddsArcs, IsPairArc}
-use Rattle.staat_cells.proofs.PartArcs.{BelowParts, all_listed, below_more, below_none}
+use Rattle.staat_cells.proofs.PieceCones.{BelowParts, all_listed, below_more, below_none}
 use Rattle.staat_cells.proofs.part_arcs.all_batches.Goals as goal
 
 pub loop-pair-init : goal.loop-pair-init

@@ -3,7 +3,7 @@ use Rattle.staat_cells.specs.declared.half_spaces.HalfSpace.{HalfSpace}
 use Rattle.staat_cells.specs.CellGraphs.{AddsCones, IsPieceAhead}
 use Rattle.staat_planes.proofs.Gaining.{adds_nothing}
 use Rattle.staat_cells.proofs.Growing.{Below, grown_first, grown_more, grown_same, none_below}
-use Rattle.staat_cells.proofs.PartArcs.{parts_are}
+use Rattle.staat_cells.proofs.PieceCones.{parts_are}
 use Rattle.staat_cells.proofs.part_arcs.cones_of.Goals as goal
 
 pub loop-i-init : goal.loop-i-init

@@ -1,14 +1,12 @@
 use Rattle.std.proofs.Common.{◌↔◌, Any, List, subst, sym}
+use Rattle.staat_cells.proofs.Growing.{through}
 use Rattle.std.proofs.lemmas.Result.{on_ok_weaker}
 use Rattle.staat_vec.specs.declared.vector.Sign.{Sign}
 use Rattle.staat_cells.specs.CellGraphs.{IsAheadBy}
 use Rattle.staat_cells.specs.declared.half_spaces.HalfSpace.{HalfSpace}
 use Rattle.staat_cells.specs.HalfSpaces.{AreInside}
-use Rattle.staat_cells.proofs.PartArcs.{pair_added}
+use Rattle.staat_cells.proofs.PieceCones.{pair_added}
 use Rattle.staat_cells.proofs.part_arcs.push_pair.Goals as goal
-
-both : {A B C : Type 0} → A ↔ B → B ↔ C → A ↔ C
-both f g = (λ a. g.0 (f.0 a), λ c. f.1 (g.1 c))
 
 pub returns : goal.returns
 returns c =
@@ -21,5 +19,5 @@ returns c =
     on_ok_weaker c.add_cones.result (λ added.
     pair_added t a b c.deref-2.result.now c.args.batches.now.items c.add_cones.new.batches.items
     (subst (λ (l : List (List HalfSpace)). (signs : List Sign) → Any (AreInside signs) l ↔ IsAheadBy t signs a b)
-    (sym c.deref-2.ensures.value) (λ signs. both (c.in_ok-wide.ensures signs) (ahead signs))) added)
+    (sym c.deref-2.ensures.value) (λ signs. through (c.in_ok-wide.ensures signs) (ahead signs))) added)
     c.add_cones.ensures

@@ -5,7 +5,7 @@ use Rattle.staat_cells.specs.HalfSpaces.{AreAhead}
 use Rattle.staat_cells.specs.CellGraphs.{IsPairAhead}
 use Rattle.staat_planes.proofs.Gaining.{adds_nothing}
 use Rattle.staat_cells.proofs.Growing.{grown_more, grown_same, none_below}
-use Rattle.staat_cells.proofs.PartArcs.{pieces_are}
+use Rattle.staat_cells.proofs.PieceCones.{pieces_are}
 use Rattle.staat_cells.proofs.part_arcs.push_piece.Goals as goal
 
 pub loop-j-init : goal.loop-j-init

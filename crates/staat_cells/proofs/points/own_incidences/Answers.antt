@@ -1,21 +1,18 @@
-use Rattle.std.proofs.Common.{◌≡◌, ◌∙◌, ap, arith, subst, sym, ◌++◌, ◌∷◌, [], length, map}
+use Rattle.std.proofs.Common.{◌≡◌, ◌∙◌, ap, arith, subst, sym, ◌++◌, ◌∷◌, [], length, map, Contains}
 use Rattle.std.proofs.lemmas.List.{length-map}
-use Rattle.staat_vec.proofs.Unique.{Contains-nothing}
+use Rattle.std.proofs.lemmas.Result.{IfOk-weaker}
+use Rattle.staat_vec.specs.Lists.{Lists}
 use Rattle.staat_model.specs.Cells.{CellEntry}
 use Rattle.staat_cells.specs.declared.cell.Cell.{Cell}
 use Rattle.staat_cells.specs.Compositions.{entry_of}
-use Rattle.staat_cells.specs.Packing.{incidence_of}
-use Rattle.staat_cells.specs.Stages.{GrewByAll, cell_at}
-use Rattle.staat_planes.proofs.Gaining.{adds_nothing}
-use Rattle.staat_cells.proofs.Growing.{Below, grown_first, grown_more, grown_same, none_below}
-use Rattle.staat_cells.proofs.Numbered.{IsOwnAt, entry_is, own_all}
-use Rattle.staat_cells.proofs.PushingIncidences.{grew_one}
+use Rattle.staat_cells.specs.Packing.{incidence_cmp, incidence_of}
+use Rattle.staat_cells.specs.Stages.{IsOwnIncidence, cell_at}
+use Rattle.staat_cells.proofs.Growing.{grown_more}
+use Rattle.staat_cells.proofs.ListedIncidences.{IsOwnAt, entry_is, grew_none, grew_one, own_all, sorted_all}
 use Rattle.staat_cells.proofs.points.own_incidences.Goals as goal
 
 pub loop-k-init : goal.loop-k-init
-loop-k-init c =
-    subst (GrewByAll (λ x. Below (IsOwnAt (map entry_of c.args.cells.now) x) 0) []) (sym c.in_ok-incidences.ensures.items)
-    (λ x. adds_nothing (none_below (IsOwnAt (map entry_of c.args.cells.now) x)))
+loop-k-init c = grew_none (IsOwnAt (map entry_of c.args.cells.now)) c.in_ok-incidences.incidences.items c.in_ok-incidences.ensures.items
 
 pub loop-k-preserved : goal.loop-k-preserved
 loop-k-preserved c =
@@ -33,4 +30,8 @@ returns c =
     let cells = map entry_of c.args.cells.now in
     let all : c.loop-k.k ≡ length cells =
     omega (arith, c.loop-k-test.false, c.loop-k.auto.k-end, length-map c.args.cells.now entry_of) in
-    λ x. grown_first (grown_same (c.loop-k.invariant x) (own_all cells c.loop-k.k all x)) (Contains-nothing x)
+    IfOk-weaker c.in_order.result (λ sorted. Lists incidence_cmp (Contains c.loop-k.incidences.items) sorted.items)
+    (λ sorted. Lists incidence_cmp (IsOwnIncidence cells) sorted.items)
+    (λ sorted. sorted_all (IsOwnIncidence cells) (IsOwnAt cells) c.loop-k.incidences.items sorted.items c.loop-k.k
+    c.loop-k.invariant (own_all cells c.loop-k.k all))
+    c.in_order.ensures

@@ -2,7 +2,7 @@ use Rattle.std.proofs.Common.{[], map}
 use Rattle.staat_cells.specs.Compositions.{entry_of}
 use Rattle.staat_cells.specs.Stages.{GrewByAll}
 use Rattle.staat_cells.proofs.Growing.{Below}
-use Rattle.staat_cells.proofs.Numbered.{IsOwnAt}
+use Rattle.staat_cells.proofs.ListedIncidences.{IsOwnAt}
 use Rattle.staat_cells.proofs.points.own_incidences.Given as goal
 
 -- the incidences of the cells that were passed

@@ -6,9 +6,8 @@ use Rattle.staat_cells.specs.declared.cell.Cell.{Cell}
 use Rattle.staat_cells.specs.declared.incidence.Incidence.{Incidence}
 use Rattle.staat_cells.specs.Compositions.{entry_of}
 use Rattle.staat_cells.specs.Stages.{IsOwnIncidence, cell_at, point_entry}
-use Rattle.staat_cells.proofs.KindLists.{points_listed, points_signs, incidences_listed}
 use Rattle.staat_cells.specs.Packing.{incidence_cmp}
-use Rattle.staat_cells.proofs.WholeLists.{lists_as}
+use Rattle.staat_cells.proofs.WholeLists.{incidences_listed, points_listed, points_signs}
 use Rattle.staat_cells.proofs.TableRules.{listed_small, planes_apart, vertices_listed}
 use Rattle.staat_cells.proofs.points.points_of.Goals as goal
 
@@ -21,38 +20,26 @@ points_at-requires c =
     (subst (Lists vector_cmp (Contains (vertices c.args.planes.now))) (sym c.deref.ensures.value)
     (vertices_listed c.args.planes.now c.in_ok-directions.field-0.items c.in_ok-directions.ensures))
 
-own_lists : (raw slice : List Cell) (found sorted incidences : List Incidence) → slice ≡ raw → incidences ≡ sorted
-    → ((x : Incidence) → Contains found x ↔ IsOwnIncidence (map entry_of slice) x) → Lists incidence_cmp (Contains found) sorted
-    → Lists incidence_cmp (IsOwnIncidence (map entry_of raw)) incidences
-own_lists raw slice found sorted incidences e f own lists =
-    subst (λ l. Lists incidence_cmp (IsOwnIncidence (map entry_of l)) incidences) e
-    (subst (Lists incidence_cmp (IsOwnIncidence (map entry_of slice))) (sym f)
-    (lists_as (Contains found) (IsOwnIncidence (map entry_of slice)) sorted own lists))
-
 pub cells_of-requires : goal.cells_of-requires
 cells_of-requires c =
-    let raw = c.in_ok-raw.raw.items in
-    let lists = own_lists raw c.deref-2.result.now c.in_ok-own_incidences.field-0.items c.in_ok-incidences.incidences.items
-    c.deref-4.result.now c.deref-2.ensures.value c.deref-4.ensures.value c.in_ok-own_incidences.ensures c.in_ok-incidences.ensures in
-    subst (λ (l : List Cell). All (λ x. x.of < length l) c.deref-4.result.now) (sym c.deref-3.ensures.value)
-    (incidences_listed c.args.planes.now c.requires.planes c.requires.few raw c.deref-4.result.now lists)
+    let sorted = c.in_ok-incidences.incidences.items in
+    let lists = subst (λ (l : List Cell). Lists incidence_cmp (IsOwnIncidence (map entry_of l)) sorted) c.deref-2.ensures.value
+    c.in_ok-incidences.ensures in
+    subst (λ (l : List Incidence). All (λ x. x.of < length c.deref-3.result.now) l) (sym c.deref-4.ensures.value)
+    (subst (λ (l : List Cell). All (λ (x : Incidence). x.of < length l) sorted) (sym c.deref-3.ensures.value)
+    (incidences_listed c.args.planes.now c.requires.planes c.requires.few c.in_ok-raw.raw.items sorted lists))
 
-pub returns-clause-points : goal.returns-clause-points
-returns-clause-points c =
-    let raw = c.in_ok-raw.raw.items in
-    let lists = own_lists raw c.deref-2.result.now c.in_ok-own_incidences.field-0.items c.in_ok-incidences.incidences.items
-    c.deref-4.result.now c.deref-2.ensures.value c.deref-4.ensures.value c.in_ok-own_incidences.ensures c.in_ok-incidences.ensures in
-    points_listed c.args.planes.now c.requires.planes c.requires.few raw c.deref-4.result.now lists c.in_ok-points.points.items
-    c.in_ok-directions.field-0.items (c.in_ok-raw.ensures ∙ ap (map (point_entry c.args.planes.now)) c.deref.ensures.value)
-    (vertices_listed c.args.planes.now c.in_ok-directions.field-0.items c.in_ok-directions.ensures)
-    (c.in_ok-points.ensures ∙ ap (λ (l : List Cell). map (λ (x : Incidence). cell_at (map entry_of l) x.of) c.deref-4.result.now) c.deref-3.ensures.value)
-
-pub returns-clause-signs : goal.returns-clause-signs
-returns-clause-signs c =
+pub returns : goal.returns
+returns c =
     let raw = c.in_ok-raw.raw.items in
     let sorted = c.in_ok-incidences.incidences.items in
-    let lists = own_lists raw c.deref-2.result.now c.in_ok-own_incidences.field-0.items sorted sorted c.deref-2.ensures.value
-    refl c.in_ok-own_incidences.ensures c.in_ok-incidences.ensures in
-    points_signs c.args.planes.now c.requires.planes c.requires.few raw sorted lists c.in_ok-points.points.items
-    (c.in_ok-points.ensures
-    ∙ (λ i. map (λ (x : Incidence). cell_at (map entry_of (c.deref-3.ensures.value i)) x.of) (c.deref-4.ensures.value i)))
+    let lists = subst (λ (l : List Cell). Lists incidence_cmp (IsOwnIncidence (map entry_of l)) sorted) c.deref-2.ensures.value
+    c.in_ok-incidences.ensures in
+    let made = c.in_ok-points.ensures
+    ∙ (λ i. map (λ (x : Incidence). cell_at (map entry_of (c.deref-3.ensures.value i)) x.of) (c.deref-4.ensures.value i)) in
+    record {
+      points = points_listed c.args.planes.now c.requires.planes c.requires.few raw sorted lists c.in_ok-points.points.items
+          c.in_ok-directions.field-0.items (c.in_ok-raw.ensures ∙ ap (map (point_entry c.args.planes.now)) c.deref.ensures.value)
+          (vertices_listed c.args.planes.now c.in_ok-directions.field-0.items c.in_ok-directions.ensures) made;
+      signs = points_signs c.args.planes.now c.requires.planes c.requires.few raw sorted lists c.in_ok-points.points.items made;
+    }

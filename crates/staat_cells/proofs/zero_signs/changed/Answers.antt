@@ -1,5 +1,5 @@
 use Rattle.std.proofs.Common.{◌-◌, ap, arith, inl, inr, refl}
-use Rattle.staat_cells.proofs.ZeroSignLemmas.{word_given, word_kept}
+use Rattle.staat_cells.proofs.Words.{word_given, word_kept}
 use Rattle.staat_cells.proofs.zero_signs.changed.Goals as goal
 
 pub returns-then-k-lt64 : goal.returns-then-k-lt64

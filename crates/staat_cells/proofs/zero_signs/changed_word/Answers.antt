@@ -1,7 +1,7 @@
 use Rattle.std.proofs.Common.{◌+◌, ◌-◌, ◌%◌, ◌^◌, ◌∙◌, sym, ap}
 use Rattle.std.specs.Prelude.{slice_set}
 use Rattle.staat_cells.specs.Packing.{packed}
-use Rattle.staat_cells.proofs.ZeroSignLemmas.{word_down, word_up}
+use Rattle.staat_cells.proofs.Words.{word_down, word_up}
 use Rattle.staat_cells.proofs.zero_signs.changed_word.Goals as goal
 
 pub returns-in-Neg : goal.returns-in-Neg

@@ -1,7 +1,7 @@
 use Rattle.std.proofs.Common.{◌∙◌, ap, sym}
 use Rattle.staat_cells.specs.Beside.{filled}
 use Rattle.staat_cells.specs.Packing.{packed}
-use Rattle.staat_cells.proofs.Filling.{word_neg, word_pos, word_zero}
+use Rattle.staat_cells.proofs.Words.{word_neg, word_pos, word_zero}
 use Rattle.staat_cells.proofs.zero_signs.filled_word.Goals as goal
 
 pub returns-in-Neg : goal.returns-in-Neg

@@ -1,5 +1,5 @@
 use Rattle.std.proofs.Common.{ap}
-use Rattle.staat_cells.proofs.Filling.{filled_word_at}
+use Rattle.staat_cells.proofs.Words.{filled_word_at}
 use Rattle.staat_cells.proofs.zero_signs.incidence_filled.Goals as goal
 
 pub returns : goal.returns

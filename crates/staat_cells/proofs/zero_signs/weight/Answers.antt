@@ -1,4 +1,4 @@
-use Rattle.staat_cells.proofs.ZeroSignLemmas.{weight_is}
+use Rattle.staat_cells.proofs.Words.{weight_is}
 use Rattle.staat_cells.proofs.zero_signs.weight.Goals as goal
 
 pub returns : goal.returns

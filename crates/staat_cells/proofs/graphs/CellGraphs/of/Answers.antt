@@ -3,7 +3,7 @@ use Rattle.staat_vec.specs.declared.vector.Sign.{Sign}
 use Rattle.staat_cells.specs.declared.batches.Batch.{Batch}
 use Rattle.staat_cells.specs.Batches.{IsBatch}
 use Rattle.staat_cells.specs.CellGraphs.{IsArcAt, IsListedArc}
-use Rattle.staat_cells.proofs.JoinedBatches.{told}
+use Rattle.staat_cells.proofs.GraphRows.{told}
 use Rattle.staat_cells.proofs.graphs.CellGraphs.of.Goals as goal
 
 pub joined_batches-requires : goal.joined_batches-requires

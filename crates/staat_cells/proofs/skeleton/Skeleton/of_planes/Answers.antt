@@ -10,9 +10,9 @@ use Rattle.staat_cells.specs.declared.skeleton.Skeleton.{Skeleton}
 use Rattle.staat_cells.specs.Compositions.{HaveEqualLengths, HavePairs, begun_up_to, composed_up_to, entry_of}
 use Rattle.staat_cells.specs.Packing.{incidence_cmp}
 use Rattle.staat_cells.specs.Stages.{HaveSigns, IsFilledIncidence, IsIncidence}
-use Rattle.staat_cells.proofs.EdgeCells.{edges_made_up}
-use Rattle.staat_cells.proofs.KindLists.{kind_listed, kind_signs, lower_pairs, skeleton_is}
-use Rattle.staat_cells.proofs.WholeLists.{equal_lengths, points_small}
+use Rattle.staat_cells.proofs.MadeUpCells.{edges_made_up}
+use Rattle.staat_cells.proofs.WholeLists.{kind_listed, kind_signs, lower_pairs, skeleton_is, equal_lengths}
+use Rattle.staat_cells.proofs.WholeLists.{points_small}
 use Rattle.staat_cells.proofs.skeleton.Skeleton.of_planes.Goals as goal
 
 pub edge_incidences-requires-clause-points : goal.edge_incidences-requires-clause-points
