@@ -54,16 +54,6 @@ pub follows_fault : {X Y : Type 0} (First : Found X → Type 0) (Whole : Found Y
 follows_fault First Whole fault.OutOfMemory both h = tt
 follows_fault First Whole f both h = both f h
 
-each_fault : {X Y : Type 0} (Step : X → Found Y → Type 0) (xs : List X) (i : ℕ) (done : List Y) (d : X) (f : Fault) → i < length xs → Continues Step xs i done → Follows (Step (get_or xs i d)) (Err f) → Follows (Each Step xs) (Err f)
-each_fault Step xs i done d f lt before h =
-    follows_fault (Step (get_or xs i d)) (Each Step xs) f (λ g at. before (Err g) (subst (λ zs. Each Step zs (Err g)) (sym (drop_more xs i d lt)) (inl (g, at, refl)))) h
-
--- the same of an answer with that fault
-pub each_failed : {X Y : Type 0} (Step : X → Found Y → Type 0) (xs : List X) (i : ℕ) (done : List Y) (x : X) (f : Fault) (r : Result (List Y) Fault) → i < length xs → x ≡ get_or xs i x → Continues Step xs i done → Follows (Step x) (Err f) → IsErrAnd r (λ e. e ≡ f) → Follows (Each Step xs) r
-each_failed Step xs i done x f (Ok ys) lt at before h fails = absurd fails
-each_failed Step xs i done x f (Err e) lt at before h fails =
-    subst (λ g. Follows (Each Step xs) (Err g)) (sym fails) (each_fault Step xs i done x f lt before (subst (λ y. Follows (Step y) (Err f)) at h))
-
 -- two steps as one
 pub then_fault : {X Y : Type 0} (First : Found X → Type 0) (Second : X → Found Y → Type 0) (f : Fault) → Follows First (Err f) → Follows (Then First Second) (Err f)
 then_fault First Second f h = follows_fault First (Then First Second) f (λ g at. inl (g, at, refl)) h
