@@ -1,8 +1,7 @@
 -- The files that the work on an input opens.
-use Rattle.std.proofs.Common.{◌≡◌, ◌∙◌, ℕ, ◌+◌, ◌<◌, Bool, true, false, List, [], ◌∷◌, ◌++◌, map, take, drop, get_or, length, Result, Ok, Err, refl, sym, ap, subst, inl, inr, append-nil}
+use Rattle.std.proofs.Common.{◌≡◌, ◌∙◌, ℕ, ◌+◌, ◌<◌, Bool, true, false, List, [], ◌∷◌, ◌++◌, map, take, drop, get_or, length, Ok, Err, refl, sym, ap, subst, inl, inr, append-nil}
 use Rattle.std.proofs.lemmas.Grind.{flat_map-append}
 use Rattle.std.proofs.lemmas.List.{flat_map_more, take-append-drop, take_more}
-use Rattle.std.specs.Prelude.{IsErrAnd, is_ok}
 use Rattle.staat_edge.specs.Opening.{Opens, OpensAll, OpensFiles, OpensSome}
 use Rattle.staat_edge.specs.Readings.{FileReading, whole_reading}
 use Rattle.staat_edge.specs.Told.{ShelfTold}
@@ -31,11 +30,6 @@ input_some limits ends (inputs.Manifest name) more before now (inr listed) =
       listed = listed.listed;
       opens = opens_some ends (piece_files listed.parts ++ more) _ now.given listed.opens;
     })
-
--- where the work on the input came to no end, some of its files were opened
-pub input_refused : {X E : Type 0} (P : E → Type 0) (limits : Limits) (r : Result X E) (source : Input) (more : List (List ℕ)) (before now : ShelfTold) → IsErrAnd r P → OpensSomeOf limits source more before now → OpensInput limits (is_ok r) source more before now
-input_refused P limits (Ok x) source more before now wrong some = absurd wrong
-input_refused P limits (Err e) source more before now is some = some
 
 -- where each of these files was opened, that was so whether the work came to its end or not
 pub all_opened : (ends : Bool) (names : List (List ℕ)) (before now : List FileReading) → OpensAll names before now → Opens ends names before now

@@ -1,5 +1,5 @@
 -- How calls follow one another that take steps of the work.
-use Rattle.std.proofs.Common.{◌≡◌, ◌∙◌, ◌+◌, ◌<◌, ◌≤◌, ◌++◌, ℕ, List, [], ◌∷◌, Ok, Err, true, false, inl, refl, sym, subst, arith, length, get_or, drop}
+use Rattle.std.proofs.Common.{◌≡◌, ◌∙◌, ◌+◌, ◌<◌, ◌≤◌, ◌++◌, ℕ, List, [], ◌∷◌, Ok, Err, true, false, inl, refl, sym, subst, arith, length, get_or}
 use Rattle.std.specs.Prelude.{IfErr, IsErrAnd, is_ok}
 use Rattle.std.proofs.lemmas.List.{drop_more}
 use Rattle.std.proofs.lemmas.Result.{IfErr-weaker}

@@ -1,4 +1,4 @@
-use Rattle.std.proofs.Common.{◌≡◌, [], ◌∷◌, ℕ, List, inl, refl, subst, sym}
+use Rattle.std.proofs.Common.{◌≡◌, ◌∷◌, ℕ, List, inl, refl, subst, sym}
 use Rattle.staat_edge.specs.Readings.{whole_reading}
 use Rattle.staat_input.specs.Inputs.{SaysListingWithin}
 use Rattle.staat_input.specs.Work.{Follows}

@@ -1,13 +1,10 @@
-use Rattle.std.proofs.Common.{◌≡◌, ◌∙◌, ◌+◌, ℕ, Err, List, Ok, ap, inl, inr, length, map, refl, subst, Contains}
-use Rattle.std.specs.Prelude.{Result}
+use Rattle.std.proofs.Common.{◌∙◌, ◌+◌, ℕ, Err, List, Ok, ap, inl, inr, length, map, refl, subst, Contains}
 use Rattle.staat_edge.proofs.OpeningLemmas.{none_opened}
-use Rattle.staat_vec.specs.declared.vector.V3.{V3}
-use Rattle.staat_fault.specs.declared.fault.Fault.{Fault}
 use Rattle.staat_input.specs.Drawing.{Grows, solid_of}
 use Rattle.staat_input.specs.Inputs.{part_of}
 use Rattle.staat_input.specs.Moved.{IsMovedPieceOf}
 use Rattle.staat_input.specs.Taking.{TakesFiles}
-use Rattle.staat_input.specs.Work.{Each, Found}
+use Rattle.staat_input.specs.Work.{Each}
 use Rattle.staat_input.proofs.InputLemmas.{no_value, no_value_on}
 use Rattle.staat_input.proofs.TakingLemmas.{after_none, takes_fault, takes_memory, takes_pure}
 use Rattle.staat_input.proofs.input.read_part.Goals as goal

@@ -1,4 +1,4 @@
-use Rattle.std.proofs.Common.{◌≡◌, ◌∙◌, ◌+◌, Ok, refl, sym, subst, ap, arith, take, length, ℕ, List, []}
+use Rattle.std.proofs.Common.{◌+◌, refl, sym, subst, ap, arith, take, length, ℕ, List, []}
 use Rattle.std.specs.Prelude.{sum_by}
 use Rattle.std.proofs.lemmas.List.{take_all}
 use Rattle.staat_edge.specs.Opening.{OpensSome}

@@ -1,4 +1,4 @@
-use Rattle.std.proofs.Common.{◌≡◌, ◌+◌, [], ◌∷◌, arith, inl, refl, subst}
+use Rattle.std.proofs.Common.{◌+◌, [], ◌∷◌, arith, inl, refl, subst}
 use Rattle.std.specs.Prelude.{is_ok}
 use Rattle.staat_edge.proofs.OpeningLemmas.{all_some}
 use Rattle.staat_off.specs.declared.raw.Raw.{Raw}

@@ -1,4 +1,4 @@
-use Rattle.std.proofs.Common.{List, inl, refl, subst}
+use Rattle.std.proofs.Common.{List, subst}
 use Rattle.staat_model.specs.declared.assembly.Part.{Part}
 use Rattle.staat_input.specs.Work.{Follows}
 use Rattle.staat_input.specs.declared.limits.TheConstants.Limits.{PRODUCT}
