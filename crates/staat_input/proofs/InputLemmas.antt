@@ -54,20 +54,7 @@ pub follows_fault : {X Y : Type 0} (First : Found X → Type 0) (Whole : Found Y
 follows_fault First Whole fault.OutOfMemory both h = tt
 follows_fault First Whole f both h = both f h
 
-each_fault : {X Y : Type 0} (Step : X → Found Y → Type 0) (xs : List X) (i : ℕ) (done : List Y) (d : X) (f : Fault) → i < length xs → Continues Step xs i done → Follows (Step (get_or xs i d)) (Err f) → Follows (Each Step xs) (Err f)
-each_fault Step xs i done d f lt before h =
-    follows_fault (Step (get_or xs i d)) (Each Step xs) f (λ g at. before (Err g) (subst (λ zs. Each Step zs (Err g)) (sym (drop_more xs i d lt)) (inl (g, at, refl)))) h
-
--- the same of an answer with that fault
-pub each_failed : {X Y : Type 0} (Step : X → Found Y → Type 0) (xs : List X) (i : ℕ) (done : List Y) (x : X) (f : Fault) (r : Result (List Y) Fault) → i < length xs → x ≡ get_or xs i x → Continues Step xs i done → Follows (Step x) (Err f) → IsErrAnd r (λ e. e ≡ f) → Follows (Each Step xs) r
-each_failed Step xs i done x f (Ok ys) lt at before h fails = absurd fails
-each_failed Step xs i done x f (Err e) lt at before h fails =
-    subst (λ g. Follows (Each Step xs) (Err g)) (sym fails) (each_fault Step xs i done x f lt before (subst (λ y. Follows (Step y) (Err f)) at h))
-
 -- two steps as one
-pub then_fault : {X Y : Type 0} (First : Found X → Type 0) (Second : X → Found Y → Type 0) (f : Fault) → Follows First (Err f) → Follows (Then First Second) (Err f)
-then_fault First Second f h = follows_fault First (Then First Second) f (λ g at. inl (g, at, refl)) h
-
 pub then_given : {X Y : Type 0} (First : Found X → Type 0) (Second : X → Found Y → Type 0) (x : X) (r : Result Y Fault) → First (Ok x) → Follows (Second x) r → Follows (Then First Second) r
 then_given First Second x (Ok y) first second = inr (x, first, second)
 then_given First Second x (Err f) first second = follows_fault (Second x) (Then First Second) f (λ g at. inr (x, first, at)) second
@@ -75,30 +62,21 @@ then_given First Second x (Err f) first second = follows_fault (Second x) (Then 
 -- the answer with a fault of the first step
 pub then_failed : {X Y : Type 0} (First : Found X → Type 0) (Second : X → Found Y → Type 0) (f : Fault) (r : Result Y Fault) → Follows First (Err f) → IsErrAnd r (λ e. e ≡ f) → Follows (Then First Second) r
 then_failed First Second f (Ok y) h fails = absurd fails
-then_failed First Second f (Err e) h fails = subst (λ g. Follows (Then First Second) (Err g)) (sym fails) (then_fault First Second f h)
+then_failed First Second f (Err e) h fails = subst (λ g. Follows (Then First Second) (Err g)) (sym fails) (follows_fault First (Then First Second) f (λ g at. inl (g, at, refl)) h)
 
 -- ---- causes
 
 -- a shelf on which the count was lower before
 pub cause_from : (before mid after : ShelfTold) (f : Fault) → before.faults ≤ mid.faults → mid.holds ≡ before.holds → HasCause (over mid after) f → HasCause (over before after) f
-cause_from before mid after fault.Usage le same h = h
 cause_from before mid after (fault.ReadFault name) le same (inl lacks) = inl (subst (λ holds. Lacks holds name) same lacks)
 cause_from before mid after (fault.ReadFault name) le same (inr (rose, at)) = inr (rose_since before.faults mid.faults after.faults le rose, λ e. at (ap (λ holds. held_name holds name) same ∙ e))
 cause_from before mid after (fault.TooLong name) le same h = record { place = h.place; opened = h.opened ∙ ap (λ holds. told_name holds name) same }
-cause_from before mid after fault.WriteFault le same h = h
 cause_from before mid after f le same h = h
 
 -- what holds of a fault holds of the answer with it
 pub failed_with : {X : Type 0} (P : Fault → Type 0) (f : Fault) (r : Result X Fault) → P f → IsErrAnd r (λ e. e ≡ f) → IfErr r P
 failed_with P f (Ok x) h fails = absurd fails
 failed_with P f (Err e) h fails = subst P (sym fails) h
-
--- what is found of a fault is found of the answer with it
-pub follows_failed : {X Y : Type 0} (First : Found X → Type 0) (Whole : Found Y → Type 0) (f : Fault) (r : Result Y Fault) →
-    ((g : Fault) → First (Err g) → Whole (Err g)) → Follows First (Err f) → IsErrAnd r (λ e. e ≡ f) → Follows Whole r
-follows_failed First Whole f (Ok x) both h fails = absurd fails
-follows_failed First Whole f (Err e) both h fails =
-    subst (λ g. Follows Whole (Err g)) (sym fails) (follows_fault First Whole f both h)
 
 -- nothing is said of a value where there is a fault
 pub no_value : {X : Type 0} (P : X → Type 0) (Q : Fault → Type 0) (r : Result X Fault) → IsErrAnd r Q → IfOk r P

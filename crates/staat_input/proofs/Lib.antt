@@ -10,3 +10,4 @@ pub mod ReadLemmas
 pub mod SketchLemmas
 pub mod SoundLemmas
 pub mod SoundParts
+pub mod TakingLemmas

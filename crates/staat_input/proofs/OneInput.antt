@@ -41,32 +41,15 @@ use Rattle.staat_input.proofs.OneFinding.{given_not_fault}
 -- no refusal is a file that is to be read
 off_settled : (name : List ℕ) (r : OffRefusal) → IsSettled {X = List V3} (Err (off_fault name r))
 off_settled name off.NoHeader = tt
-off_settled name (off.BadNumber at) = tt
-off_settled name (off.NotWhole at) = tt
-off_settled name (off.TooBig at) = tt
-off_settled name (off.BadCount at) = tt
-off_settled name (off.BadIndex at) = tt
-off_settled name off.ShortFile = tt
-off_settled name (off.Trailing at) = tt
-off_settled name off.OutOfMemory = tt
+off_settled name r = tt
 
 mesh_settled : (name : List ℕ) (r : MeshRefusal) → IsSettled {X = List V3} (Err (mesh_fault name r))
-mesh_settled name (mesh_refusal.TooFewPoints n) = tt
-mesh_settled name (mesh_refusal.TooManyPoints n) = tt
 mesh_settled name mesh_refusal.Flat = tt
-mesh_settled name (mesh_refusal.BadFace f) = tt
-mesh_settled name (mesh_refusal.NotConvex f) = tt
-mesh_settled name (mesh_refusal.OpenEdge f k) = tt
-mesh_settled name mesh_refusal.OutOfMemory = tt
+mesh_settled name r = tt
 
 manifest_settled : (name : List ℕ) (r : ManifestRefusal) → IsSettled {X = List ListedPart} (Err (manifest_fault name r))
 manifest_settled name manifest.NotJson = tt
-manifest_settled name (manifest.BadShape path) = tt
-manifest_settled name (manifest.RepeatedName part) = tt
-manifest_settled name (manifest.NoPieces part) = tt
-manifest_settled name manifest.TooManyParts = tt
-manifest_settled name manifest.TooManyPieces = tt
-manifest_settled name manifest.OutOfMemory = tt
+manifest_settled name r = tt
 
 unlike : (r : MeshRefusal) (p : List V3) → Err r ≡ Ok p → ⊥
 unlike r p e = cc

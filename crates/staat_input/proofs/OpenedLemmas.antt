@@ -1,20 +1,18 @@
 -- The files that the work on an input opens.
-use Rattle.std.proofs.Common.{◌≡◌, ◌∙◌, ℕ, ◌+◌, ◌<◌, Bool, true, false, List, [], ◌∷◌, ◌++◌, map, take, drop, get_or, length, Result, Ok, Err, refl, sym, ap, subst, inl, inr, append-nil}
+use Rattle.std.proofs.Common.{◌≡◌, ◌∙◌, ℕ, ◌+◌, ◌<◌, Bool, true, false, List, [], ◌∷◌, ◌++◌, map, take, drop, get_or, length, Ok, Err, refl, sym, ap, subst, inl, inr, append-nil}
 use Rattle.std.proofs.lemmas.Grind.{flat_map-append}
 use Rattle.std.proofs.lemmas.List.{flat_map_more, take-append-drop, take_more}
-use Rattle.std.specs.Prelude.{IfOk, IsErrAnd, OnErr, is_ok}
 use Rattle.staat_edge.specs.Opening.{Opens, OpensAll, OpensFiles, OpensSome}
 use Rattle.staat_edge.specs.Readings.{FileReading, whole_reading}
 use Rattle.staat_edge.specs.Told.{ShelfTold}
-use Rattle.staat_edge.proofs.OpeningLemmas.{all_some, none_opened, opens_after, opens_some, some_of_more}
+use Rattle.staat_edge.proofs.OpeningLemmas.{all_some, none_opened, opens_some, some_of_more}
 use Rattle.staat_manifest.specs.declared.listing.ListedPart.{ListedPart}
 use Rattle.staat_words.specs.declared.request.Input.{Input}
 use Rattle.staat_words.specs.declared.request.Input.TheVariants as inputs
 use Rattle.staat_input.specs.declared.limits.Limits.{Limits}
-use Rattle.staat_fault.specs.declared.fault.Fault.{Fault}
 use Rattle.staat_input.specs.Inputs.{SaysListingWithin, alone, listing, no_listing}
-use Rattle.staat_input.specs.Work.{Follows}
-use Rattle.staat_input.specs.Opened.{OpensInput, OpensSomeOf, ReadsList, ReadsNames, piece_files}
+use Rattle.staat_input.specs.Work.{Follows, Found}
+use Rattle.staat_input.specs.Opened.{OpensInput, OpensNames, OpensSomeOf, ReadsNames, piece_files}
 
 -- where no file was opened, those that were are a beginning of any
 pub unopened : (limits : Limits) (source : Input) (more : List (List ℕ)) (before now : ShelfTold) → now.given ≡ before.given → OpensSomeOf limits source more before now
@@ -33,11 +31,6 @@ input_some limits ends (inputs.Manifest name) more before now (inr listed) =
       opens = opens_some ends (piece_files listed.parts ++ more) _ now.given listed.opens;
     })
 
--- where the work on the input came to no end, some of its files were opened
-pub input_refused : {X E : Type 0} (P : E → Type 0) (limits : Limits) (r : Result X E) (source : Input) (more : List (List ℕ)) (before now : ShelfTold) → IsErrAnd r P → OpensSomeOf limits source more before now → OpensInput limits (is_ok r) source more before now
-input_refused P limits (Ok x) source more before now wrong some = absurd wrong
-input_refused P limits (Err e) source more before now is some = some
-
 -- where each of these files was opened, that was so whether the work came to its end or not
 pub all_opened : (ends : Bool) (names : List (List ℕ)) (before now : List FileReading) → OpensAll names before now → Opens ends names before now
 all_opened true names before now all = all
@@ -50,10 +43,8 @@ input_opened limits false source more before now opens = input_some limits true 
 -- ---- loops over names
 
 -- one file more
-pub name_more : (names : List (List ℕ)) (i : ℕ) (name : List ℕ) (ends : Bool) (before mid now : List FileReading) → i < length names → name ≡ get_or names i name → OpensAll (take i names) before mid → Opens ends (name ∷ []) mid now → Opens ends (take (i + 1) names) before now
-name_more names i name ends before mid now lt at all one =
-    subst (λ (ns : List (List ℕ)). Opens ends ns before now) (ap (λ (n : List ℕ). take i names ++ n ∷ []) at ∙ sym (take_more names i name lt))
-    (opens_after ends (take i names) (name ∷ []) before mid now all one)
+pub name_next : (names : List (List ℕ)) (i : ℕ) (name : List ℕ) → i < length names → name ≡ get_or names i name → take i names ++ name ∷ [] ≡ take (i + 1) names
+name_next names i name lt at = ap (λ (n : List ℕ). take i names ++ n ∷ []) at ∙ sym (take_more names i name lt)
 
 -- some of the first names are some of all
 pub names_some : (names : List (List ℕ)) (i : ℕ) (before now : List FileReading) → OpensSome (take i names) before now → OpensSome names before now
@@ -61,10 +52,9 @@ names_some names i before now some =
     subst (λ (ns : List (List ℕ)). OpensSome ns before now) (take-append-drop i names) (some_of_more (take i names) (drop i names) before now some)
 
 -- the files of one part more
-pub part_more : (parts : List ListedPart) (i : ℕ) (part : ListedPart) (ends : Bool) (before mid now : List FileReading) → i < length parts → part ≡ get_or parts i part → OpensAll (piece_files (take i parts)) before mid → Opens ends part.pieces mid now → Opens ends (piece_files (take (i + 1) parts)) before now
-part_more parts i part ends before mid now lt at all one =
-    let same = ap (λ (p : ListedPart). piece_files (take i parts) ++ p.pieces) at ∙ flat_map_more (λ (p : ListedPart). p.pieces) [] (take i parts) (get_or parts i part) ∙ ap piece_files (sym (take_more parts i part lt)) in
-    subst (λ (ns : List (List ℕ)). Opens ends ns before now) same (opens_after ends (piece_files (take i parts)) part.pieces before mid now all one)
+pub part_next : (parts : List ListedPart) (i : ℕ) (part : ListedPart) → i < length parts → part ≡ get_or parts i part → piece_files (take i parts) ++ part.pieces ≡ piece_files (take (i + 1) parts)
+part_next parts i part lt at =
+    ap (λ (p : ListedPart). piece_files (take i parts) ++ p.pieces) at ∙ flat_map_more (λ (p : ListedPart). p.pieces) [] (take i parts) (get_or parts i part) ∙ ap piece_files (sym (take_more parts i part lt))
 
 -- some of the first parts' files are some of those of all
 pub parts_some : (parts : List ListedPart) (i : ℕ) (before now : List FileReading) → OpensSome (piece_files (take i parts)) before now → OpensSome (piece_files parts) before now
@@ -94,20 +84,10 @@ pieces_opened limits ends (inputs.Manifest name) parts before mid now read opens
           (subst (λ (ns : List (List ℕ)). Opens ends ns mid.given now.given) (sym (append-nil (piece_files parts))) opens);
     })
 
--- the bytes of the part list say which parts these are
-pub list_read : (limits : Limits) (name bytes : List ℕ) (r : Result (List ListedPart) Fault) (before now : ShelfTold) → Follows (SaysListingWithin limits name bytes) r → now.given ≡ whole_reading name bytes ∷ before.given → IfOk r (λ (parts : List ListedPart). ReadsList limits name parts before now)
-list_read limits name bytes (Err f) before now says gave = tt
-list_read limits name bytes (Ok parts) before now (no_listing refusal e f) gave = absurd cc
-list_read limits name bytes (Ok parts) before now (listing found e f) gave =
+-- the bytes of the part list say which parts these are; where it does not serve, it alone was opened
+pub list_read : (limits : Limits) (name bytes : List ℕ) (r : Found (List ListedPart)) (before now : ShelfTold) → Follows (SaysListingWithin limits name bytes) r → now.given ≡ whole_reading name bytes ∷ before.given → OpensFiles true (name ∷ []) before now → OpensNames limits (inputs.Manifest name) before now r
+list_read limits name bytes (Err f) before now says gave opens = inl (refl, all_some (name ∷ []) before.given now.given opens)
+list_read limits name bytes (Ok parts) before now (no_listing refusal e f) gave opens = absurd cc
+list_read limits name bytes (Ok parts) before now (listing found e f) gave opens =
     let same : parts ≡ found = cc in
     record { bytes = bytes; listed = e ∙ ap Ok (sym same); gave = gave }
-
--- where the part list did not serve, it alone was opened
-pub list_refused : {X E : Type 0} (limits : Limits) (r : Result X E) (source : Input) (name : List ℕ) (before now : ShelfTold) → source ≡ inputs.Manifest name → OpensFiles (is_ok r) (name ∷ []) before now → OnErr r (OpensSomeOf limits source [] before now)
-list_refused limits (Ok x) source name before now is opens = tt
-list_refused limits (Err e) source name before now is opens = subst (λ (s : Input). OpensSomeOf limits s [] before now) (sym is) (inl (refl, opens))
-
--- where no file was opened
-pub none_refused : {X E : Type 0} (limits : Limits) (r : Result X E) (source : Input) (told : ShelfTold) → OnErr r (OpensSomeOf limits source [] told told)
-none_refused limits (Ok x) source told = tt
-none_refused limits (Err e) source told = unopened limits source [] told told refl

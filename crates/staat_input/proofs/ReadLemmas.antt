@@ -60,25 +60,13 @@ not_taken Says told files name f fit e = not_taken_within FILE_LIMIT Says told f
 
 -- the file is no OFF file
 pub says_no_file : (digits : ℕ) (name bytes : List ℕ) (refusal : OffRefusal) → Reads {X = Raw} (Err refusal) (reading digits bytes) → Follows (SaysPiece digits name bytes) (Err (off_fault name refusal))
-says_no_file digits name bytes off.NoHeader e = no_file off.NoHeader e refl
-says_no_file digits name bytes (off.BadNumber at) e = no_file (off.BadNumber at) e refl
-says_no_file digits name bytes (off.NotWhole at) e = no_file (off.NotWhole at) e refl
-says_no_file digits name bytes (off.TooBig at) e = no_file (off.TooBig at) e refl
-says_no_file digits name bytes (off.BadCount at) e = no_file (off.BadCount at) e refl
-says_no_file digits name bytes (off.BadIndex at) e = no_file (off.BadIndex at) e refl
-says_no_file digits name bytes off.ShortFile e = no_file off.ShortFile e refl
-says_no_file digits name bytes (off.Trailing at) e = no_file (off.Trailing at) e refl
 says_no_file digits name bytes off.OutOfMemory e = tt
+says_no_file digits name bytes refusal e = no_file refusal e refl
 
 -- its mesh is no piece
 pub says_no_piece : (digits : ℕ) (name bytes : List ℕ) (raw : Raw) (refusal : MeshRefusal) → reading digits bytes ≡ Ok raw → AnswersMesh (mesh raw) (Err refusal) → Follows (SaysPiece digits name bytes) (Err (mesh_fault name refusal))
-says_no_piece digits name bytes raw (mesh_refusal.TooFewPoints n) e j = no_piece raw (mesh_refusal.TooFewPoints n) e j refl
-says_no_piece digits name bytes raw (mesh_refusal.TooManyPoints n) e j = no_piece raw (mesh_refusal.TooManyPoints n) e j refl
-says_no_piece digits name bytes raw mesh_refusal.Flat e j = no_piece raw mesh_refusal.Flat e j refl
-says_no_piece digits name bytes raw (mesh_refusal.BadFace f) e j = no_piece raw (mesh_refusal.BadFace f) e j refl
-says_no_piece digits name bytes raw (mesh_refusal.NotConvex f) e j = no_piece raw (mesh_refusal.NotConvex f) e j refl
-says_no_piece digits name bytes raw (mesh_refusal.OpenEdge f k) e j = no_piece raw (mesh_refusal.OpenEdge f k) e j refl
 says_no_piece digits name bytes raw mesh_refusal.OutOfMemory e j = tt
+says_no_piece digits name bytes raw refusal e j = no_piece raw refusal e j refl
 
 -- it is a piece
 pub says_piece : (digits : ℕ) (name bytes : List ℕ) (raw : Raw) (points : List V3) → reading digits bytes ≡ Ok raw → AnswersMesh (mesh raw) (Ok points) → SaysPiece digits name bytes (Ok points)
@@ -86,22 +74,17 @@ says_piece digits name bytes raw points e j = piece raw points e j refl
 
 -- the file is no part list
 pub says_no_listing : (l : Limits) (name bytes : List ℕ) (refusal : ManifestRefusal) → AnswersList {X = List ListedPart} (part_list_within l.parts l.pieces bytes) (Err refusal) → Follows (SaysListingWithin l name bytes) (Err (manifest_fault name refusal))
-says_no_listing l name bytes manifest.NotJson e = no_listing manifest.NotJson e refl
-says_no_listing l name bytes (manifest.BadShape path) e = no_listing (manifest.BadShape path) e refl
-says_no_listing l name bytes (manifest.RepeatedName part) e = no_listing (manifest.RepeatedName part) e refl
-says_no_listing l name bytes (manifest.NoPieces part) e = no_listing (manifest.NoPieces part) e refl
-says_no_listing l name bytes manifest.TooManyParts e = no_listing manifest.TooManyParts e refl
-says_no_listing l name bytes manifest.TooManyPieces e = no_listing manifest.TooManyPieces e refl
 says_no_listing l name bytes manifest.OutOfMemory e = tt
+says_no_listing l name bytes refusal e = no_listing refusal e refl
 
 -- it is one
 pub says_listing : (l : Limits) (name bytes : List ℕ) (parts : List ListedPart) → part_list_within l.parts l.pieces bytes ≡ Ok parts → SaysListingWithin l name bytes (Ok parts)
 says_listing l name bytes parts e = listing parts e refl
 
--- what is found of a fault is found of what was read with it
-pub drawn_failed : (Whole : Found (List V3) → Type 0) (f : Fault) (r : Result Drawn Fault) → Follows Whole (Err f) → IsErrAnd r (λ e. e ≡ f) → Follows Whole (piece_found r)
-drawn_failed Whole f (Ok x) h fails = absurd fails
-drawn_failed Whole f (Err e) h fails = subst (λ g. Follows Whole (Err g)) (sym fails) h
+-- what holds of a fault holds of what was read with it
+pub drawn_failed : (P : Found (List V3) → Type 0) (f : Fault) (r : Result Drawn Fault) → P (Err f) → IsErrAnd r (λ e. e ≡ f) → P (piece_found r)
+drawn_failed P f (Ok x) h fails = absurd fails
+drawn_failed P f (Err e) h fails = subst (λ g. P (Err g)) (sym fails) h
 
 -- what was read are the points and faces of the file
 pub raw_found : (digits : ℕ) (o : Option (List ℕ)) (bytes : List ℕ) (r : Result Drawn Fault) → o ≡ Some bytes → IfOk r (λ drawn. reading digits bytes ≡ Ok drawn.raw) → IfOk r (λ drawn. drawn.raw ≡ raw_in digits o)

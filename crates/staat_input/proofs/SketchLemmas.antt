@@ -1,5 +1,5 @@
 -- How sketches grow.
-use Rattle.std.proofs.Common.{◌≡◌, ◌∙◌, ℕ, zero, suc, ◌+◌, ◌<◌, ◌≤◌, ◌++◌, List, [], ◌∷◌, map, take, get_or, length, ap, sym, subst, arith, append_assoc, append-nil}
+use Rattle.std.proofs.Common.{◌≡◌, ◌∙◌, ℕ, zero, suc, ◌+◌, ◌<◌, ◌≤◌, ◌++◌, List, [], ◌∷◌, map, take, get_or, length, ap, sym, subst, arith, append_assoc, append-nil, refl}
 use Rattle.std.specs.Prelude.{sum_by}
 use Rattle.std.proofs.lemmas.List.{map_more, take_more}
 use Rattle.std.proofs.lemmas.List.Sums.{sum_by_push}
@@ -10,7 +10,9 @@ use Rattle.staat_explode.specs.declared.scene.Solid.{Solid}
 use Rattle.staat_explode.specs.Sizes.{IsSolidIn}
 use Rattle.staat_input.specs.declared.sketch.Sketch.{Sketch}
 use Rattle.staat_input.specs.Work.{Files}
-use Rattle.staat_input.specs.Drawing.{AreSmall, Drew, solids_from, solids_of_part}
+use Rattle.staat_edge.specs.Fitting.{Narrows}
+use Rattle.staat_edge.specs.Told.{ShelfTold}
+use Rattle.staat_input.specs.Drawing.{AreSmall, Drew, Grows, solids_from, solids_of_part}
 
 pub drew_then : (a b c : Sketch) (xs ys : List Solid) → Drew a b xs → Drew b c ys → Drew a c (xs ++ ys)
 drew_then a b c xs ys first second = record {
@@ -39,20 +41,39 @@ solids_more files digits part (n ∷ named) (suc i) d lt =
     ∙ ap (λ (zs : List Solid). solids_of_part files digits part n ++ zs) next
     ∙ sym (append_assoc (solids_of_part files digits part n) (solids_from files digits (part + 1) (take i named)) (solids_of_part files digits (part + suc i) (get_or named i d)))
 
--- ---- loops
+-- ---- sketches that grow
+
+pub grows_none : (W : Files → List Solid) (least : ℕ) (told : ShelfTold) (a : Sketch) → ((files : Files) → W files ≡ []) → Grows W least 0 told a a
+grows_none W least told a none = record {
+  drew = λ files fit. record { keep = refl; solids = λ on. sym (append-nil a.solids.items) ∙ ap (λ zs. a.solids.items ++ zs) (sym (none files)) };
+  small = λ parts most le h. small_more parts most (most + 0) a.solids.items (omega arith) h;
+}
+
+-- and grow on
+pub grows_more : {F G W : Files → List Solid} {least own m n : ℕ} {mid now : ShelfTold} {a b c : Sketch} (total : ℕ)
+    → Narrows mid now → own ≤ least → m + n ≡ total → ((files : Files) → F files ++ G files ≡ W files)
+    → Grows F least m mid a b → Grows G own n now b c → Grows W least total now a c
+grows_more {F} {G} {W} {least} {own} {m} {n} {mid} {now} {a} {b} {c} total back le count same first second = record {
+  drew = λ files fit. subst (Drew a c) (same files)
+      (drew_then a b c (F files) (G files) (first.drew files (back files fit)) (second.drew files fit));
+  small = λ parts most few h. subst (λ k. AreSmall parts k c.solids.items) (omega (arith, count))
+      (second.small parts (most + m) (omega (arith, le, few)) (first.small parts most few h));
+}
 
 -- the solid of one file more
-pub pieces_more : (f : List ℕ → Solid) (names : List (List ℕ)) (i : ℕ) (name : List ℕ) (a b c : Sketch) → i < length names → name ≡ get_or names i name → Drew a b (map f (take i names)) → Drew b c (f name ∷ []) → Drew a c (map f (take (i + 1) names))
-pieces_more f names i name a b c lt at first second =
-    subst (Drew a c) (sym (map_more f names i name lt))
-    (drew_then a b c (map f (take i names)) (f (get_or names i name) ∷ []) first (subst (λ (n : List ℕ). Drew b c (f n ∷ [])) at second))
+pub pieces_more : (f : List ℕ → Solid) (names : List (List ℕ)) (i : ℕ) (name : List ℕ) → i < length names → name ≡ get_or names i name
+    → map f (take i names) ++ f name ∷ [] ≡ map f (take (i + 1) names)
+pieces_more f names i name lt at =
+    ap (λ (n : List ℕ). map f (take i names) ++ f n ∷ []) at ∙ sym (map_more f names i name lt)
 
-pub parts_more : (files : Files) (digits : ℕ) (named : List ListedPart) (i : ℕ) (n : ListedPart) (a b c : Sketch) → i < length named → n ≡ get_or named i n → Drew a b (solids_from files digits 0 (take i named)) → Drew b c (solids_of_part files digits i n) → Drew a c (solids_from files digits 0 (take (i + 1) named))
-parts_more files digits named i n a b c lt at first second =
-    let number : 0 + i ≡ i = omega arith in
-    let more = solids_more files digits 0 named i n lt ∙ ap (λ k. solids_from files digits 0 (take i named) ++ solids_of_part files digits k (get_or named i n)) number in
-    subst (Drew a c) (sym more)
-    (drew_then a b c (solids_from files digits 0 (take i named)) (solids_of_part files digits i (get_or named i n)) first (subst (λ (m : ListedPart). Drew b c (solids_of_part files digits i m)) at second))
+pub parts_more : (files : Files) (digits : ℕ) (named : List ListedPart) (i number : ℕ) (n : ListedPart) → i < length named
+    → n ≡ get_or named i n → number ≡ i
+    → solids_from files digits 0 (take i named) ++ solids_of_part files digits number n ≡ solids_from files digits 0 (take (i + 1) named)
+parts_more files digits named i number n lt at is =
+    let place : number ≡ 0 + i = omega (arith, is) in
+    ap (λ k. solids_from files digits 0 (take i named) ++ solids_of_part files digits k n) place
+    ∙ ap (λ (m : ListedPart). solids_from files digits 0 (take i named) ++ solids_of_part files digits (0 + i) m) at
+    ∙ sym (solids_more files digits 0 named i n lt)
 
 abbrev piece_count : List ListedPart → ℕ
 piece_count named = sum_by (λ (n : ListedPart). length n.pieces) named

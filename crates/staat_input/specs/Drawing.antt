@@ -7,6 +7,8 @@ use Rattle.staat_off.specs.declared.refusal.OffRefusal.{OffRefusal}
 use Rattle.staat_off.specs.Raws.{IsCounted}
 use Rattle.staat_off.specs.Reading.{reading}
 use Rattle.staat_edge.specs.Files.{bytes_of}
+use Rattle.staat_edge.specs.Fitting.{Fit}
+use Rattle.staat_edge.specs.Told.{ShelfTold}
 use Rattle.staat_manifest.specs.declared.listing.ListedPart.{ListedPart}
 use Rattle.staat_words.specs.declared.request.Asked.{Asked}
 use Rattle.staat_explode.specs.declared.scene.Solid.{Solid}
@@ -76,3 +78,9 @@ pub record AreSmall (parts most : ℕ) (solids : List Solid) : Type 0 where
   pub placed : All (IsSolidIn parts) solids
   pub counted : All (λ s. IsCounted s.raw) solids
   pub few : length solids ≤ most
+
+-- The sketch grew by these solids, as the files have them that fit, and by so many at most; that many parts there are.
+pub record Grows (Adds : Files → List Solid) (least count : ℕ) (told : ShelfTold) (before after : Sketch) : Type 0 where
+  pub drew : (files : Files) → Fit told files → Drew before after (Adds files)
+  pub small : (parts most : ℕ) → least ≤ parts → AreSmall parts most before.solids.items →
+      AreSmall parts (most + count) after.solids.items

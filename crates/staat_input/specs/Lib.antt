@@ -9,4 +9,5 @@ pub mod Opened
 pub mod Pieces
 pub mod Refusals
 pub mod Shapes
+pub mod Taking
 pub mod Work

@@ -1,5 +1,5 @@
 -- Which files the work on an input opens, in which order.
-use Rattle.std.specs.Prelude.{◌≡◌, ◌⊎◌, ◌++◌, ℕ, Bool, false, List, [], ◌∷◌, map, flat_map, Ok}
+use Rattle.std.specs.Prelude.{◌≡◌, ◌⊎◌, ◌++◌, ℕ, Bool, false, List, [], ◌∷◌, map, flat_map, Ok, Err}
 use Rattle.staat_edge.specs.Opening.{Opens, OpensFiles, OpensSome}
 use Rattle.staat_edge.specs.Readings.{whole_reading}
 use Rattle.staat_edge.specs.Told.{ShelfTold}
@@ -9,6 +9,7 @@ use Rattle.staat_words.specs.declared.request.Input.{Input}
 use Rattle.staat_words.specs.declared.request.Input.TheVariants as input
 use Rattle.staat_input.specs.declared.limits.Limits.{Limits}
 use Rattle.staat_input.specs.Inputs.{alone}
+use Rattle.staat_input.specs.Work.{Found}
 
 -- the files of the pieces of these parts, in their order
 abbrev pub piece_files : List ListedPart → List (List ℕ)
@@ -45,3 +46,8 @@ pub record ReadsList (limits : Limits) (name : List ℕ) (parts : List ListedPar
 abbrev pub ReadsNames : Limits → Input → List ListedPart → ShelfTold → ShelfTold → Type 0
 ReadsNames limits (input.Files names) parts before now = (now.given ≡ before.given) × (parts ≡ map alone names)
 ReadsNames limits (input.Manifest name) parts before now = ReadsList limits name parts before now
+
+-- the same where there is an answer; where there is a fault, some of the input's files were opened
+abbrev pub OpensNames : Limits → Input → ShelfTold → ShelfTold → Found (List ListedPart) → Type 0
+OpensNames limits source before now (Ok parts) = ReadsNames limits source parts before now
+OpensNames limits source before now (Err fault) = OpensSomeOf limits source [] before now

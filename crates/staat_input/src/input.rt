@@ -1,24 +1,21 @@
 // The parts that an input names.
-ghost use Rattle.std.specs.Prelude.{◌≡◌, ◌≤◌, ◌<◌, ◌+◌, [], ◌∷◌, All, Contains, List, ℕ};
-ghost use Rattle.std.specs.Prelude.{IfOk, IfErr, OnErr, OnOk, length, map, sum_by};
-ghost use Rattle.std.specs.Prelude.{is_ok};
-ghost use Rattle.staat_edge.specs.Opening.{OpensFiles};
-ghost use Rattle.staat_input.specs.Opened.{OpensInput, OpensSomeOf, ReadsList, ReadsNames, piece_files};
-ghost use Rattle.staat_limits.specs.declared.limits.TheConstants.{MOST_DIGITS};
+ghost use Rattle.std.specs.Prelude.{◌≡◌, ◌≤◌, ◌+◌, [], All, Contains, List, ℕ};
+ghost use Rattle.std.specs.Prelude.{IfOk, IfErr, OnOk, is_ok, length, map, sum_by};
+ghost use Rattle.staat_input.specs.Opened.{OpensInput, OpensNames, piece_files};
+ghost use Rattle.staat_limits.specs.declared.limits.TheConstants.{MOST_DIGITS, MOST_PRODUCT_PARTS};
 ghost use Rattle.staat_vec.specs.Vectors.{IsWithin};
 ghost use Rattle.staat_model.specs.Pieces.{IsPiece};
 ghost use Rattle.staat_model.specs.Assemblies.{ArePartsWithin};
-ghost use Rattle.staat_limits.specs.declared.limits.TheConstants.{MOST_PRODUCT_PARTS};
 ghost use Rattle.staat_words.specs.Requests.{IsAskedWithin, IsInputWithin};
 ghost use Rattle.staat_edge.specs.Fitting.{Fit};
 ghost use Rattle.staat_input.specs.Work.{Each, Files, Follows, IsTaken};
-ghost use Rattle.staat_input.specs.Drawing.{AreSmall, Drew, IsDrawnWithin, solid_of};
-ghost use Rattle.staat_input.specs.Drawing.{solids_of, solids_of_part};
+ghost use Rattle.staat_input.specs.Drawing.{AreSmall, Grows, IsDrawnWithin, solid_of, solids_of, solids_of_part};
 ghost use Rattle.staat_input.specs.Moved.{IsMovedPieceOf};
-ghost use Rattle.staat_input.specs.Inputs.{alone, IsInputOfWithin, IsListingOfWithin, IsPartOf};
-ghost use Rattle.staat_input.specs.Inputs.{SaysListingWithin};
+ghost use Rattle.staat_input.specs.Inputs.{alone, IsInputOfWithin, IsListingOfWithin, IsPartOf, SaysListingWithin};
 ghost use Rattle.staat_input.specs.Shapes.{AreRead, IsFewWithin, ListsPiece};
-ghost use Rattle.staat_input.specs.Causes.{HasCause, IfTooLong, MayName, ShelfSide, over};
+ghost use Rattle.staat_input.specs.Causes.{HasCause, MayName, ShelfSide};
+ghost use Rattle.staat_input.specs.Taking.{Takes, TakesFiles};
+ghost use Rattle.staat_words.specs.declared.request.Input.TheVariants.{Manifest};
 
 use crate::limits::Limits;
 use crate::moved::read_moved;
@@ -77,15 +74,10 @@ fn read_list<H: Shelf>(
     name: &Name,
     limits: Limits,
 ) -> Result<Listing, Fault>
-    ensures holds { (H.told shelf.new).holds ≡ (H.told shelf.old).holds }
-    ensures count { (H.told shelf.old).faults ≤ (H.told shelf.new).faults }
-    ensures found { (files : Files) → Fit (H.told shelf.new) files → Follows (IsTaken files name.now
-        (SaysListingWithin limits name.now)) result }
-    ensures gave { IfOk result (λ listing.
-        ReadsList limits name.now listing (H.told shelf.old) (H.told shelf.new)) }
-    ensures opens { OpensFiles (is_ok result) (name.now ∷ []) (H.told shelf.old) (H.told shelf.new) }
+    ensures takes { Takes (λ files. IsTaken files name.now (SaysListingWithin limits name.now))
+        (OpensNames limits (Manifest name.now) (H.told shelf.old) (H.told shelf.new)) (MayName (Manifest name.now))
+        (H.told shelf.old) (H.told shelf.new) result }
     ensures few { IfOk result (IsFewWithin limits) }
-    ensures cause { IfErr result (HasCause (over (H.told shelf.old) (H.told shelf.new))) }
 {
     let bytes = read_file(alloc, shelf, name)?;
     listing_in(alloc, bytes.as_slice(), name, limits)
@@ -100,17 +92,10 @@ fn names_of<H: Shelf>(
 ) -> Result<Listing, Fault>
     requires input { IsInputWithin limits.parts input.now }
     requires room { limits.parts ≤ limits.pieces }
-    ensures holds { (H.told shelf.new).holds ≡ (H.told shelf.old).holds }
-    ensures count { (H.told shelf.old).faults ≤ (H.told shelf.new).faults }
-    ensures gave { IfOk result (λ listing.
-        ReadsNames limits input.now listing (H.told shelf.old) (H.told shelf.new)) }
-    ensures opens { OnErr result
-        (OpensSomeOf limits input.now [] (H.told shelf.old) (H.told shelf.new)) }
-    ensures found { (files : Files) → Fit (H.told shelf.new) files →
-        Follows (IsListingOfWithin limits files input.now) result }
+    ensures takes { Takes (λ files. IsListingOfWithin limits files input.now)
+        (OpensNames limits input.now (H.told shelf.old) (H.told shelf.new)) (MayName input.now)
+        (H.told shelf.old) (H.told shelf.new) result }
     ensures few { IfOk result (IsFewWithin limits) }
-    ensures cause { IfErr result (HasCause (over (H.told shelf.old) (H.told shelf.new))) }
-    ensures named { IfErr result (IfTooLong (MayName input.now)) }
     ensures names { IfOk result (λ listing.
         (name : List ℕ) → ListsPiece listing name → MayName input.now name) }
 {
@@ -142,19 +127,11 @@ fn read_pieces<H: Shelf>(
 ) -> Result<Pieces, Fault>
     requires digits { digits ≤ MOST_DIGITS }
     requires vector { IsWithin POINT at }
-    ensures holds { (H.told shelf.new).holds ≡ (H.told shelf.old).holds }
-    ensures count { (H.told shelf.old).faults ≤ (H.told shelf.new).faults }
-    ensures opens { OpensFiles (is_ok result) names.now (H.told shelf.old) (H.told shelf.new) }
-    ensures found { (files : Files) → Fit (H.told shelf.new) files →
-        Follows (Each (IsMovedPieceOf files digits at) names.now) result }
-    ensures pieces { IfOk result (All IsPiece) }
-    ensures each { IfOk result (λ pieces. length pieces ≡ length names.now) }
-    ensures drawn { (files : Files) → Fit (H.told shelf.new) files →
-        OnOk result (Drew sketch.old sketch.new (map (solid_of files digits part at) names.now)) }
-    ensures small { (parts most : ℕ) → part < parts → AreSmall parts most sketch.old.solids.items →
-        OnOk result (AreSmall parts (most + length names.now) sketch.new.solids.items) }
-    ensures cause { IfErr result (HasCause (over (H.told shelf.old) (H.told shelf.new))) }
-    ensures named { IfErr result (IfTooLong (Contains names.now)) }
+    ensures takes { TakesFiles (λ files. Each (IsMovedPieceOf files digits at) names.now) names.now
+        (Contains names.now) (H.told shelf.old) (H.told shelf.new) result }
+    ensures pieces { IfOk result (λ pieces. All IsPiece pieces × (length pieces ≡ length names.now)) }
+    ensures grows { OnOk result (Grows (λ files. map (solid_of files digits part at) names.now) (part + 1)
+        (length names.now) (H.told shelf.new) sketch.old sketch.new) }
 {
     let mut pieces = Vec::with_capacity(alloc, names.len())?;
     for name in names {
@@ -176,19 +153,12 @@ fn read_part<H: Shelf>(
 ) -> Result<Part, Fault>
     requires digits { digits ≤ MOST_DIGITS }
     requires vector { IsWithin POINT named.now.at }
-    ensures holds { (H.told shelf.new).holds ≡ (H.told shelf.old).holds }
-    ensures count { (H.told shelf.old).faults ≤ (H.told shelf.new).faults }
-    ensures opens { OpensFiles (is_ok result) named.now.pieces (H.told shelf.old) (H.told shelf.new) }
-    ensures found { (files : Files) → Fit (H.told shelf.new) files →
-        Follows (IsPartOf files digits named.now) result }
-    ensures pieces { IfOk result (λ part. All IsPiece part.pieces) }
-    ensures each { IfOk result (λ part. length part.pieces ≡ length named.now.pieces) }
-    ensures drawn { (files : Files) → Fit (H.told shelf.new) files →
-        OnOk result (Drew sketch.old sketch.new (solids_of_part files digits part named.now)) }
-    ensures small { (parts most : ℕ) → part < parts → AreSmall parts most sketch.old.solids.items →
-        OnOk result (AreSmall parts (most + length named.now.pieces) sketch.new.solids.items) }
-    ensures cause { IfErr result (HasCause (over (H.told shelf.old) (H.told shelf.new))) }
-    ensures named { IfErr result (IfTooLong (Contains named.now.pieces)) }
+    ensures takes { TakesFiles (λ files. IsPartOf files digits named.now) named.now.pieces
+        (Contains named.now.pieces) (H.told shelf.old) (H.told shelf.new) result }
+    ensures pieces { IfOk result (λ part.
+        All IsPiece part.pieces × (length part.pieces ≡ length named.now.pieces)) }
+    ensures grows { OnOk result (Grows (λ files. solids_of_part files digits part named.now) (part + 1)
+        (length named.now.pieces) (H.told shelf.new) sketch.old sketch.new) }
 {
     let name = named.name.copied(alloc)?;
     let names = named.pieces.as_slice();
@@ -207,19 +177,11 @@ fn read_parts<H: Shelf>(
     requires digits { digits ≤ MOST_DIGITS }
     requires few { length listing.now ≤ MOST_PRODUCT_PARTS }
     requires placed { All (λ part. IsWithin POINT part.at) listing.now }
-    ensures holds { (H.told shelf.new).holds ≡ (H.told shelf.old).holds }
-    ensures count { (H.told shelf.old).faults ≤ (H.told shelf.new).faults }
-    ensures opens { OpensFiles (is_ok result) (piece_files listing.now) (H.told shelf.old) (H.told shelf.new) }
-    ensures found { (files : Files) → Fit (H.told shelf.new) files →
-        Follows (Each (IsPartOf files digits) listing.now) result }
+    ensures takes { TakesFiles (λ files. Each (IsPartOf files digits) listing.now) (piece_files listing.now)
+        (ListsPiece listing.now) (H.told shelf.old) (H.told shelf.new) result }
     ensures read { IfOk result (AreRead listing.now) }
-    ensures drawn { (files : Files) → Fit (H.told shelf.new) files →
-        OnOk result (Drew sketch.old sketch.new (solids_of files digits listing.now)) }
-    ensures small { (parts most : ℕ) → length listing.now ≤ parts →
-        AreSmall parts most sketch.old.solids.items → OnOk result (AreSmall parts (most +
-        sum_by (λ part. length part.pieces) listing.now) sketch.new.solids.items) }
-    ensures cause { IfErr result (HasCause (over (H.told shelf.old) (H.told shelf.new))) }
-    ensures named { IfErr result (IfTooLong (ListsPiece listing.now)) }
+    ensures grows { OnOk result (Grows (λ files. solids_of files digits listing.now) (length listing.now)
+        (sum_by (λ part. length part.pieces) listing.now) (H.told shelf.new) sketch.old sketch.new) }
 {
     let mut parts = Vec::with_capacity(alloc, listing.len())?;
     let mut number = 0;
@@ -243,19 +205,14 @@ pub fn read_within<H: Shelf>(
     requires asked { IsAskedWithin limits.parts asked.now }
     requires room { limits.parts ≤ limits.pieces }
     requires most { limits.parts ≤ MOST_PRODUCT_PARTS }
-    ensures holds { (H.told shelf.new).holds ≡ (H.told shelf.old).holds }
-    ensures count { (H.told shelf.old).faults ≤ (H.told shelf.new).faults }
-    ensures opens { OpensInput limits (is_ok result) asked.now.input [] (H.told shelf.old)
-        (H.told shelf.new) }
-    ensures found { (files : Files) → Fit (H.told shelf.new) files →
-        Follows (IsInputOfWithin limits files asked.now) result }
+    ensures takes { Takes (λ files. IsInputOfWithin limits files asked.now)
+        (λ found. OpensInput limits (is_ok found) asked.now.input [] (H.told shelf.old) (H.told shelf.new))
+        (MayName asked.now.input) (H.told shelf.old) (H.told shelf.new) result }
     ensures few { IfOk result (ArePartsWithin limits.parts limits.pieces) }
     ensures drawn { (files : Files) → Fit (H.told shelf.new) files → sketch.old.solids.items ≡ [] →
         OnOk result (IsDrawnWithin limits files asked.now sketch.old.keep sketch.new) }
     ensures small { sketch.old.solids.items ≡ [] →
         IfOk result (λ parts. AreSmall (length parts) limits.pieces sketch.new.solids.items) }
-    ensures cause { IfErr result (HasCause (over (H.told shelf.old) (H.told shelf.new))) }
-    ensures named { IfErr result (IfTooLong (MayName asked.now.input)) }
 {
     let listing = names_of(alloc, shelf, &asked.input, limits)?;
     read_parts(alloc, asked.digits, shelf, listing.as_slice(), sketch)

@@ -1,14 +1,12 @@
 // The pieces of a part, each read from its file and moved as the part is.
-ghost use Rattle.std.specs.Prelude.{◌≡◌, ◌≤◌, ◌<◌, ◌+◌, [], ◌∷◌, ℕ, IfErr, OnOk};
-ghost use Rattle.std.specs.Prelude.{is_ok};
-ghost use Rattle.staat_edge.specs.Opening.{OpensFiles};
+ghost use Rattle.std.specs.Prelude.{◌≡◌, ◌≤◌, ◌+◌, [], ◌∷◌, IfErr, OnOk};
 ghost use Rattle.staat_limits.specs.declared.limits.TheConstants.{MOST_DIGITS};
 ghost use Rattle.staat_vec.specs.Vectors.{IsWithin};
-ghost use Rattle.staat_edge.specs.Fitting.{Fit};
-ghost use Rattle.staat_input.specs.Work.{Files, Follows};
-ghost use Rattle.staat_input.specs.Drawing.{AreSmall, Drew, solid_of};
+ghost use Rattle.staat_input.specs.Work.{Follows};
+ghost use Rattle.staat_input.specs.Drawing.{Grows, solid_of};
 ghost use Rattle.staat_input.specs.Moved.{IsMovedPieceOf, MovesPiece};
-ghost use Rattle.staat_input.specs.Causes.{HasCause, IfTooLong, ShelfSide, over};
+ghost use Rattle.staat_input.specs.Causes.{HasCause, ShelfSide};
+ghost use Rattle.staat_input.specs.Taking.{TakesFiles};
 
 use crate::read::{Drawn, read_drawn};
 use crate::sketch::Sketch;
@@ -47,17 +45,10 @@ pub fn read_moved<H: Shelf>(
 ) -> Result<Piece, Fault>
     requires digits { digits ≤ MOST_DIGITS }
     requires vector { IsWithin POINT at }
-    ensures holds { (H.told shelf.new).holds ≡ (H.told shelf.old).holds }
-    ensures count { (H.told shelf.old).faults ≤ (H.told shelf.new).faults }
-    ensures opens { OpensFiles (is_ok result) (name.now ∷ []) (H.told shelf.old) (H.told shelf.new) }
-    ensures found { (files : Files) → Fit (H.told shelf.new) files
-        → Follows (IsMovedPieceOf files digits at name.now) result }
-    ensures drawn { (files : Files) → Fit (H.told shelf.new) files →
-        OnOk result (Drew sketch.old sketch.new (solid_of files digits part at name.now ∷ [])) }
-    ensures small { (parts most : ℕ) → part < parts → AreSmall parts most sketch.old.solids.items →
-        OnOk result (AreSmall parts (most + 1) sketch.new.solids.items) }
-    ensures cause { IfErr result (HasCause (over (H.told shelf.old) (H.told shelf.new))) }
-    ensures named { IfErr result (IfTooLong (λ long. long ≡ name.now)) }
+    ensures takes { TakesFiles (λ files. IsMovedPieceOf files digits at name.now) (name.now ∷ [])
+        (λ long. long ≡ name.now) (H.told shelf.old) (H.told shelf.new) result }
+    ensures grows { OnOk result (Grows (λ files. solid_of files digits part at name.now ∷ []) (part + 1) 1
+        (H.told shelf.new) sketch.old sketch.new) }
 {
     let Drawn { raw, piece } = read_drawn(alloc, digits, shelf, name)?;
     sketch.add(part, at, raw)?;

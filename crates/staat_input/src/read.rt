@@ -11,6 +11,7 @@ ghost use Rattle.staat_edge.specs.Opening.{OpensFiles};
 ghost use Rattle.staat_edge.specs.Readings.{whole_reading};
 ghost use Rattle.staat_input.specs.Drawing.{piece_found, raw_in};
 ghost use Rattle.staat_input.specs.Pieces.{IsPieceOf, SaysPiece};
+ghost use Rattle.staat_input.specs.Taking.{IsAfter, TakesFiles};
 ghost use Rattle.staat_input.specs.Causes.{HasCause, IfTooLong, ShelfSide, over};
 
 use crate::refusals::{mesh_fault, off_fault, read_fault};
@@ -25,8 +26,7 @@ use std::alloc::Global;
 
 /// The bytes of a whole file.
 pub fn read_file<H: Shelf>(alloc: Global, shelf: &mut H, name: &Name) -> Result<Bytes, Fault>
-    ensures holds { (H.told shelf.new).holds ≡ (H.told shelf.old).holds }
-    ensures count { (H.told shelf.old).faults ≤ (H.told shelf.new).faults }
+    ensures after { IsAfter (H.told shelf.old) (H.told shelf.new) }
     ensures gave { IfOk result (λ bytes.
         (H.told shelf.new).given ≡ whole_reading name.now bytes ∷ (H.told shelf.old).given) }
     ensures opens { OpensFiles (is_ok result) (name.now ∷ []) (H.told shelf.old) (H.told shelf.new) }
@@ -56,7 +56,7 @@ fn drawn_in(alloc: Global, digits: u32, bytes: &[u8], name: &Name) -> Result<Dra
     ensures raw { IfOk result (λ drawn. reading digits bytes.now ≡ Ok drawn.raw) }
     ensures indexed { IfOk result (λ drawn. IsIndexed drawn.raw) }
     ensures counted { IfOk result (λ drawn. IsCounted drawn.raw) }
-    ensures cause { (shelf : ShelfSide) → IfErr result (HasCause shelf) }
+    ensures cause { (shelf : ShelfSide) → IfErr (piece_found result) (HasCause shelf) }
 {
     let raw = match read_off(alloc, bytes, digits) {
         Ok(raw) => raw,
@@ -77,17 +77,12 @@ pub fn read_drawn<H: Shelf>(
     name: &Name,
 ) -> Result<Drawn, Fault>
     requires { digits ≤ MOST_DIGITS }
-    ensures holds { (H.told shelf.new).holds ≡ (H.told shelf.old).holds }
-    ensures count { (H.told shelf.old).faults ≤ (H.told shelf.new).faults }
-    ensures opens { OpensFiles (is_ok result) (name.now ∷ []) (H.told shelf.old) (H.told shelf.new) }
-    ensures found { (files : Files) → Fit (H.told shelf.new) files →
-        Follows (IsPieceOf files digits name.now) (piece_found result) }
+    ensures takes { TakesFiles (λ files. IsPieceOf files digits name.now) (name.now ∷ [])
+        (λ long. long ≡ name.now) (H.told shelf.old) (H.told shelf.new) (piece_found result) }
     ensures raw { (files : Files) → Fit (H.told shelf.new) files →
         IfOk result (λ drawn. drawn.raw ≡ raw_in digits (bytes_of name.now files)) }
     ensures indexed { IfOk result (λ drawn. IsIndexed drawn.raw) }
     ensures counted { IfOk result (λ drawn. IsCounted drawn.raw) }
-    ensures cause { IfErr result (HasCause (over (H.told shelf.old) (H.told shelf.new))) }
-    ensures named { IfErr result (IfTooLong (λ long. long ≡ name.now)) }
 {
     let bytes = read_file(alloc, shelf, name)?;
     drawn_in(alloc, digits, bytes.as_slice(), name)

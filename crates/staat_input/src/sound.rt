@@ -37,7 +37,6 @@ pub fn tested(alloc: Global, assembly: Assembly) -> Result<Sound, Fault>
 
 /// The sound assembly that an input gives. The whole input is read first; then the first two pieces of different
 /// parts that overlap are the refusal. The files are kept for a drawing, if there is one.
-#[tactic(auto, using(crate::proofs::CauseLemmas::naming))]
 pub fn read_sketched<H: Shelf>(
     alloc: Global,
     shelf: &mut H,
@@ -96,7 +95,6 @@ fn tested_product(alloc: Global, product: Product) -> Result<SoundProduct, Fault
 /// The product has up to [`MOST_PRODUCT_PARTS`](staat_limits::MOST_PRODUCT_PARTS) parts and
 /// [`MOST_PRODUCT_PIECES`](staat_limits::MOST_PRODUCT_PIECES) pieces; a part list with more is refused as
 /// `TooManyParts` or `TooManyPieces`.
-#[tactic(auto, using(crate::proofs::CauseLemmas::naming))]
 pub fn read_product<H: Shelf>(
     alloc: Global,
     shelf: &mut H,

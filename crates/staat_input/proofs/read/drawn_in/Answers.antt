@@ -1,4 +1,5 @@
 use Rattle.std.proofs.Common.{◌∙◌, List, ℕ, ap, subst, sym, Err}
+use Rattle.std.specs.Prelude.{IfErr}
 use Rattle.staat_fault.specs.declared.fault.Fault.TheVariants as fault
 use Rattle.staat_mesh.specs.declared.refusal.MeshRefusal.{MeshRefusal}
 use Rattle.staat_mesh.specs.declared.refusal.MeshRefusal.TheVariants as mesh
@@ -8,40 +9,28 @@ use Rattle.staat_input.specs.Causes.{HasCause, ShelfSide}
 use Rattle.staat_input.specs.Pieces.{SaysPiece}
 use Rattle.staat_input.specs.Refusals.{mesh_fault, off_fault}
 use Rattle.staat_input.specs.Work.{Follows}
-use Rattle.staat_input.proofs.InputLemmas.{failed_with, no_value}
+use Rattle.staat_input.proofs.InputLemmas.{no_value}
 use Rattle.staat_input.proofs.ReadLemmas.{drawn_failed, says_no_file, says_no_piece, says_piece}
 use Rattle.staat_input.proofs.read.drawn_in.Goals as goal
 
 off_cause : (shelf : ShelfSide) (name : List ℕ) (refusal : OffRefusal) → HasCause shelf (off_fault name refusal)
 off_cause shelf name off.NoHeader = tt
-off_cause shelf name (off.BadNumber at) = tt
-off_cause shelf name (off.NotWhole at) = tt
-off_cause shelf name (off.TooBig at) = tt
-off_cause shelf name (off.BadCount at) = tt
-off_cause shelf name (off.BadIndex at) = tt
-off_cause shelf name off.ShortFile = tt
-off_cause shelf name (off.Trailing at) = tt
-off_cause shelf name off.OutOfMemory = tt
+off_cause shelf name refusal = tt
 
 mesh_cause : (shelf : ShelfSide) (name : List ℕ) (refusal : MeshRefusal) → HasCause shelf (mesh_fault name refusal)
-mesh_cause shelf name (mesh.TooFewPoints n) = tt
-mesh_cause shelf name (mesh.TooManyPoints n) = tt
 mesh_cause shelf name mesh.Flat = tt
-mesh_cause shelf name (mesh.BadFace f) = tt
-mesh_cause shelf name (mesh.NotConvex f) = tt
-mesh_cause shelf name (mesh.OpenEdge f k) = tt
-mesh_cause shelf name mesh.OutOfMemory = tt
+mesh_cause shelf name refusal = tt
 
 pub returns-in_err-copied-in-Err : goal.returns-in_err-copied-in-Err
 returns-in_err-copied-in-Err c =
     let found = c.from_residual.result in
     let is = c.from_residual.ensures.1 in
     record {
-      says = drawn_failed (SaysPiece c.args.digits c.args.name.now c.args.bytes.now) fault.OutOfMemory found tt is;
+      says = drawn_failed (Follows (SaysPiece c.args.digits c.args.name.now c.args.bytes.now)) fault.OutOfMemory found tt is;
       raw = no_value _ _ found is;
       indexed = no_value _ _ found is;
       counted = no_value _ _ found is;
-      cause = λ shelf. failed_with (HasCause shelf) fault.OutOfMemory found tt is;
+      cause = λ shelf. drawn_failed (λ r. IfErr r (HasCause shelf)) fault.OutOfMemory found tt is;
     }
 
 pub returns-in-Err : goal.returns-in-Err
@@ -86,9 +75,9 @@ returns-in_err-copied-in-Err-make_piece c =
     let found = c.from_residual-in_err-copied-in-Err-make_piece.result in
     let is = c.from_residual-in_err-copied-in-Err-make_piece.ensures.1 in
     record {
-      says = drawn_failed (SaysPiece c.args.digits c.args.name.now c.args.bytes.now) fault.OutOfMemory found tt is;
+      says = drawn_failed (Follows (SaysPiece c.args.digits c.args.name.now c.args.bytes.now)) fault.OutOfMemory found tt is;
       raw = no_value _ _ found is;
       indexed = no_value _ _ found is;
       counted = no_value _ _ found is;
-      cause = λ shelf. failed_with (HasCause shelf) fault.OutOfMemory found tt is;
+      cause = λ shelf. drawn_failed (λ r. IfErr r (HasCause shelf)) fault.OutOfMemory found tt is;
     }

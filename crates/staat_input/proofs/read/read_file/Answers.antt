@@ -23,8 +23,7 @@ returns-in-Ok g c =
     let now = g.H.Shelf.told c.read_whole.new.shelf in
     let bytes = c.in-Ok.bytes in
     record {
-      holds = c.read_whole.ensures.holds;
-      count = c.read_whole.ensures.count;
+      after = record { holds = c.read_whole.ensures.holds; count = c.read_whole.ensures.count };
       gave = subst (λ name. now.given ≡ whole_reading name bytes ∷ before.given) c.as_str.ensures c.in-Ok.ensures.gave;
       opens = subst (λ name. OpensFiles true (name ∷ []) before now) c.as_str.ensures c.in-Ok.ensures.opens;
       whole = subst (λ name. IsWhole now name bytes) c.as_str.ensures c.in-Ok.ensures.content;
@@ -64,8 +63,7 @@ returns-in_ok-copied-in-Err g c =
     let read = c.read_whole.ensures in
     let is = c.read_fault.ensures ∙ ap (λ (n : List ℕ). read_fault n refusal) c.in_ok-copied-in-Err.ensures in
     record {
-      holds = read.holds;
-      count = read.count;
+      after = record { holds = read.holds; count = read.count };
       gave = tt;
       opens = subst (λ name. OpensFiles false (name ∷ []) before now) c.as_str.ensures c.in-Err.ensures.opens;
       whole = tt;
@@ -86,8 +84,7 @@ returns-in_err-copied-in-Err g c =
     let found = c.from_residual.result in
     let is = c.from_residual.ensures.1 in
     record {
-      holds = c.read_whole.ensures.holds;
-      count = c.read_whole.ensures.count;
+      after = record { holds = c.read_whole.ensures.holds; count = c.read_whole.ensures.count };
       gave = no_value _ _ found is;
       opens = refused _ found _ _ _ is
           (subst (λ name. OpensFiles false (name ∷ []) before now) c.as_str.ensures c.in-Err.ensures.opens);
