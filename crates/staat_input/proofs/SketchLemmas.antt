@@ -12,7 +12,7 @@ use Rattle.staat_input.specs.declared.sketch.Sketch.{Sketch}
 use Rattle.staat_input.specs.Work.{Files}
 use Rattle.staat_edge.specs.Fitting.{Narrows}
 use Rattle.staat_edge.specs.Told.{ShelfTold}
-use Rattle.staat_input.specs.Drawing.{AreSmall, Drew, Grows, solids_from, solids_of_part}
+use Rattle.staat_input.specs.Drawing.{AreSmall, Drew, SketchGrows, solids_from, solids_of_part}
 
 pub drew_then : (a b c : Sketch) (xs ys : List Solid) → Drew a b xs → Drew b c ys → Drew a c (xs ++ ys)
 drew_then a b c xs ys first second = record {
@@ -43,7 +43,7 @@ solids_more files digits part (n ∷ named) (suc i) d lt =
 
 -- ---- sketches that grow
 
-pub grows_none : (W : Files → List Solid) (least : ℕ) (told : ShelfTold) (a : Sketch) → ((files : Files) → W files ≡ []) → Grows W least 0 told a a
+pub grows_none : (W : Files → List Solid) (least : ℕ) (told : ShelfTold) (a : Sketch) → ((files : Files) → W files ≡ []) → SketchGrows W least 0 told a a
 grows_none W least told a none = record {
   drew = λ files fit. record { keep = refl; solids = λ on. sym (append-nil a.solids.items) ∙ ap (λ zs. a.solids.items ++ zs) (sym (none files)) };
   small = λ parts most le h. small_more parts most (most + 0) a.solids.items (omega arith) h;
@@ -52,7 +52,7 @@ grows_none W least told a none = record {
 -- and grow on
 pub grows_more : {F G W : Files → List Solid} {least own m n : ℕ} {mid now : ShelfTold} {a b c : Sketch} (total : ℕ)
     → Narrows mid now → own ≤ least → m + n ≡ total → ((files : Files) → F files ++ G files ≡ W files)
-    → Grows F least m mid a b → Grows G own n now b c → Grows W least total now a c
+    → SketchGrows F least m mid a b → SketchGrows G own n now b c → SketchGrows W least total now a c
 grows_more {F} {G} {W} {least} {own} {m} {n} {mid} {now} {a} {b} {c} total back le count same first second = record {
   drew = λ files fit. subst (Drew a c) (same files)
       (drew_then a b c (F files) (G files) (first.drew files (back files fit)) (second.drew files fit));

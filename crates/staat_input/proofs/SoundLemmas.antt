@@ -13,7 +13,7 @@ use Rattle.staat_input.specs.declared.limits.Limits.{Limits}
 use Rattle.staat_input.specs.Causes.{HasCause, MayName, ShelfSide}
 use Rattle.staat_input.specs.Inputs.{IsInputOfWithin}
 use Rattle.staat_input.specs.Opened.{OpensInput}
-use Rattle.staat_input.specs.Taking.{Takes}
+use Rattle.staat_input.specs.Taking.{TakesStep}
 use Rattle.staat_input.specs.Work.{Follows, Found, Then}
 use Rattle.staat_input.proofs.InputLemmas.{then_given}
 use Rattle.staat_input.proofs.OpenedLemmas.{input_opened}
@@ -31,13 +31,13 @@ tested_overlap parts r asm.OutOfMemory e first = tt
 -- the reading of the whole input
 abbrev Reads : Limits → Asked → ShelfTold → ShelfTold → Found (List Part) → Type 0
 Reads limits asked before now result =
-    Takes (λ files. IsInputOfWithin limits files asked) (λ found. OpensInput limits (is_ok found) asked.input [] before now)
+    TakesStep (λ files. IsInputOfWithin limits files asked) (λ found. OpensInput limits (is_ok found) asked.input [] before now)
     (MayName asked.input) before now result
 
 -- and the test after it
 abbrev Tests : Limits → Asked → ShelfTold → ShelfTold → Found (List Part) → Type 0
 Tests limits asked before now result =
-    Takes (λ files. Then (IsInputOfWithin limits files asked) IsTested)
+    TakesStep (λ files. Then (IsInputOfWithin limits files asked) IsTested)
     (λ found. OpensInput limits (is_ok found) asked.input [] before now) (MayName asked.input) before now result
 
 pub failed_read : (limits : Limits) (asked : Asked) {before now : ShelfTold} {f : Fault} (r : Found (List Part))

@@ -10,16 +10,16 @@ use Rattle.staat_edge.proofs.OpeningLemmas.{all_some, narrowed, opens_after}
 use Rattle.staat_fault.specs.declared.fault.Fault.{Fault}
 use Rattle.staat_fault.specs.declared.fault.Fault.TheVariants as fault
 use Rattle.staat_input.specs.Causes.{HasCause, IfTooLong, ShelfSide, over}
-use Rattle.staat_input.specs.Taking.{IsAfter, Takes, TakesFiles}
+use Rattle.staat_input.specs.Taking.{IsLaterShelf, TakesStep, TakesFiles}
 use Rattle.staat_input.specs.Work.{Each, Files, Follows, Found, IsNotTaken, IsTaken}
 use Rattle.staat_input.proofs.CauseLemmas.{never_long}
 use Rattle.staat_input.proofs.ReadLemmas.{not_taken}
 use Rattle.staat_input.proofs.InputLemmas.{Continues, cause_from, each_end, each_more, follows_fault}
 
-pub after_none : (told : ShelfTold) → IsAfter told told
+pub after_none : (told : ShelfTold) → IsLaterShelf told told
 after_none told = record { holds = refl; count = omega arith }
 
-pub after_twice : (before mid now : ShelfTold) → IsAfter before mid → IsAfter mid now → IsAfter before now
+pub after_twice : (before mid now : ShelfTold) → IsLaterShelf before mid → IsLaterShelf mid now → IsLaterShelf before now
 after_twice before mid now first second =
     record { holds = second.holds ∙ first.holds; count = omega (arith, first.count, second.count) }
 
@@ -35,15 +35,15 @@ long_wider P Q f wider h = tt
 module _ {Y : Type 0} {Whole : Files → Found Y → Type 0} {All : Found Y → Type 0} {Q : List ℕ → Type 0}
     {before now : ShelfTold} {r : Found Y} where
   -- the work came to this answer without the shelf
-  pub takes_pure : IsAfter before now → ((files : Files) → Fit now files → Follows (Whole files) r) → All r
-      → ((shelf : ShelfSide) → IfErr r (HasCause shelf)) → Takes Whole All Q before now r
+  pub takes_pure : IsLaterShelf before now → ((files : Files) → Fit now files → Follows (Whole files) r) → All r
+      → ((shelf : ShelfSide) → IfErr r (HasCause shelf)) → TakesStep Whole All Q before now r
   takes_pure after found opened cause =
       record { after = after; found = found; opened = opened; cause = cause (over before now); named = never_long Q r cause }
 
   -- there was no memory
-  pub takes_memory : IsAfter before now → ((g : Fault) → All (Err g)) → IsErrAnd r (λ e. e ≡ fault.OutOfMemory)
-      → Takes Whole All Q before now r
-  takes_memory after opened is = failed (Takes Whole All Q before now) fault.OutOfMemory r (record {
+  pub takes_memory : IsLaterShelf before now → ((g : Fault) → All (Err g)) → IsErrAnd r (λ e. e ≡ fault.OutOfMemory)
+      → TakesStep Whole All Q before now r
+  takes_memory after opened is = failed (TakesStep Whole All Q before now) fault.OutOfMemory r (record {
     after = after;
     found = λ files fit. tt;
     opened = opened fault.OutOfMemory;
@@ -53,9 +53,9 @@ module _ {Y : Type 0} {Whole : Files → Found Y → Type 0} {All : Found Y → 
 
   -- the rest of the work, after other work
   pub takes_later : {Rest : Files → Found Y → Type 0} {Opened : Found Y → Type 0} {P : List ℕ → Type 0} {mid : ShelfTold}
-      → IsAfter before mid → Takes Rest Opened P mid now r
+      → IsLaterShelf before mid → TakesStep Rest Opened P mid now r
       → ((files : Files) → Fit now files → Follows (Rest files) r → Follows (Whole files) r) → All r
-      → ((name : List ℕ) → P name → Q name) → Takes Whole All Q before now r
+      → ((name : List ℕ) → P name → Q name) → TakesStep Whole All Q before now r
   takes_later {Rest} {Opened} {P} {mid} after rest found opened wider = record {
     after = after_twice before mid now after rest.after;
     found = λ files fit. found files fit (rest.found files fit);
@@ -67,12 +67,12 @@ module _ {Y : Type 0} {Whole : Files → Found Y → Type 0} {All : Found Y → 
 
   -- a step found a fault, after other work
   pub takes_fault : {X : Type 0} {Step : Files → Found X → Type 0} {Opened : Found X → Type 0} {P : List ℕ → Type 0}
-      {mid : ShelfTold} {f : Fault} → IsAfter before mid → Takes Step Opened P mid now (Err f)
+      {mid : ShelfTold} {f : Fault} → IsLaterShelf before mid → TakesStep Step Opened P mid now (Err f)
       → ((files : Files) → Fit now files → (g : Fault) → Step files (Err g) → Whole files (Err g))
       → ((g : Fault) → All (Err g)) → ((name : List ℕ) → P name → Q name) → IsErrAnd r (λ e. e ≡ f)
-      → Takes Whole All Q before now r
+      → TakesStep Whole All Q before now r
   takes_fault {X} {Step} {Opened} {P} {mid} {f} after step found opened wider is =
-      failed (Takes Whole All Q before now) f r (record {
+      failed (TakesStep Whole All Q before now) f r (record {
         after = after_twice before mid now after step.after;
         found = λ files fit. follows_fault (Step files) (Whole files) f (found files fit) (step.found files fit);
         opened = opened f;
@@ -81,7 +81,7 @@ module _ {Y : Type 0} {Whole : Files → Found Y → Type 0} {All : Found Y → 
       }) is
 
 -- a file was not taken
-pub untaken : {X : Type 0} (Says : List ℕ → Found X → Type 0) (before now : ShelfTold) (name : List ℕ) (f : Fault) → IsAfter before now
+pub untaken : {X : Type 0} (Says : List ℕ → Found X → Type 0) (before now : ShelfTold) (name : List ℕ) (f : Fault) → IsLaterShelf before now
     → OpensFiles false (name ∷ []) before now → IsNotTaken now name f → HasCause (over before now) f
     → TakesFiles (λ files. IsTaken files name Says) (name ∷ []) (λ long. long ≡ name) before now (Err f)
 untaken Says before now name f after opens refused cause = record {
@@ -98,7 +98,7 @@ untaken Says before now name f after opens refused cause = record {
 
 -- files that fit after files were opened fitted before
 pub takes_back : {X : Type 0} {Step : Files → Found X → Type 0} {P : List ℕ → Type 0} {before now : ShelfTold} {x : X}
-    (names : List (List ℕ)) → Takes Step (λ found. OpensFiles (is_ok found) names before now) P before now (Ok x) → Narrows before now
+    (names : List (List ℕ)) → TakesStep Step (λ found. OpensFiles (is_ok found) names before now) P before now (Ok x) → Narrows before now
 takes_back {X} {Step} {P} {before} {now} names takes =
     narrowed names before now takes.after.holds (all_some names before.given now.given takes.opened)
 
@@ -107,7 +107,7 @@ takes_back {X} {Step} {P} {before} {now} names takes =
 -- The members before this place were taken and gave `done`, and these files were opened.
 pub record HasTaken {X Y : Type 0} (Step : Files → X → Found Y → Type 0) (xs : List X) (i : ℕ) (done : List Y)
     (names : List (List ℕ)) (before now : ShelfTold) : Type 0 where
-  pub after : IsAfter before now
+  pub after : IsLaterShelf before now
   pub found : (files : Files) → Fit now files → Continues (Step files) xs i done
   pub opens : OpensAll names before.given now.given
 
@@ -121,7 +121,7 @@ none_taken Step xs told = record { after = after_none told; found = λ files fit
 module _ {X Y : Type 0} {Step : Files → X → Found Y → Type 0} {xs : List X} {i : ℕ} {done : List Y}
     {names : List (List ℕ)} {before mid : ShelfTold} (so_far : HasTaken Step xs i done names before mid) where
   pub taken_end : {Q : List ℕ → Type 0} (all : List (List ℕ)) (result : List Y) → length xs ≤ i → result ≡ done → names ≡ all
-      → Takes (λ files. Each (Step files) xs) (λ found. OpensFiles (is_ok found) all before mid) Q before mid (Ok result)
+      → TakesStep (λ files. Each (Step files) xs) (λ found. OpensFiles (is_ok found) all before mid) Q before mid (Ok result)
   taken_end all result le is same = record {
     after = so_far.after;
     found = λ files fit. subst (λ ys. Each (Step files) xs (Ok ys)) (sym is) (each_end (Step files) xs i done le (so_far.found files fit));
@@ -133,14 +133,14 @@ module _ {X Y : Type 0} {Step : Files → X → Found Y → Type 0} {xs : List X
   pub taken_memory : {Q : List ℕ → Type 0} (all : List (List ℕ)) {r : Found (List Y)}
       → (OpensSome names before.given mid.given → OpensSome all before.given mid.given)
       → IsErrAnd r (λ e. e ≡ fault.OutOfMemory)
-      → Takes (λ files. Each (Step files) xs) (λ found. OpensFiles (is_ok found) all before mid) Q before mid r
+      → TakesStep (λ files. Each (Step files) xs) (λ found. OpensFiles (is_ok found) all before mid) Q before mid r
   taken_memory all some is = takes_memory so_far.after (λ g. some (all_some names before.given mid.given so_far.opens)) is
 
   module _ {P : List ℕ → Type 0} {now : ShelfTold} (x : X) (more : List (List ℕ)) (lt : i < length xs)
       (at : x ≡ get_or xs i x) where
     -- one member more
     pub taken_more : (all : List (List ℕ)) (y : Y) (later : List Y)
-        → Takes (λ files. Step files x) (λ found. OpensFiles (is_ok found) more mid now) P mid now (Ok y)
+        → TakesStep (λ files. Step files x) (λ found. OpensFiles (is_ok found) more mid now) P mid now (Ok y)
         → later ≡ done ++ y ∷ [] → names ++ more ≡ all → HasTaken Step xs (i + 1) later all before now
     taken_more all y later takes is same =
         let back = takes_back more takes in
@@ -155,10 +155,10 @@ module _ {X Y : Type 0} {Step : Files → X → Found Y → Type 0} {xs : List X
 
     -- a fault at the next member
     pub taken_fault : {Q : List ℕ → Type 0} (all : List (List ℕ)) (f : Fault) {r : Found (List Y)}
-        → Takes (λ files. Step files x) (λ found. OpensFiles (is_ok found) more mid now) P mid now (Err f)
+        → TakesStep (λ files. Step files x) (λ found. OpensFiles (is_ok found) more mid now) P mid now (Err f)
         → (OpensSome (names ++ more) before.given now.given → OpensSome all before.given now.given)
         → ((name : List ℕ) → P name → Q name) → IsErrAnd r (λ e. e ≡ f)
-        → Takes (λ files. Each (Step files) xs) (λ found. OpensFiles (is_ok found) all before now) Q before now r
+        → TakesStep (λ files. Each (Step files) xs) (λ found. OpensFiles (is_ok found) all before now) Q before now r
     taken_fault all f takes some wider is =
         let back : Narrows mid now = narrowed more mid now takes.after.holds takes.opened in
         takes_fault so_far.after takes

@@ -80,7 +80,8 @@ pub record AreSmall (parts most : ℕ) (solids : List Solid) : Type 0 where
   pub few : length solids ≤ most
 
 -- The sketch grew by these solids, as the files have them that fit, and by so many at most; that many parts there are.
-pub record Grows (Adds : Files → List Solid) (least count : ℕ) (told : ShelfTold) (before after : Sketch) : Type 0 where
+pub record SketchGrows (Adds : Files → List Solid) (least count : ℕ) (told : ShelfTold)
+    (before after : Sketch) : Type 0 where
   pub drew : (files : Files) → Fit told files → Drew before after (Adds files)
   pub small : (parts most : ℕ) → least ≤ parts → AreSmall parts most before.solids.items →
       AreSmall parts (most + count) after.solids.items

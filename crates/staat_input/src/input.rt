@@ -9,12 +9,12 @@ ghost use Rattle.staat_model.specs.Assemblies.{ArePartsWithin};
 ghost use Rattle.staat_words.specs.Requests.{IsAskedWithin, IsInputWithin};
 ghost use Rattle.staat_edge.specs.Fitting.{Fit};
 ghost use Rattle.staat_input.specs.Work.{Each, Files, Follows, IsTaken};
-ghost use Rattle.staat_input.specs.Drawing.{AreSmall, Grows, IsDrawnWithin, solid_of, solids_of, solids_of_part};
+ghost use Rattle.staat_input.specs.Drawing.{AreSmall, SketchGrows, IsDrawnWithin, solid_of, solids_of, solids_of_part};
 ghost use Rattle.staat_input.specs.Moved.{IsMovedPieceOf};
 ghost use Rattle.staat_input.specs.Inputs.{alone, IsInputOfWithin, IsListingOfWithin, IsPartOf, SaysListingWithin};
 ghost use Rattle.staat_input.specs.Shapes.{AreRead, IsFewWithin, ListsPiece};
 ghost use Rattle.staat_input.specs.Causes.{HasCause, MayName, ShelfSide};
-ghost use Rattle.staat_input.specs.Taking.{Takes, TakesFiles};
+ghost use Rattle.staat_input.specs.Taking.{TakesStep, TakesFiles};
 ghost use Rattle.staat_words.specs.declared.request.Input.TheVariants.{Manifest};
 
 use crate::limits::Limits;
@@ -74,7 +74,7 @@ fn read_list<H: Shelf>(
     name: &Name,
     limits: Limits,
 ) -> Result<Listing, Fault>
-    ensures takes { Takes (λ files. IsTaken files name.now (SaysListingWithin limits name.now))
+    ensures takes { TakesStep (λ files. IsTaken files name.now (SaysListingWithin limits name.now))
         (OpensNames limits (Manifest name.now) (H.told shelf.old) (H.told shelf.new)) (MayName (Manifest name.now))
         (H.told shelf.old) (H.told shelf.new) result }
     ensures few { IfOk result (IsFewWithin limits) }
@@ -92,7 +92,7 @@ fn names_of<H: Shelf>(
 ) -> Result<Listing, Fault>
     requires input { IsInputWithin limits.parts input.now }
     requires room { limits.parts ≤ limits.pieces }
-    ensures takes { Takes (λ files. IsListingOfWithin limits files input.now)
+    ensures takes { TakesStep (λ files. IsListingOfWithin limits files input.now)
         (OpensNames limits input.now (H.told shelf.old) (H.told shelf.new)) (MayName input.now)
         (H.told shelf.old) (H.told shelf.new) result }
     ensures few { IfOk result (IsFewWithin limits) }
@@ -130,7 +130,7 @@ fn read_pieces<H: Shelf>(
     ensures takes { TakesFiles (λ files. Each (IsMovedPieceOf files digits at) names.now) names.now
         (Contains names.now) (H.told shelf.old) (H.told shelf.new) result }
     ensures pieces { IfOk result (λ pieces. All IsPiece pieces × (length pieces ≡ length names.now)) }
-    ensures grows { OnOk result (Grows (λ files. map (solid_of files digits part at) names.now) (part + 1)
+    ensures grows { OnOk result (SketchGrows (λ files. map (solid_of files digits part at) names.now) (part + 1)
         (length names.now) (H.told shelf.new) sketch.old sketch.new) }
 {
     let mut pieces = Vec::with_capacity(alloc, names.len())?;
@@ -157,7 +157,7 @@ fn read_part<H: Shelf>(
         (Contains named.now.pieces) (H.told shelf.old) (H.told shelf.new) result }
     ensures pieces { IfOk result (λ part.
         All IsPiece part.pieces × (length part.pieces ≡ length named.now.pieces)) }
-    ensures grows { OnOk result (Grows (λ files. solids_of_part files digits part named.now) (part + 1)
+    ensures grows { OnOk result (SketchGrows (λ files. solids_of_part files digits part named.now) (part + 1)
         (length named.now.pieces) (H.told shelf.new) sketch.old sketch.new) }
 {
     let name = named.name.copied(alloc)?;
@@ -180,7 +180,7 @@ fn read_parts<H: Shelf>(
     ensures takes { TakesFiles (λ files. Each (IsPartOf files digits) listing.now) (piece_files listing.now)
         (ListsPiece listing.now) (H.told shelf.old) (H.told shelf.new) result }
     ensures read { IfOk result (AreRead listing.now) }
-    ensures grows { OnOk result (Grows (λ files. solids_of files digits listing.now) (length listing.now)
+    ensures grows { OnOk result (SketchGrows (λ files. solids_of files digits listing.now) (length listing.now)
         (sum_by (λ part. length part.pieces) listing.now) (H.told shelf.new) sketch.old sketch.new) }
 {
     let mut parts = Vec::with_capacity(alloc, listing.len())?;
@@ -205,7 +205,7 @@ pub fn read_within<H: Shelf>(
     requires asked { IsAskedWithin limits.parts asked.now }
     requires room { limits.parts ≤ limits.pieces }
     requires most { limits.parts ≤ MOST_PRODUCT_PARTS }
-    ensures takes { Takes (λ files. IsInputOfWithin limits files asked.now)
+    ensures takes { TakesStep (λ files. IsInputOfWithin limits files asked.now)
         (λ found. OpensInput limits (is_ok found) asked.now.input [] (H.told shelf.old) (H.told shelf.new))
         (MayName asked.now.input) (H.told shelf.old) (H.told shelf.new) result }
     ensures few { IfOk result (ArePartsWithin limits.parts limits.pieces) }

@@ -3,7 +3,7 @@ ghost use Rattle.std.specs.Prelude.{◌≡◌, ◌≤◌, ◌+◌, [], ◌∷◌
 ghost use Rattle.staat_limits.specs.declared.limits.TheConstants.{MOST_DIGITS};
 ghost use Rattle.staat_vec.specs.Vectors.{IsWithin};
 ghost use Rattle.staat_input.specs.Work.{Follows};
-ghost use Rattle.staat_input.specs.Drawing.{Grows, solid_of};
+ghost use Rattle.staat_input.specs.Drawing.{SketchGrows, solid_of};
 ghost use Rattle.staat_input.specs.Moved.{IsMovedPieceOf, MovesPiece};
 ghost use Rattle.staat_input.specs.Causes.{HasCause, ShelfSide};
 ghost use Rattle.staat_input.specs.Taking.{TakesFiles};
@@ -47,7 +47,7 @@ pub fn read_moved<H: Shelf>(
     requires vector { IsWithin POINT at }
     ensures takes { TakesFiles (λ files. IsMovedPieceOf files digits at name.now) (name.now ∷ [])
         (λ long. long ≡ name.now) (H.told shelf.old) (H.told shelf.new) result }
-    ensures grows { OnOk result (Grows (λ files. solid_of files digits part at name.now ∷ []) (part + 1) 1
+    ensures grows { OnOk result (SketchGrows (λ files. solid_of files digits part at name.now ∷ []) (part + 1) 1
         (H.told shelf.new) sketch.old sketch.new) }
 {
     let Drawn { raw, piece } = read_drawn(alloc, digits, shelf, name)?;

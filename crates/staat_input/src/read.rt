@@ -11,7 +11,7 @@ ghost use Rattle.staat_edge.specs.Opening.{OpensFiles};
 ghost use Rattle.staat_edge.specs.Readings.{whole_reading};
 ghost use Rattle.staat_input.specs.Drawing.{piece_found, raw_in};
 ghost use Rattle.staat_input.specs.Pieces.{IsPieceOf, SaysPiece};
-ghost use Rattle.staat_input.specs.Taking.{IsAfter, TakesFiles};
+ghost use Rattle.staat_input.specs.Taking.{IsLaterShelf, TakesFiles};
 ghost use Rattle.staat_input.specs.Causes.{HasCause, IfTooLong, ShelfSide, over};
 
 use crate::refusals::{mesh_fault, off_fault, read_fault};
@@ -26,7 +26,7 @@ use std::alloc::Global;
 
 /// The bytes of a whole file.
 pub fn read_file<H: Shelf>(alloc: Global, shelf: &mut H, name: &Name) -> Result<Bytes, Fault>
-    ensures after { IsAfter (H.told shelf.old) (H.told shelf.new) }
+    ensures after { IsLaterShelf (H.told shelf.old) (H.told shelf.new) }
     ensures gave { IfOk result (λ bytes.
         (H.told shelf.new).given ≡ whole_reading name.now bytes ∷ (H.told shelf.old).given) }
     ensures opens { OpensFiles (is_ok result) (name.now ∷ []) (H.told shelf.old) (H.told shelf.new) }

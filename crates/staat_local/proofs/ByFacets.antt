@@ -30,7 +30,7 @@ use Rattle.staat_model.proofs.Edge.{edge_below}
 use Rattle.staat_model.proofs.Members.{All-from_members}
 use Rattle.staat_model.proofs.PieceFacets.{beyond_is_above, differences_are, from_cone_facet, piece_some, pieces_span}
 use Rattle.staat_local.specs.Contacts.{Contact, Starts, total}
-use Rattle.staat_local.specs.Touching.{IsReach}
+use Rattle.staat_local.specs.Touching.{IsFarthest}
 use Rattle.staat_local.proofs.Contacts.{IsPastAt, contact_combined, meets_of_start, past_no_contact, past_no_start, soon_weights}
 use Rattle.staat_local.proofs.Points.{all_level}
 use Rattle.staat_vec.proofs.Integers.{product_zero}
@@ -128,7 +128,7 @@ starts_by_contact_lemma p q d is_p is_q = (
 -- the sum of the facets tells whether they touch
 pub touching_is : (parts : List Part) (facets p q : List V3) (arc : Arc) (n : V3) (far : ℤ) (near : Bool) → IsAssembly parts → HoldsAt parts arc (λ p q. Lists vector_cmp (IsFacet p q) facets)
     → piece_at parts arc.a arc.i ≡ Some p → piece_at parts arc.b arc.j ≡ Some q → n ≡ total facets
-    → IsReach n p far → IsTrue near ↔ Any (λ v. dot v n ≤ℤ far) q → IsTrue near ↔ HoldsAt parts arc Contact
+    → IsFarthest n p far → IsTrue near ↔ Any (λ v. dot v n ≤ℤ far) q → IsTrue near ↔ HoldsAt parts arc Contact
 touching_is parts facets p q arc n far near is h p_is q_is sum reach test = (
   (λ t.
       let (k, b, lt, e, close) = test.0 t in

@@ -10,7 +10,7 @@ use Rattle.staat_pairs.specs.Tables.{IsTableArc, Table, back, slot}
 use Rattle.staat_local.specs.Contacts.{Contact}
 
 -- the farthest of the points along n lies so far
-pub record IsReach (n : V3) (points : List V3) (far : ℤ) : Type 0 where
+pub record IsFarthest (n : V3) (points : List V3) (far : ℤ) : Type 0 where
   pub at : Any (λ p. dot p n ≡ far) points
   pub most : All (λ p. dot p n ≤ℤ far) points
 

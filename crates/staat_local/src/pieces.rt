@@ -4,7 +4,7 @@ ghost use Rattle.staat_vec.specs.Vectors.{IsWithin, dot};
 ghost use Rattle.staat_model.specs.Assemblies.{HoldsAt};
 ghost use Rattle.staat_pairs.specs.Tables.{IsTableArc, WasMadeFrom, facets_of};
 ghost use Rattle.staat_local.specs.Contacts.{Contact, total};
-ghost use Rattle.staat_local.specs.Touching.{IsReach};
+ghost use Rattle.staat_local.specs.Touching.{IsFarthest};
 
 use staat_model::{Arc, Piece, Sound};
 use staat_planes::PlaneTable;
@@ -37,7 +37,7 @@ fn reach(n: V3, points: &[V3]) -> i128
     requires some { 1 ≤ length points.now }
     requires points { All (IsWithin POINT) points.now }
     requires n { IsWithin DIRECTION n }
-    ensures { IsReach n points.now result }
+    ensures { IsFarthest n points.now result }
 {
     let mut far = dot(points[0], n);
     for p in points {

@@ -10,7 +10,7 @@ use Rattle.staat_input.specs.Causes.{MayName}
 use Rattle.staat_input.specs.Shapes.{ListsPiece}
 use Rattle.staat_input.specs.Inputs.{IsListingOfWithin, alone}
 use Rattle.staat_input.specs.Opened.{OpensNames}
-use Rattle.staat_input.specs.Taking.{Takes}
+use Rattle.staat_input.specs.Taking.{TakesStep}
 use Rattle.staat_input.proofs.InputLemmas.{named_files, no_value}
 use Rattle.staat_input.proofs.OpenedLemmas.{unopened}
 use Rattle.staat_input.proofs.TakingLemmas.{after_none, takes_memory, takes_pure}
@@ -38,7 +38,7 @@ returns-in-Manifest g c =
     let before = g.H.Shelf.told c.args.shelf.now in
     let now = g.H.Shelf.told c.read_list.new.shelf in
     record {
-      takes = subst (λ (i : Input). Takes (λ files. IsListingOfWithin c.args.limits files i) (OpensNames c.args.limits i before now) (MayName i) before now c.read_list.result)
+      takes = subst (λ (i : Input). TakesStep (λ files. IsListingOfWithin c.args.limits files i) (OpensNames c.args.limits i before now) (MayName i) before now c.read_list.result)
           (sym c.in-Manifest.is) c.read_list.ensures.takes;
       few = c.read_list.ensures.few;
       names = subst (λ (i : Input). IfOk c.read_list.result (λ listing. (name : List ℕ) → ListsPiece listing name → MayName i name))
@@ -51,7 +51,7 @@ returns-in_ok-listing-in-Files g c =
     let listing = c.in_ok-listing-in-Files.listing in
     let alike = c.in_ok-listing-in-Files.ensures ∙ ap (map alone) c.as_slice.ensures in
     record {
-      takes = subst (λ (i : Input). Takes (λ files. IsListingOfWithin c.args.limits files i) (OpensNames c.args.limits i told told) (MayName i) told told (Ok listing))
+      takes = subst (λ (i : Input). TakesStep (λ files. IsListingOfWithin c.args.limits files i) (OpensNames c.args.limits i told told) (MayName i) told told (Ok listing))
           (sym c.in-Files.is)
           (takes_pure (after_none told) (λ files fit. ap (λ (l : List ListedPart). Ok l) alike) (refl, alike) (λ shelf. tt));
       few = named_files c.args.limits c.in-Files.names listing c.requires.room (subst (IsInputWithin c.args.limits.parts) c.in-Files.is c.requires.input) alike;

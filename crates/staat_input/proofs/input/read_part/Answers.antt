@@ -1,6 +1,6 @@
 use Rattle.std.proofs.Common.{◌∙◌, ◌+◌, ℕ, Err, List, Ok, ap, inl, inr, length, map, refl, subst, Contains}
 use Rattle.staat_edge.proofs.OpeningLemmas.{none_opened}
-use Rattle.staat_input.specs.Drawing.{Grows, solid_of}
+use Rattle.staat_input.specs.Drawing.{SketchGrows, solid_of}
 use Rattle.staat_input.specs.Inputs.{part_of}
 use Rattle.staat_input.specs.Moved.{IsMovedPieceOf}
 use Rattle.staat_input.specs.Taking.{TakesFiles}
@@ -37,6 +37,6 @@ returns g c =
           (λ files fit. inr (pieces, takes.found files fit, ap (λ name. Ok (part_of name pieces)) c.in_ok-name.ensures))
           takes.opened (λ shelf. tt);
       pieces = (c.in_ok-pieces.ensures.pieces.0, c.in_ok-pieces.ensures.pieces.1 ∙ ap length c.as_slice-names.ensures);
-      grows = subst (λ (names : List (List ℕ)). Grows (λ files. map (solid_of files c.args.digits c.args.part c.args.named.now.at) names) (c.args.part + 1) (length names)
+      grows = subst (λ (names : List (List ℕ)). SketchGrows (λ files. map (solid_of files c.args.digits c.args.part c.args.named.now.at) names) (c.args.part + 1) (length names)
           (g.H.Shelf.told c.read_pieces.new.shelf) c.args.sketch.now c.read_pieces.new.sketch) c.as_slice-names.ensures c.in_ok-pieces.ensures.grows;
     }

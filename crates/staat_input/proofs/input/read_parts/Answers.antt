@@ -5,7 +5,7 @@ use Rattle.staat_edge.specs.Opening.{OpensSome}
 use Rattle.staat_edge.proofs.OpeningLemmas.{none_opened}
 use Rattle.staat_input.specs.Opened.{piece_files}
 use Rattle.staat_manifest.specs.declared.listing.ListedPart.{ListedPart}
-use Rattle.staat_input.specs.Drawing.{Grows, solids_of}
+use Rattle.staat_input.specs.Drawing.{SketchGrows, solids_of}
 use Rattle.staat_input.specs.Shapes.{AreRead}
 use Rattle.staat_input.specs.Inputs.{IsPartOf}
 use Rattle.staat_input.proofs.InputLemmas.{no_value, no_value_on, none_read, one_read}
@@ -88,6 +88,6 @@ returns g c =
     record {
       takes = taken_end loop.invariant.taken (piece_files c.args.listing.now) c.from_vec.result c.loop-named-test.false c.from_vec.ensures (ap piece_files all);
       read = subst (AreRead c.args.listing.now) (sym c.from_vec.ensures) (subst (λ (named : List ListedPart). AreRead named loop.parts.items) all loop.invariant.read);
-      grows = subst (λ (named : List ListedPart). Grows (λ files. solids_of files c.args.digits named) (length c.args.listing.now) (sum_by (λ (n : ListedPart). length n.pieces) named) (g.H.Shelf.told loop.shelf) c.args.sketch.now loop.sketch)
+      grows = subst (λ (named : List ListedPart). SketchGrows (λ files. solids_of files c.args.digits named) (length c.args.listing.now) (sum_by (λ (n : ListedPart). length n.pieces) named) (g.H.Shelf.told loop.shelf) c.args.sketch.now loop.sketch)
           all loop.invariant.grows;
     }

@@ -4,7 +4,7 @@ use Rattle.std.proofs.lemmas.List.Elements.{All-nil, All-push}
 use Rattle.staat_edge.specs.Opening.{OpensSome}
 use Rattle.staat_edge.proofs.OpeningLemmas.{none_opened}
 use Rattle.staat_model.specs.Pieces.{IsPiece}
-use Rattle.staat_input.specs.Drawing.{Grows, solid_of}
+use Rattle.staat_input.specs.Drawing.{SketchGrows, solid_of}
 use Rattle.staat_input.specs.Moved.{IsMovedPieceOf}
 use Rattle.staat_input.proofs.InputLemmas.{no_value, no_value_on}
 use Rattle.staat_input.proofs.OpenedLemmas.{name_next, names_some}
@@ -84,7 +84,7 @@ returns g c =
     record {
       takes = taken_end loop.invariant.taken c.args.names.now c.from_vec.result c.loop-name-test.false c.from_vec.ensures all;
       pieces = (subst (All IsPiece) (sym c.from_vec.ensures) loop.invariant.pieces, ap length c.from_vec.ensures ∙ loop.invariant.each ∙ count);
-      grows = subst (λ n. Grows (λ files. map (solid_of files c.args.digits c.args.part c.args.at) c.args.names.now) (c.args.part + 1) n (g.H.Shelf.told loop.shelf) c.args.sketch.now loop.sketch) count
-          (subst (λ (names : List (List ℕ)). Grows (λ files. map (solid_of files c.args.digits c.args.part c.args.at) names) (c.args.part + 1) loop.name-index (g.H.Shelf.told loop.shelf) c.args.sketch.now loop.sketch)
+      grows = subst (λ n. SketchGrows (λ files. map (solid_of files c.args.digits c.args.part c.args.at) c.args.names.now) (c.args.part + 1) n (g.H.Shelf.told loop.shelf) c.args.sketch.now loop.sketch) count
+          (subst (λ (names : List (List ℕ)). SketchGrows (λ files. map (solid_of files c.args.digits c.args.part c.args.at) names) (c.args.part + 1) loop.name-index (g.H.Shelf.told loop.shelf) c.args.sketch.now loop.sketch)
           all loop.invariant.grows);
     }

@@ -11,7 +11,7 @@ use Rattle.staat_model.specs.Assemblies.{ArePartsWithin}
 use Rattle.staat_words.specs.declared.request.Asked.{Asked}
 use Rattle.staat_input.specs.declared.limits.Limits.{Limits}
 use Rattle.staat_input.specs.declared.sketch.Sketch.{Sketch}
-use Rattle.staat_input.specs.Drawing.{AreSmall, Grows, IsDrawnWithin, solids_of}
+use Rattle.staat_input.specs.Drawing.{AreSmall, SketchGrows, IsDrawnWithin, solids_of}
 use Rattle.staat_input.specs.Inputs.{IsListingOfWithin, IsPartOf}
 use Rattle.staat_input.specs.Opened.{ReadsNames, piece_files}
 use Rattle.staat_input.specs.Shapes.{AreRead, IsFewWithin, ListsPiece}
@@ -29,7 +29,7 @@ parts_few l named (Err f) few read = tt
 -- the solids of all parts
 abbrev AreGrown : List ListedPart → ℕ → ShelfTold → Sketch → Sketch → Type 0
 AreGrown named digits told before after =
-    Grows (λ files. solids_of files digits named) (length named) (sum_by (λ part. length part.pieces) named) told before after
+    SketchGrows (λ files. solids_of files digits named) (length named) (sum_by (λ part. length part.pieces) named) told before after
 
 parts_drawn : (l : Limits) (files : Files) (asked : Asked) (told : ShelfTold) (before after : Sketch) (named : List ListedPart) (r : Result (List Part) Fault) → Fit told files → IsListingOfWithin l files asked.input (Ok named) → before.solids.items ≡ [] → OnOk r (AreGrown named asked.digits told before after) → OnOk r (IsDrawnWithin l files asked before.keep after)
 parts_drawn l files asked told before after named (Ok parts) fit listed empty grows = record {

@@ -2,7 +2,7 @@ use Rattle.std.proofs.Common.{◌+◌, [], ◌∷◌, arith, inl, refl, subst}
 use Rattle.std.specs.Prelude.{is_ok}
 use Rattle.staat_edge.proofs.OpeningLemmas.{all_some}
 use Rattle.staat_off.specs.declared.raw.Raw.{Raw}
-use Rattle.staat_input.specs.Drawing.{Drew, Grows, solid_of}
+use Rattle.staat_input.specs.Drawing.{Drew, SketchGrows, solid_of}
 use Rattle.staat_input.specs.Moved.{MovesPiece}
 use Rattle.staat_input.specs.Pieces.{IsPieceOf}
 use Rattle.staat_input.proofs.InputLemmas.{no_value_on, then_given, value_on}
@@ -37,7 +37,7 @@ returns g c =
           (λ files fit. then_given (IsPieceOf files c.args.digits name) (MovesPiece name c.args.at)
           c.in_ok-raw.field-0.piece c.moved.result (read.found files fit) c.moved.ensures.moves)
           (all_opened (is_ok c.moved.result) (name ∷ []) before.given now.given read.opened) c.moved.ensures.cause;
-      grows = value_on (Grows (λ files. solid_of files c.args.digits c.args.part c.args.at name ∷ []) (c.args.part + 1) 1 now sketch kept)
+      grows = value_on (SketchGrows (λ files. solid_of files c.args.digits c.args.part c.args.at name ∷ []) (c.args.part + 1) 1 now sketch kept)
           c.moved.result (record {
             drew = λ files fit. subst (λ (raw : Raw). Drew sketch kept (record { part = c.args.part; at = c.args.at; raw = raw } ∷ []))
                 (c.in_ok-raw.ensures.raw files fit) c.in_ok-add.ensures.drew;
