@@ -1,7 +1,7 @@
 -- The lines of a refusal, how they and the witnesses are numbered, one more line, and how many they are.
 use Rattle.staat_model.specs.declared.certificate.Body.TheVariants as body
 use Rattle.std.proofs.Common.{◌≡◌, ◌⊎◌, inl, inr, ⊎_elim, ℕ, ◌<◌, ◌≤◌, ◌+◌, List, [], ◌∷◌, ◌++◌, length, map, sym, ap, ◌∙◌, subst, arith, length-append, take, ◌*◌, refl, All, Contains, zero, suc, Bool, true, false}
-use Rattle.std.specs.Prelude.{Some, slice_get, Err, IfOk, Ok, Result, map, nat_eq, if◌then◌else◌}
+use Rattle.std.specs.Prelude.{Some, None, Option, IfSome, slice_get, Err, IfOk, Ok, Result, map, nat_eq, if◌then◌else◌}
 use Rattle.std.proofs.lemmas.List.{map-append, length-map, length-take-le, append_cancel_left, length-append}
 use Rattle.std.proofs.lemmas.List.Elements.{All-push, All-weaker, All-contains, All-nil, All-head, All-tail, Contains-append_left, Contains-push}
 use Rattle.staat_vec.specs.declared.vector.V3.{V3}
@@ -33,7 +33,10 @@ use Rattle.staat_model.specs.declared.certificate.Arc.{Arc}
 use Rattle.staat_pairs.specs.Tables.{IsTable, IsTableArc, Table, slot}
 use Rattle.staat_ring.proofs.PairNumbers.{one_arc}
 use lib.Pointwise.{pointwise}
-use Rattle.std.specs.List.{AllByRecursion, IsDistinct, list_any}
+use Rattle.std.specs.List.{AllByRecursion, IsDistinct, list_any, position}
+use Rattle.std.proofs.lemmas.List.Quantifiers.{position-Some}
+use Rattle.std.proofs.lemmas.Option.{slice_get-get_or}
+use lib.ListN.{get_or}
 use Rattle.std.proofs.Math.Seq.{take-append_seam}
 use Rattle.staat_model.proofs.Places.{place_within}
 use Rattle.std.proofs.lemmas.Slice.Eq.{bytes_eq-Decides}
@@ -98,6 +101,15 @@ module _ {X : Type 0} (items : X → List ℕ) where
           let last = ap (λ l. slice_get l (length (map items old))) more ∙ push_end (map items old) (items key) in
           record { which = inr (more, distinct i (length (map items old)) (items key) here last); at = here }
 
+  -- the place of the first whose items these are
+  pub found_at : (xs : List X) (key : List ℕ) (found : Option ℕ) → found ≡ position (λ x. pointwise nat_eq key (items x)) xs → IfSome found (λ i. slice_get (map items xs) i ≡ Some key)
+  found_at xs key None is = tt
+  found_at [] key (Some i) is = absurd cc
+  found_at (x ∷ xs) key (Some i) is =
+      let here = get_or (x ∷ xs) i x in
+      let (within, same, _) = position-Some (λ y. pointwise nat_eq key (items y)) (x ∷ xs) i x (sym is) in
+      map_at_place items (x ∷ xs) i here (slice_get-get_or (x ∷ xs) i x within) ∙ ap Some (sym ((bytes_eq-Decides key (items here)).0 same))
+
 -- ---- a key tells its witness from each other of the table
 
 module _ (t : Table) (rules : IsTable t) where
@@ -128,6 +140,13 @@ module _ (t : Table) (rules : IsTable t) where
 
 -- ---- a witness and its number
 
+-- a witness whose key is known was found before
+pub known_is : (t : Table) (keys : List (List ℕ)) (witnesses : List Witness) (witness : Witness) (i : ℕ) → IsTable t → IsOfTable t witness → AreKeys t keys witnesses → slice_get keys i ≡ Some (key_of t.pieces witness)
+    → slice_get witnesses i ≡ Some witness
+known_is t keys witnesses witness i rules own before at =
+    let (x, there, same) = place_in_map (key_of t.pieces) witnesses i (key_of t.pieces witness) (subst (λ ks. slice_get ks i ≡ Some (key_of t.pieces witness)) before.are at) in
+    there ∙ ap Some (key_tells t rules x witness (All-at (IsOfTable t) witnesses i x there before.each) own same)
+
 module _ (t : Table) (keys more : List (List ℕ)) (witnesses : List Witness) (witness : Witness) (i : ℕ) (own : IsOfTable t witness) (before : AreKeys t keys witnesses) (of : IsNumberOf keys more (key_of t.pieces witness) i) (distinct : EachStandsOnce more) where
   many : length keys ≡ length witnesses
   many = ap length before.are ∙ length-map witnesses (key_of t.pieces)
@@ -136,11 +155,8 @@ module _ (t : Table) (keys more : List (List ℕ)) (witnesses : List Witness) (w
   pub number_old : IsTable t → (i ≡ length witnesses → ⊥) → AreKeys t more witnesses × IsNumberOf witnesses witnesses witness i
   number_old rules other = ⊎_elim
       (λ old.
-      let all : more ≡ map (key_of t.pieces) witnesses = old.0 ∙ before.are in
-      let (x, there, same) = place_in_map (key_of t.pieces) witnesses i (key_of t.pieces witness) (subst (λ ks. slice_get ks i ≡ Some (key_of t.pieces witness)) all of.at) in (
-        record { are = all; each = before.each; distinct = distinct },
-        record { which = inl (refl, omega (arith, many, old.1)); at = there ∙ ap Some (key_tells t rules x witness (All-at (IsOfTable t) witnesses i x there before.each) own same) },
-      ))
+      let now : AreKeys t more witnesses = record { are = old.0 ∙ before.are; each = before.each; distinct = distinct } in
+      (now, record { which = inl (refl, omega (arith, many, old.1)); at = known_is t more witnesses witness i rules own now of.at }))
       (λ new. absurd (other (new.1 ∙ many)))
       of.which
 

@@ -12,12 +12,17 @@ use Rattle.staat_model.specs.declared.certificate.Witness.{Witness}
 use Rattle.staat_model.specs.declared.set.PartSet.{PartSet}
 use Rattle.staat_model.specs.Certify.{NamesWitness, NumbersByFirstUse}
 use Rattle.staat_pairs.specs.Tables.{IsTableArc, Table, slot}
+use Rattle.staat_certify.specs.declared.witnesses.WitnessRoom.{WitnessRoom}
 
 -- the witness has arcs of the table, as many of them in the first list as in the second
 pub record IsOfTable (t : Table) (witness : Witness) : Type 0 where
   pub outs : All (IsTableArc t) witness.outs
   pub ins : All (IsTableArc t) witness.ins
   pub even : length witness.outs ≡ length witness.ins
+
+-- the witness in the room
+abbrev pub witness_in : WitnessRoom → Witness
+witness_in room = record { outs = room.outs.items; ins = room.ins.items }
 
 -- the slots of the arcs of a witness, which no other witness of the table has
 abbrev pub key_of : List ℕ → Witness → List ℕ

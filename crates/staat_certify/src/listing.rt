@@ -1,12 +1,13 @@
 // The lines of a refusal: each direction with the number of its witness.
-ghost use Rattle.std.specs.Prelude.{◌≡◌, ◌<◌, ◌++◌, ◌∷◌, [], All, IfOk, OnOk, Some, length, map, slice_get};
+ghost use Rattle.std.specs.Prelude.{◌≡◌, ◌<◌, ◌++◌, ◌∷◌, [], All, IfOk, IfSome, OnOk, Some, length, map, slice_get};
 ghost use Rattle.staat_model.specs.declared.certificate.Witness.{Witness as WitnessValue};
 ghost use Rattle.staat_pairs.specs.Tables.{IsTableArc, slot};
 ghost use Rattle.staat_certify.specs.WitnessListings.{EachStandsOnce, AreKeys, AreListed, AreNames, IsNumberOf};
-ghost use Rattle.staat_certify.specs.WitnessListings.{IsOfTable, IsWitnessListing, key_of};
+ghost use Rattle.staat_certify.specs.WitnessListings.{IsOfTable, IsWitnessListing, key_of, witness_in};
 ghost use Rattle.staat_certify.specs.Visits.{IsNamed, visited_directions};
 
 use crate::visits::{Found, Visit};
+use crate::witnesses::WitnessRoom;
 use indexmap::IndexSet;
 use staat_limits::LIST_LIMIT;
 use staat_model::{Arc, Arcs, Body, Dir, Dirs, Sound, Witness, Witnesses};
@@ -33,34 +34,40 @@ fn push_slots(key: &mut Vec<u32>, table: &PlaneTable, arcs: &[Arc]) -> Result<()
     Ok(())
 }
 
-// the key of a witness
-fn key_of(alloc: Global, table: &PlaneTable, witness: &Witness) -> Result<Vec<u32>, OutOfMemory>
-    requires { IsOfTable table.now witness.now }
-    ensures { IfOk result (λ key. key.items ≡ key_of table.now.pieces witness.now) }
+/// Puts down the key of the witness in the room.
+pub fn put_key(room: &mut WitnessRoom, table: &PlaneTable) -> Result<(), OutOfMemory>
+    requires { IsOfTable table.now (witness_in room.old) }
+    ensures key { OnOk result (room.new.key.items ≡ key_of table.now.pieces (witness_in room.old)) }
+    ensures witness { OnOk result (witness_in room.new ≡ witness_in room.old) }
 {
-    let (outs, ins) = (witness.outs.as_slice(), witness.ins.as_slice());
-    let mut key = Vec::with_capacity(alloc, outs.len().saturating_add(ins.len()))?;
-    push_slots(&mut key, table, outs)?;
-    push_slots(&mut key, table, ins)?;
-    Ok(key)
+    room.key.clear();
+    push_slots(&mut room.key, table, room.outs.as_slice())?;
+    push_slots(&mut room.key, table, room.ins.as_slice())
 }
 
-/// The number of a witness, which is put at the end of the list if it is a new one.
+/// The number of the witness of this key, if it was found before.
+pub fn known_number(keys: &IndexSet<Vec<u32>>, key: &[u32]) -> Option<usize>
+    ensures { IfSome result (λ number. slice_get (map (λ v. v.items) keys.now.keys) number ≡ Some key.now) }
+{
+    keys.get_index_of(key)
+}
+
+/// The number of a witness with this key, which is put at the end of the list if it is a new one.
 pub fn number_witness(
-    alloc: Global,
     table: &PlaneTable,
     keys: &mut IndexSet<Vec<u32>>,
     witnesses: &mut Vec<Witness>,
+    key: Vec<u32>,
     witness: Witness,
 ) -> Result<usize, OutOfMemory>
     requires arcs { IsOfTable table.now witness }
+    requires key { key.items ≡ key_of table.now.pieces witness }
     requires keys { AreKeys table.now (map (λ v. v.items) keys.old.keys) witnesses.old.items }
     ensures keys { OnOk result (AreKeys table.now (map (λ v. v.items) keys.new.keys) witnesses.new.items) }
     ensures number { IfOk result (IsNumberOf witnesses.old.items witnesses.new.items witness) }
 {
     // the slot of an arc of the table is that of no other
     let _set = table.set();
-    let key = key_of(alloc, table, &witness)?;
     let (number, _) = keys.insert_full(key)?;
     if number == witnesses.len() {
         witnesses.push(witness)?;

@@ -14,9 +14,9 @@ ghost use Rattle.staat_certify.specs.Visits.{HasFound, HasGone, IsNamed, IsNumbe
 ghost use Rattle.staat_certify.specs.Visits.{KeepsTrees, NamesIfTold, SortsVisits, visited_directions};
 ghost use Rattle.staat_certify.specs.Witnesses.{StandsAmong};
 
-use crate::listing::number_witness;
+use crate::listing::{known_number, number_witness, put_key};
 use crate::vantage::Vantage;
-use crate::witnesses::{GraphTrees, renew_trees, witness_here};
+use crate::witnesses::{GraphTrees, WitnessRoom, put_witness, renew_trees};
 use indexmap::IndexSet;
 use staat_model::{Sound, Witness};
 use staat_planes::PlaneTable;
@@ -38,6 +38,7 @@ pub struct Found {
     pub witnesses: Vec<Witness>,
     pub visited: Vec<Visit>,
     pub kept: Option<GraphTrees>,
+    pub room: WitnessRoom,
 }
 
 // the number of the witness at the vertex, which is looked for where it is not told, and put at the end of the list if
@@ -63,8 +64,16 @@ fn number_here(
         return Ok(number);
     }
     let trees = renew_trees(&mut found.kept, at);
-    let here = witness_here(alloc, at, &trees)?;
-    let number = number_witness(alloc, at.table, &mut found.keys, &mut found.witnesses, here)?;
+    put_witness(&mut found.room, at, &trees)?;
+    put_key(&mut found.room, at.table)?;
+    // the slot of an arc of the table is that of no other
+    let _set = at.table.set();
+    if let Some(number) = known_number(&found.keys, found.room.key.as_slice()) {
+        return Ok(number);
+    }
+    let key = found.room.key.as_slice().to_vec(alloc)?;
+    let here = found.room.witness(alloc)?;
+    let number = number_witness(at.table, &mut found.keys, &mut found.witnesses, key, here)?;
     Ok(number)
 }
 
@@ -240,6 +249,7 @@ pub fn visit_all(
         witnesses: Vec::new(alloc),
         visited: Vec::new(alloc),
         kept: None,
+        room: WitnessRoom::new(alloc),
     };
     survey.go_round_all(&mut signs, &mut found)?;
     sort_visits(&mut found.visited);

@@ -1,11 +1,11 @@
 // The witness that no side of a set is free of its rest along a vertex.
-ghost use Rattle.std.specs.Prelude.{◌≢◌, All, IfOk};
+ghost use Rattle.std.specs.Prelude.{◌≡◌, ◌≢◌, All, IfOk, OnOk};
 ghost use Rattle.staat_vec.specs.Vectors.{origin};
 ghost use Rattle.staat_model.specs.Certify.{IsWitnessAt};
 ghost use Rattle.staat_model.specs.Plans.{IsStuck};
 ghost use Rattle.staat_certify.specs.Witnesses.{AreEndsAhead, AreEndsAndLeast, AreTreesAlong, StandsAmong};
 ghost use Rattle.staat_certify.specs.Visits.{KeepsTrees};
-ghost use Rattle.staat_certify.specs.WitnessListings.{IsOfTable};
+ghost use Rattle.staat_certify.specs.WitnessListings.{IsOfTable, witness_in};
 
 use crate::vantage::Vantage;
 use staat_graph::{Graph, Trees, trees_of};
@@ -47,35 +47,60 @@ pub(crate) fn renew_trees(kept: &mut Option<GraphTrees>, at: &Vantage) -> Trees
     }
 }
 
-// for each pair of parts the first pieces with which the one blocks the other
-fn arcs_between(alloc: Global, at: &Vantage, pairs: &[(u32, u32)]) -> Result<Vec<Arc>, OutOfMemory>
+/// The arcs of the witness at the vertex that was looked at last, and its key, in room that is used again.
+#[derive(Drop)]
+pub struct WitnessRoom {
+    pub outs: Vec<Arc>,
+    pub ins: Vec<Arc>,
+    pub key: Vec<u32>,
+}
+
+impl WitnessRoom {
+    /// The room, with nothing in it.
+    pub fn new(alloc: Global) -> WitnessRoom {
+        WitnessRoom {
+            outs: Vec::new(alloc),
+            ins: Vec::new(alloc),
+            key: Vec::new(alloc),
+        }
+    }
+
+    /// The witness in lists of its own.
+    pub fn witness(&self, alloc: Global) -> Result<Witness, OutOfMemory>
+        ensures { IfOk result (λ w. w ≡ witness_in self.now) }
+    {
+        Ok(Witness {
+            outs: Arcs::from_vec(self.outs.as_slice().to_vec(alloc)?),
+            ins: Arcs::from_vec(self.ins.as_slice().to_vec(alloc)?),
+        })
+    }
+}
+
+// puts down for each pair of parts the first pieces with which the one blocks the other
+fn put_arcs(arcs: &mut Vec<Arc>, at: &Vantage, pairs: &[(u32, u32)]) -> Result<(), OutOfMemory>
     requires at { StandsAmong at.now.sound.now at.now.table.now at.now.signs.now at.now.d }
     requires ahead { All (AreEndsAhead at.now.table.now at.now.d) pairs.now }
-    ensures { IfOk result (λ arcs. AreEndsAndLeast at.now.sound.now at.now.table.now at.now.d pairs.now arcs.items) }
+    ensures { OnOk result (AreEndsAndLeast at.now.sound.now at.now.table.now at.now.d pairs.now arcs.new.items) }
 {
-    let mut arcs = Vec::with_capacity(alloc, pairs.len())?;
+    arcs.clear();
     for ends in pairs {
         arcs.push(at.least_arc(*ends))?;
     }
-    Ok(arcs)
+    Ok(())
 }
 
-/// The witness that along the vertex, which has these trees, no side of the table's set is free of its rest.
-pub(crate) fn witness_here(
-    alloc: Global,
+/// Puts down the witness that along the vertex, which has these trees, no side of the table's set is free of its rest.
+pub(crate) fn put_witness(
+    room: &mut WitnessRoom,
     at: &Vantage,
     trees: &Trees,
-) -> Result<Witness, OutOfMemory>
+) -> Result<(), OutOfMemory>
     requires at { StandsAmong at.now.sound.now at.now.table.now at.now.signs.now at.now.d }
     requires along { AreTreesAlong at.now.sound.now at.now.table.now at.now.d trees.now }
-    ensures witness { IfOk result (IsWitnessAt at.now.sound.now at.now.table.now.of at.now.d) }
-    ensures arcs { IfOk result (IsOfTable at.now.table.now) }
+    ensures witness { OnOk result (IsWitnessAt at.now.sound.now at.now.table.now.of at.now.d (witness_in room.new)) }
+    ensures arcs { OnOk result (IsOfTable at.now.table.now (witness_in room.new)) }
 {
     let count = trees.count as usize;
-    let outs = arcs_between(alloc, at, &trees.outs[..count])?;
-    let ins = arcs_between(alloc, at, &trees.ins[..count])?;
-    Ok(Witness {
-        outs: Arcs::from_vec(outs),
-        ins: Arcs::from_vec(ins),
-    })
+    put_arcs(&mut room.outs, at, &trees.outs[..count])?;
+    put_arcs(&mut room.ins, at, &trees.ins[..count])
 }

@@ -75,7 +75,7 @@ returns-clause-gone c =
     let visit : Visit = record { d = c.direction.result; number = c.in_ok-number.number } in
     let place = c.direction.ensures.is ∙ c.vertex-vertex.ensures in
     let is : new ≡ old.visited.items ++ visit ∷ [] = c.in_ok-push.ensures.items ∙ ap (λ vs. vs ++ visit ∷ []) c.in_ok-number.ensures.visited in
-    gone_more parts t version old (record { keys = c.number_here.new.found.keys; witnesses = c.number_here.new.found.witnesses; visited = c.push.new.self; kept = c.number_here.new.found.kept }) r c.args.k (still_visited old.visited.items new visit is)
+    gone_more parts t version old (record { keys = c.number_here.new.found.keys; witnesses = c.number_here.new.found.witnesses; visited = c.push.new.self; kept = c.number_here.new.found.kept; room = c.number_here.new.found.room }) r c.args.k (still_visited old.visited.items new visit is)
     (λ below. record {
       kept = c.in_ok-number.ensures.kept;
       keys_are = here.keys_are;

@@ -4,7 +4,7 @@ use Rattle.staat_model.specs.declared.certificate.Arc.{Arc}
 use Rattle.staat_model.specs.Certify.{IsLeastArc}
 use Rattle.staat_pairs.specs.Tables.{IsTableArc}
 use Rattle.staat_certify.proofs.WitnessLemmas.{ends_more}
-use Rattle.staat_certify.proofs.witnesses.arcs_between.Goals as goal
+use Rattle.staat_certify.proofs.witnesses.put_arcs.Goals as goal
 
 pub loop-ends-preserved : goal.loop-ends-preserved
 loop-ends-preserved c =
