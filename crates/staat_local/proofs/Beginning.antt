@@ -61,7 +61,7 @@ module _ (parts : List Part) (t : Table) (w : PartSet) (made : WasMadeFrom parts
       let fails = subst (λ (u : PartSet). All (λ v. Loosens parts u v → ⊥) (vertices t.planes)) all (none t.planes own_planes) in
       tight_at_vertices parts t.of t.planes made.assembly made.planes two (λ v v_in. All-contains (λ v. Loosens parts t.of v → ⊥) (vertices t.planes) v fails v_in)
 
-none_loosens : (parts : List Part) (w : PartSet) (loose : Loose) → IsBeginning parts w loose → IsTight parts w → ⊥
+pub none_loosens : (parts : List Part) (w : PartSet) (loose : Loose) → IsBeginning parts w loose → IsTight parts w → ⊥
 none_loosens parts w loose b tight =
     let l = (IsFirst-in (Loosens parts w) (vertices b.planes) loose.d b.first).1 in
     tight.held l.side loose.d l.is_side l.free
