@@ -6,7 +6,8 @@ ghost use Rattle.staat_certify.specs.WitnessListings.{EachStandsOnce, AreKeys, A
 ghost use Rattle.staat_certify.specs.WitnessListings.{IsOfTable, IsWitnessListing, key_of, witness_in};
 ghost use Rattle.staat_certify.specs.Visits.{IsNamed, visited_directions};
 
-use crate::visits::{Found, Visit};
+use crate::visit_list::Visit;
+use crate::visits::Found;
 use crate::witnesses::WitnessRoom;
 use indexmap::IndexSet;
 use staat_limits::LIST_LIMIT;
@@ -144,18 +145,19 @@ pub fn listing_of(
     found: &Found,
 ) -> Result<Body, OutOfMemory>
     requires apart { EachStandsOnce found.now.witnesses.items }
-    requires named { All (IsNamed sound.now table.now.of found.now.witnesses.items) found.now.visited.items }
-    requires few { length found.now.visited.items < LIST_LIMIT }
-    ensures { IfOk result (IsWitnessListing sound.now table.now.of (visited_directions found.now.visited.items)) }
+    requires named { All (IsNamed sound.now table.now.of found.now.witnesses.items) found.now.visited }
+    requires few { length found.now.visited < LIST_LIMIT }
+    ensures { IfOk result (IsWitnessListing sound.now table.now.of (visited_directions found.now.visited)) }
 {
     let witnesses = found.witnesses.as_slice();
     let mut listing = Listing {
         names: vec![in alloc; None; witnesses.len()]?,
         witnesses: Vec::new(alloc),
-        dirs: Vec::new(alloc),
+        dirs: Vec::with_capacity(alloc, found.visited.len())?,
     };
-    for visit in &found.visited {
-        push_dir(alloc, sound, table, *visit, witnesses, &mut listing)?;
+    for k in 0..found.visited.len() {
+        let visit = found.visited.get(k);
+        push_dir(alloc, sound, table, visit, witnesses, &mut listing)?;
     }
     Ok(Body::Stuck {
         set: table.set(),
