@@ -1,17 +1,15 @@
 // The lines of a refusal: each direction with the number of its witness.
 ghost use Rattle.std.specs.Prelude.{◌≡◌, ◌<◌, ◌++◌, ◌∷◌, [], All, IfOk, IfSome, OnOk, Some, length, map, slice_get};
 ghost use Rattle.staat_model.specs.declared.certificate.Witness.{Witness as WitnessValue};
-ghost use Rattle.staat_pairs.specs.Tables.{IsTableArc, slot};
 ghost use Rattle.staat_certify.specs.WitnessListings.{EachStandsOnce, AreKeys, AreListed, AreNames, IsNumberOf};
-ghost use Rattle.staat_certify.specs.WitnessListings.{IsOfTable, IsWitnessListing, key_of, witness_in};
+ghost use Rattle.staat_certify.specs.WitnessListings.{IsOfTable, IsWitnessListing, key_of};
 ghost use Rattle.staat_certify.specs.Visits.{IsNamed, visited_directions};
 
 use crate::visit_list::Visit;
 use crate::visits::Found;
-use crate::witnesses::WitnessRoom;
 use indexmap::IndexSet;
 use staat_limits::LIST_LIMIT;
-use staat_model::{Arc, Arcs, Body, Dir, Dirs, Sound, Witness, Witnesses};
+use staat_model::{Arcs, Body, Dir, Dirs, Sound, Witness, Witnesses};
 use staat_planes::PlaneTable;
 use staat_vec::OutOfMemory;
 use std::alloc::Global;
@@ -22,28 +20,6 @@ struct Listing {
     names: Vec<Option<usize>>,
     witnesses: Vec<Witness>,
     dirs: Vec<Dir>,
-}
-
-// adds the slots of arcs to a key
-fn push_slots(key: &mut Vec<u32>, table: &PlaneTable, arcs: &[Arc]) -> Result<(), OutOfMemory>
-    requires { All (IsTableArc table.now) arcs.now }
-    ensures { OnOk result (key.new.items ≡ key.old.items ++ map (slot table.now.pieces) arcs.now) }
-{
-    for arc in arcs {
-        key.push(table.slot(*arc))?;
-    }
-    Ok(())
-}
-
-/// Puts down the key of the witness in the room.
-pub fn put_key(room: &mut WitnessRoom, table: &PlaneTable) -> Result<(), OutOfMemory>
-    requires { IsOfTable table.now (witness_in room.old) }
-    ensures key { OnOk result (room.new.key.items ≡ key_of table.now.pieces (witness_in room.old)) }
-    ensures witness { OnOk result (witness_in room.new ≡ witness_in room.old) }
-{
-    room.key.clear();
-    push_slots(&mut room.key, table, room.outs.as_slice())?;
-    push_slots(&mut room.key, table, room.ins.as_slice())
 }
 
 /// The number of the witness of this key, if it was found before.

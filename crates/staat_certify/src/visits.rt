@@ -14,7 +14,7 @@ ghost use Rattle.staat_certify.specs.Visits.{HasFound, HasGone, IsNamed, IsNumbe
 ghost use Rattle.staat_certify.specs.Visits.{KeepsTrees, NamesIfTold, visited_directions};
 ghost use Rattle.staat_certify.specs.Witnesses.{StandsAmong};
 
-use crate::listing::{known_number, number_witness, put_key};
+use crate::listing::{known_number, number_witness};
 use crate::vantage::Vantage;
 use crate::visit_list::{Visit, VisitList};
 use crate::witnesses::{GraphTrees, WitnessRoom, put_witness, renew_trees};
@@ -59,7 +59,6 @@ fn number_here(
     }
     let trees = renew_trees(&mut found.kept, at);
     put_witness(&mut found.room, at, &trees)?;
-    put_key(&mut found.room, at.table)?;
     // the slot of an arc of the table is that of no other
     let _set = at.table.set();
     if let Some(number) = known_number(&found.keys, found.room.key.as_slice()) {
