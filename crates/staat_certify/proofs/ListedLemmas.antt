@@ -26,7 +26,7 @@ use Rattle.staat_model.specs.Planes.{ArePlanes, crossings, vertices}
 use Rattle.staat_model.proofs.EndLemmas.{from_vertices}
 use Rattle.staat_model.proofs.PlaneLemmas.{NoneParallel}
 use Rattle.staat_model.proofs.VertexLemmas.{same_some}
-use Rattle.staat_certify.specs.declared.visits.Visit.{Visit}
+use Rattle.staat_certify.specs.declared.visit_list.Visit.{Visit}
 use Rattle.staat_certify.specs.Visits.{visited_directions}
 use Rattle.staat_vec.proofs.VectorLists.{length-le_from_contains}
 use Rattle.staat_model.specs.declared.certificate.Arc.{Arc}

@@ -9,7 +9,7 @@ use Rattle.std.specs.declared.cmp.Ordering.{Ordering}
 use Rattle.std.specs.declared.cmp.Ordering.TheVariants.{Less}
 use Rattle.std.proofs.lemmas.Cmp.{eq_by_cmp_equiv}
 use Rattle.std.proofs.lemmas.List.{map-append}
-use Rattle.std.proofs.lemmas.List.Elements.{All-contains, All-push, All-weaker, Contains-append_left, Contains-push}
+use Rattle.std.proofs.lemmas.List.Elements.{All-contains, All-push, All-weaker, Contains-append_cases, Contains-append_left, Contains-append_right, Contains-push}
 use Rattle.std.proofs.lemmas.List.Kept.{Any-dedup, Contains-from_dedup, IsStrictlySortedBy-dedup}
 use Rattle.std.proofs.lemmas.List.Sorted.{Contains-permutation, IsPermutation-sym}
 use Rattle.std.proofs.lemmas.Option.{get_or_from_slice_get, slice_get_within}
@@ -30,7 +30,7 @@ use Rattle.staat_model.proofs.EndLemmas.{from_vertices}
 use Rattle.staat_model.proofs.Members.{All-from_members}
 use Rattle.staat_model.proofs.PlaneLemmas.{NoneParallel}
 use Rattle.staat_pairs.specs.Tables.{AreTablePlanes, Table}
-use Rattle.staat_certify.specs.declared.visits.Visit.{Visit}
+use Rattle.staat_certify.specs.declared.visit_list.Visit.{Visit}
 use Rattle.staat_certify.specs.declared.visits.Found.{Found}
 use Rattle.staat_certify.specs.Visits.{AreStillVisited, AreVisitedBelow, HasFound, HasGone, IsNamed, IsVisitedDirection, SortsVisits, visited_directions}
 use Rattle.staat_ring.specs.declared.entry.Entry.{Entry}
@@ -101,14 +101,14 @@ module _ (planes : List V3) (version : ℕ) (visited : List Visit) (n : ℕ) (be
       is.canonical
 
 -- what has been visited is so when the vertex at the next place has been, too
-pub gone_more : (parts : List Part) (t : Table) (version : ℕ) (old new : Found) (r : Ring) (k : ℕ) → AreStillVisited old.visited.items new.visited.items
-    → (AreVisitedBelow t.planes version new.visited.items r.plane → HasFound parts t version new r.plane) → IsVisitedDirection version new.visited.items (vertex_at t.planes r k)
+pub gone_more : (parts : List Part) (t : Table) (version : ℕ) (old new : Found) (r : Ring) (k : ℕ) → AreStillVisited old.visited new.visited
+    → (AreVisitedBelow t.planes version new.visited r.plane → HasFound parts t version new r.plane) → IsVisitedDirection version new.visited (vertex_at t.planes r k)
     → HasGone parts t version old r k → HasGone parts t version new r (k + 1)
 gone_more parts t version old new r k still found here gone = record {
   so_far = found (λ i j turned lt small ne canonical. still (crossing t.planes i (record { plane = j; turned = turned })) (gone.so_far.below i j turned lt small ne canonical));
-  on = λ m lt. ⊎_elim {C = IsVisitedDirection version new.visited.items (vertex_at t.planes r m)}
+  on = λ m lt. ⊎_elim {C = IsVisitedDirection version new.visited (vertex_at t.planes r m)}
       (λ less canonical. still (vertex_at t.planes r m) (gone.on m less canonical))
-      (λ e. subst (λ k. IsVisitedDirection version new.visited.items (vertex_at t.planes r k)) (sym e) here)
+      (λ e. subst (λ k. IsVisitedDirection version new.visited (vertex_at t.planes r k)) (sym e) here)
       (lt_one_more_cases m k lt);
 }
 
@@ -120,11 +120,11 @@ gone_round parts t table r is version found n le gone = record {
   keys_are = gone.so_far.keys_are;
   each = gone.so_far.each;
   named = gone.so_far.named;
-  below = λ k j turned lt small ne. ⊎_elim {C = IsVisitedDirection version found.visited.items (crossing t.planes k (record { plane = j; turned = turned }))}
+  below = λ k j turned lt small ne. ⊎_elim {C = IsVisitedDirection version found.visited (crossing t.planes k (record { plane = j; turned = turned }))}
       (λ less. gone.so_far.below k j turned less small ne)
       (λ e.
       let (m, within, there) = crossing_there t.planes table r is j turned small (λ q. ne (q ∙ sym e)) in
-      subst (IsVisitedDirection version found.visited.items) (there ∙ ap (λ c. crossing t.planes c (record { plane = j; turned = turned })) (sym e)) (gone.on m (omega (arith, within, le))))
+      subst (IsVisitedDirection version found.visited) (there ∙ ap (λ c. crossing t.planes c (record { plane = j; turned = turned })) (sym e)) (gone.on m (omega (arith, within, le))))
       (lt_one_more_cases k r.plane lt);
 }
 
@@ -175,3 +175,16 @@ lists_all version planes old new sorts each all = record {
 -- what holds of each visit still does
 pub all_sorted : (P : Visit → Type 0) (old new : List Visit) → SortsVisits old new → All P old → All P new
 all_sorted P old new sorts each = All-from_members P new (λ x c. All-contains P old x each (sorts.each x c))
+
+-- the order in which the visits stood does not matter
+pub sorts_exchanged : (xs ys new : List Visit) → SortsVisits (xs ++ ys) new → SortsVisits (ys ++ xs) new
+sorts_exchanged xs ys new sorts = record {
+  ascending = sorts.ascending;
+  each = λ visit c. exchanged xs ys visit (sorts.each visit c);
+  all = λ v c.
+      let (x, x_in, is) = Contains-from_map (λ (v : Visit). v.d) (ys ++ xs) v c in
+      sorts.all v (subst (Contains (visited_directions (xs ++ ys))) is (Contains-map (λ (v : Visit). v.d) (xs ++ ys) x (exchanged ys xs x x_in)));
+}
+  where
+    exchanged : (xs ys : List Visit) (x : Visit) → Contains (xs ++ ys) x → Contains (ys ++ xs) x
+    exchanged xs ys x c = ⊎_elim (Contains-append_right ys xs x) (Contains-append_left ys xs x) (Contains-append_cases xs ys x c)

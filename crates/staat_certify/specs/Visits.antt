@@ -13,7 +13,7 @@ use Rattle.staat_model.specs.Plans.{IsStuck}
 use Rattle.staat_graph.specs.Graphs.{AreTrees, HasArc}
 use Rattle.staat_pairs.specs.Tables.{Table, WasMadeFrom}
 use Rattle.staat_certify.specs.declared.visits.Found.{Found}
-use Rattle.staat_certify.specs.declared.visits.Visit.{Visit}
+use Rattle.staat_certify.specs.declared.visit_list.Visit.{Visit}
 use Rattle.staat_certify.specs.declared.witnesses.GraphTrees.{GraphTrees}
 use Rattle.staat_certify.specs.WitnessListings.{AreKeys}
 use Rattle.staat_ring.specs.Rings.{Ring, crossing}
@@ -75,14 +75,14 @@ AreVisitedBelow planes version visited n = (k j : ℕ) (turned : Bool) → k < n
 pub record HasFound (parts : List Part) (t : Table) (version : ℕ) (found : Found) (n : ℕ) : Type 0 where
   pub kept : KeepsTrees t.of found.kept
   pub keys_are : AreKeys t (map (λ v. v.items) found.keys.keys) found.witnesses.items
-  pub each : All (λ visit. IsDirection version t.planes visit.d) found.visited.items
-  pub named : All (IsNamed parts t.of found.witnesses.items) found.visited.items
-  pub below : AreVisitedBelow t.planes version found.visited.items n
+  pub each : All (λ visit. IsDirection version t.planes visit.d) found.visited
+  pub named : All (IsNamed parts t.of found.witnesses.items) found.visited
+  pub below : AreVisitedBelow t.planes version found.visited n
 
 -- what has been found where the circles below r and the vertices of r at the places below k have been visited
 pub record HasGone (parts : List Part) (t : Table) (version : ℕ) (found : Found) (r : Ring) (k : ℕ) : Type 0 where
   pub so_far : HasFound parts t version found r.plane
-  pub on : (m : ℕ) → m < k → IsVisitedDirection version found.visited.items (vertex_at t.planes r m)
+  pub on : (m : ℕ) → m < k → IsVisitedDirection version found.visited (vertex_at t.planes r m)
 
 -- the new visits are some of the old ones, of each direction one, in the order of the directions
 pub record SortsVisits (old new : List Visit) : Type 0 where

@@ -6,6 +6,7 @@ pub mod laws;
 mod listing;
 mod nodes;
 mod vantage;
+mod visit_list;
 mod visits;
 mod walls;
 mod witnesses;

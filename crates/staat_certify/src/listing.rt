@@ -1,16 +1,15 @@
 // The lines of a refusal: each direction with the number of its witness.
 ghost use Rattle.std.specs.Prelude.{◌≡◌, ◌<◌, ◌++◌, ◌∷◌, [], All, IfOk, IfSome, OnOk, Some, length, map, slice_get};
 ghost use Rattle.staat_model.specs.declared.certificate.Witness.{Witness as WitnessValue};
-ghost use Rattle.staat_pairs.specs.Tables.{IsTableArc, slot};
 ghost use Rattle.staat_certify.specs.WitnessListings.{EachStandsOnce, AreKeys, AreListed, AreNames, IsNumberOf};
-ghost use Rattle.staat_certify.specs.WitnessListings.{IsOfTable, IsWitnessListing, key_of, witness_in};
+ghost use Rattle.staat_certify.specs.WitnessListings.{IsOfTable, IsWitnessListing, key_of};
 ghost use Rattle.staat_certify.specs.Visits.{IsNamed, visited_directions};
 
-use crate::visits::{Found, Visit};
-use crate::witnesses::WitnessRoom;
+use crate::visit_list::Visit;
+use crate::visits::Found;
 use indexmap::IndexSet;
 use staat_limits::LIST_LIMIT;
-use staat_model::{Arc, Arcs, Body, Dir, Dirs, Sound, Witness, Witnesses};
+use staat_model::{Arcs, Body, Dir, Dirs, Sound, Witness, Witnesses};
 use staat_planes::PlaneTable;
 use staat_vec::OutOfMemory;
 use std::alloc::Global;
@@ -21,28 +20,6 @@ struct Listing {
     names: Vec<Option<usize>>,
     witnesses: Vec<Witness>,
     dirs: Vec<Dir>,
-}
-
-// adds the slots of arcs to a key
-fn push_slots(key: &mut Vec<u32>, table: &PlaneTable, arcs: &[Arc]) -> Result<(), OutOfMemory>
-    requires { All (IsTableArc table.now) arcs.now }
-    ensures { OnOk result (key.new.items ≡ key.old.items ++ map (slot table.now.pieces) arcs.now) }
-{
-    for arc in arcs {
-        key.push(table.slot(*arc))?;
-    }
-    Ok(())
-}
-
-/// Puts down the key of the witness in the room.
-pub fn put_key(room: &mut WitnessRoom, table: &PlaneTable) -> Result<(), OutOfMemory>
-    requires { IsOfTable table.now (witness_in room.old) }
-    ensures key { OnOk result (room.new.key.items ≡ key_of table.now.pieces (witness_in room.old)) }
-    ensures witness { OnOk result (witness_in room.new ≡ witness_in room.old) }
-{
-    room.key.clear();
-    push_slots(&mut room.key, table, room.outs.as_slice())?;
-    push_slots(&mut room.key, table, room.ins.as_slice())
 }
 
 /// The number of the witness of this key, if it was found before.
@@ -144,18 +121,19 @@ pub fn listing_of(
     found: &Found,
 ) -> Result<Body, OutOfMemory>
     requires apart { EachStandsOnce found.now.witnesses.items }
-    requires named { All (IsNamed sound.now table.now.of found.now.witnesses.items) found.now.visited.items }
-    requires few { length found.now.visited.items < LIST_LIMIT }
-    ensures { IfOk result (IsWitnessListing sound.now table.now.of (visited_directions found.now.visited.items)) }
+    requires named { All (IsNamed sound.now table.now.of found.now.witnesses.items) found.now.visited }
+    requires few { length found.now.visited < LIST_LIMIT }
+    ensures { IfOk result (IsWitnessListing sound.now table.now.of (visited_directions found.now.visited)) }
 {
     let witnesses = found.witnesses.as_slice();
     let mut listing = Listing {
         names: vec![in alloc; None; witnesses.len()]?,
         witnesses: Vec::new(alloc),
-        dirs: Vec::new(alloc),
+        dirs: Vec::with_capacity(alloc, found.visited.len())?,
     };
-    for visit in &found.visited {
-        push_dir(alloc, sound, table, *visit, witnesses, &mut listing)?;
+    for k in 0..found.visited.len() {
+        let visit = found.visited.get(k);
+        push_dir(alloc, sound, table, visit, witnesses, &mut listing)?;
     }
     Ok(Body::Stuck {
         set: table.set(),

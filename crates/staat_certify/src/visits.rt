@@ -11,32 +11,26 @@ ghost use Rattle.staat_ring.specs.Belonging.{BelongTo};
 ghost use Rattle.staat_ring.specs.WholeCircles.{AreSignsAt, HaveSameFull, IsWholeCircle, vertex_at};
 ghost use Rattle.staat_certify.specs.WitnessListings.{EachStandsOnce, AreKeys};
 ghost use Rattle.staat_certify.specs.Visits.{HasFound, HasGone, IsNamed, IsNumberHere, IsSurvey, IsVisitedTo};
-ghost use Rattle.staat_certify.specs.Visits.{KeepsTrees, NamesIfTold, SortsVisits, visited_directions};
+ghost use Rattle.staat_certify.specs.Visits.{KeepsTrees, NamesIfTold, visited_directions};
 ghost use Rattle.staat_certify.specs.Witnesses.{StandsAmong};
 
-use crate::listing::{known_number, number_witness, put_key};
+use crate::listing::{known_number, number_witness};
 use crate::vantage::Vantage;
+use crate::visit_list::{Visit, VisitList};
 use crate::witnesses::{GraphTrees, WitnessRoom, put_witness, renew_trees};
 use indexmap::IndexSet;
 use staat_model::{Sound, Witness};
 use staat_planes::PlaneTable;
 use staat_ring::{Circle, CountedSigns, Vertex};
-use staat_vec::{OutOfMemory, V3};
+use staat_vec::OutOfMemory;
 use std::alloc::Global;
-
-/// A vertex that was visited, and the number of its witness among those that are found.
-#[derive(Clone, Copy)]
-pub struct Visit {
-    pub d: V3,
-    pub number: usize,
-}
 
 /// What was found: the witnesses with their keys, and the directions with the numbers of theirs.
 #[derive(Drop)]
 pub struct Found {
     pub keys: IndexSet<Vec<u32>>,
     pub witnesses: Vec<Witness>,
-    pub visited: Vec<Visit>,
+    pub visited: VisitList,
     pub kept: Option<GraphTrees>,
     pub room: WitnessRoom,
 }
@@ -58,14 +52,13 @@ fn number_here(
     ensures number { IfOk result (IsNumberHere at.now.sound.now at.now.table.now at.now.d
         (map (λ v. v.items) found.new.keys.keys) found.old.witnesses.items found.new.witnesses.items) }
     ensures kept { OnOk result (KeepsTrees at.now.table.now.of found.new.kept) }
-    ensures visited { found.new.visited.items ≡ found.old.visited.items }
+    ensures visited { found.new.visited ≡ found.old.visited }
 {
     if let Some(number) = told {
         return Ok(number);
     }
     let trees = renew_trees(&mut found.kept, at);
     put_witness(&mut found.room, at, &trees)?;
-    put_key(&mut found.room, at.table)?;
     // the slot of an arc of the table is that of no other
     let _set = at.table.set();
     if let Some(number) = known_number(&found.keys, found.room.key.as_slice()) {
@@ -210,14 +203,6 @@ impl<'a> Survey<'a> {
     }
 }
 
-// puts the visits in the order of their directions, and keeps one of each
-fn sort_visits(visited: &mut Vec<Visit>)
-    ensures { SortsVisits visited.old.items visited.new.items }
-{
-    visited.sort_unstable_by_key(|visit| visit.d);
-    visited.dedup_by_key(|visit| visit.d);
-}
-
 /// Visits all directions of the version, with their witnesses. The visits come in the order of the directions.
 ///
 /// Each vertex is visited on the circle of the least plane through it. Its witness is looked for only where other
@@ -232,9 +217,9 @@ pub fn visit_all(
     requires stuck { IsStuck sound.now table.now.of }
     ensures apart { IfOk result (λ found. EachStandsOnce found.witnesses.items) }
     ensures named { IfOk result (λ found. All (IsNamed sound.now table.now.of found.witnesses.items)
-        found.visited.items) }
+        found.visited) }
     ensures directions { IfOk result (λ found. Lists vector_cmp (IsDirection version table.now.planes)
-        (visited_directions found.visited.items)) }
+        (visited_directions found.visited)) }
 {
     let _set = table.set();
     let mut signs = CountedSigns::of(alloc, table)?;
@@ -247,11 +232,11 @@ pub fn visit_all(
     let mut found = Found {
         keys: IndexSet::new(alloc),
         witnesses: Vec::new(alloc),
-        visited: Vec::new(alloc),
+        visited: VisitList::new(alloc),
         kept: None,
         room: WitnessRoom::new(alloc),
     };
     survey.go_round_all(&mut signs, &mut found)?;
-    sort_visits(&mut found.visited);
+    found.visited.sort()?;
     Ok(found)
 }

@@ -1,11 +1,12 @@
 // The witness that no side of a set is free of its rest along a vertex.
-ghost use Rattle.std.specs.Prelude.{◌≡◌, ◌≢◌, All, IfOk, OnOk};
+ghost use Rattle.std.specs.Prelude.{◌≡◌, ◌≢◌, ◌++◌, All, IfOk, OnOk, map};
 ghost use Rattle.staat_vec.specs.Vectors.{origin};
 ghost use Rattle.staat_model.specs.Certify.{IsWitnessAt};
 ghost use Rattle.staat_model.specs.Plans.{IsStuck};
+ghost use Rattle.staat_pairs.specs.Tables.{slot};
 ghost use Rattle.staat_certify.specs.Witnesses.{AreEndsAhead, AreEndsAndLeast, AreTreesAlong, StandsAmong};
 ghost use Rattle.staat_certify.specs.Visits.{KeepsTrees};
-ghost use Rattle.staat_certify.specs.WitnessListings.{IsOfTable, witness_in};
+ghost use Rattle.staat_certify.specs.WitnessListings.{IsOfTable, key_of, witness_in};
 
 use crate::vantage::Vantage;
 use staat_graph::{Graph, Trees, trees_of};
@@ -76,20 +77,31 @@ impl WitnessRoom {
     }
 }
 
-// puts down for each pair of parts the first pieces with which the one blocks the other
-fn put_arcs(arcs: &mut Vec<Arc>, at: &Vantage, pairs: &[(u32, u32)]) -> Result<(), OutOfMemory>
+// puts down for each pair of parts the first pieces with which the one blocks the other, and adds their slots to a key
+fn put_arcs(
+    arcs: &mut Vec<Arc>,
+    key: &mut Vec<u32>,
+    at: &Vantage,
+    pairs: &[(u32, u32)],
+) -> Result<(), OutOfMemory>
     requires at { StandsAmong at.now.sound.now at.now.table.now at.now.signs.now at.now.d }
     requires ahead { All (AreEndsAhead at.now.table.now at.now.d) pairs.now }
-    ensures { OnOk result (AreEndsAndLeast at.now.sound.now at.now.table.now at.now.d pairs.now arcs.new.items) }
+    ensures arcs { OnOk result
+        (AreEndsAndLeast at.now.sound.now at.now.table.now at.now.d pairs.now arcs.new.items) }
+    ensures key { OnOk result
+        (key.new.items ≡ key.old.items ++ map (slot at.now.table.now.pieces) arcs.new.items) }
 {
     arcs.clear();
     for ends in pairs {
-        arcs.push(at.least_arc(*ends))?;
+        let arc = at.least_arc(*ends);
+        arcs.push(arc)?;
+        key.push(at.table.slot(arc))?;
     }
     Ok(())
 }
 
-/// Puts down the witness that along the vertex, which has these trees, no side of the table's set is free of its rest.
+/// Puts down the witness that along the vertex, which has these trees, no side of the table's set is free of its rest,
+/// and its key.
 pub(crate) fn put_witness(
     room: &mut WitnessRoom,
     at: &Vantage,
@@ -99,8 +111,10 @@ pub(crate) fn put_witness(
     requires along { AreTreesAlong at.now.sound.now at.now.table.now at.now.d trees.now }
     ensures witness { OnOk result (IsWitnessAt at.now.sound.now at.now.table.now.of at.now.d (witness_in room.new)) }
     ensures arcs { OnOk result (IsOfTable at.now.table.now (witness_in room.new)) }
+    ensures key { OnOk result (room.new.key.items ≡ key_of at.now.table.now.pieces (witness_in room.new)) }
 {
     let count = trees.count as usize;
-    put_arcs(&mut room.outs, at, &trees.outs[..count])?;
-    put_arcs(&mut room.ins, at, &trees.ins[..count])
+    room.key.clear();
+    put_arcs(&mut room.outs, &mut room.key, at, &trees.outs[..count])?;
+    put_arcs(&mut room.ins, &mut room.key, at, &trees.ins[..count])
 }

@@ -3,8 +3,10 @@
 
 mod decimal;
 mod number;
+mod row;
 mod spelling;
 
 pub use decimal::push_number;
 pub use number::{integer_of, natural_of};
+pub use row::{NUMBER_ROOM, ROOM, RowEnd};
 pub use spelling::number_in;

@@ -6,7 +6,7 @@ use Rattle.staat_model.specs.Outcomes.{stuck}
 use Rattle.staat_model.proofs.SetBits.{has-below}
 use Rattle.staat_model.proofs.StuckSets.{stuck_exists}
 use Rattle.staat_planes.specs.Refusals.{IsPlanesRefusal, IsTableWithin}
-use Rattle.staat_certify.specs.declared.visits.Visit.{Visit}
+use Rattle.staat_certify.specs.declared.visit_list.Visit.{Visit}
 use Rattle.staat_certify.specs.Visits.{visited_directions}
 use Rattle.staat_certify.proofs.CertificateLemmas.{none_refused}
 use Rattle.staat_certify.proofs.ListedLemmas.{few_directions, listed_end}
@@ -25,12 +25,12 @@ unreachable-requires g c = none_refused c.args.sound.now c.args.w 1024 c.in-Err-
 pub listing_of-requires-clause-few : goal.listing_of-requires-clause-few
 listing_of-requires-clause-few g c =
     let within : IsTableWithin c.args.sound.now c.args.w 1024 c.in-Ok.table = c.in-Ok.ensures in
-    let visited = c.in_ok-found-in-Ok.found.visited.items in
+    let visited = c.in_ok-found-in-Ok.found.visited in
     omega (arith, few_directions c.args.version c.in-Ok.table.planes (visited_directions visited) within.few c.in_ok-found-in-Ok.ensures.directions, length-map visited (λ (visit : Visit). visit.d))
 
 pub returns-in_ok-found-in-Ok : goal.returns-in_ok-found-in-Ok
 returns-in_ok-found-in-Ok g c =
     let within : IsTableWithin c.args.sound.now c.args.w 1024 c.in-Ok.table = c.in-Ok.ensures in
     subst (λ v. IfOk c.listing_of.result (IsBodyOf c.args.sound.now c.args.version (stuck v))) within.table.set
-    (listed_end c.args.sound.now c.args.version c.in-Ok.table.of c.in-Ok.table.planes (visited_directions c.in_ok-found-in-Ok.found.visited.items)
+    (listed_end c.args.sound.now c.args.version c.in-Ok.table.of c.in-Ok.table.planes (visited_directions c.in_ok-found-in-Ok.found.visited)
     c.listing_of.result within.table.made.planes c.in_ok-found-in-Ok.ensures.directions c.listing_of.ensures)

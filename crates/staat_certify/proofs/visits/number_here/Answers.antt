@@ -14,7 +14,7 @@ returns-in-Some-known_number-clause-number c =
       kept = λ k x at. at;
       names = record {
         witness = here;
-        witness_is = known_is t (map (λ v. v.items) c.args.found.now.keys.keys) c.args.found.now.witnesses.items here known.number c.set-set.ensures.rules c.in_ok-put_witness.ensures.arcs c.requires.keys (known.ensures ∙ ap Some (c.as_slice.ensures.value ∙ c.in_ok-put_key.ensures.key));
+        witness_is = known_is t (map (λ v. v.items) c.args.found.now.keys.keys) c.args.found.now.witnesses.items here known.number c.set-set.ensures.rules c.in_ok-put_witness.ensures.arcs c.requires.keys (known.ensures ∙ ap Some (c.as_slice.ensures.value ∙ c.in_ok-put_witness.ensures.key));
         is = c.in_ok-put_witness.ensures.witness;
       };
     }
@@ -25,5 +25,5 @@ returns-clause-number c =
     record {
       keys_are = c.in_ok-number.ensures.keys;
       kept = kept c.args.at.now.sound.now c.args.at.now.table.now.of c.args.found.now.witnesses.items c.number_witness.new.witnesses.items c.in_ok-here.here c.in_ok-number.number of;
-      names = record { witness = c.in_ok-here.here; witness_is = of.at; is = subst (IsWitnessAt c.args.at.now.sound.now c.args.at.now.table.now.of c.args.at.now.d) (sym (c.in_ok-here.ensures ∙ c.in_ok-put_key.ensures.witness)) c.in_ok-put_witness.ensures.witness };
+      names = record { witness = c.in_ok-here.here; witness_is = of.at; is = subst (IsWitnessAt c.args.at.now.sound.now c.args.at.now.table.now.of c.args.at.now.d) (sym c.in_ok-here.ensures) c.in_ok-put_witness.ensures.witness };
     }

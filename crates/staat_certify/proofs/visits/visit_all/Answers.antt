@@ -11,8 +11,8 @@ pub go_round_all-requires-clause-found : goal.go_round_all-requires-clause-found
 go_round_all-requires-clause-found c = record {
   kept = tt;
   keys_are = no_keys c.args.table.now (map (λ v. v.items) c.new.result.keys) c.new-2.result.items (ap (map (λ v. v.items)) c.new.ensures.empty) c.new-2.ensures.items;
-  each = subst (All (λ visit. IsDirection c.args.version c.args.table.now.planes visit.d)) (sym c.new-3.ensures.items) (All-nil (λ visit. IsDirection c.args.version c.args.table.now.planes visit.d));
-  named = subst (All (IsNamed c.args.sound.now c.args.table.now.of c.new-2.result.items)) (sym c.new-3.ensures.items) (All-nil (IsNamed c.args.sound.now c.args.table.now.of c.new-2.result.items));
+  each = subst (All (λ visit. IsDirection c.args.version c.args.table.now.planes visit.d)) (sym c.new-3.ensures) (All-nil (λ visit. IsDirection c.args.version c.args.table.now.planes visit.d));
+  named = subst (All (IsNamed c.args.sound.now c.args.table.now.of c.new-2.result.items)) (sym c.new-3.ensures) (All-nil (IsNamed c.args.sound.now c.args.table.now.of c.new-2.result.items));
   below = λ k j turned lt. absurd (omega arith);
 }
 
@@ -24,11 +24,11 @@ returns-clause-apart c =
 pub returns-clause-named : goal.returns-clause-named
 returns-clause-named c =
     let found = c.go_round_all.new.found in
-    all_sorted (IsNamed c.args.sound.now c.args.table.now.of found.witnesses.items) found.visited.items c.sort_visits.new.visited.items c.sort_visits.ensures c.in_ok-go_round_all.ensures.found.named
+    all_sorted (IsNamed c.args.sound.now c.args.table.now.of found.witnesses.items) found.visited c.sort.new.self c.in_ok-sort.ensures c.in_ok-go_round_all.ensures.found.named
 
 pub returns-clause-directions : goal.returns-clause-directions
 returns-clause-directions c =
     let planes = c.args.table.now.planes in
-    let visited = c.go_round_all.new.found.visited.items in
-    lists_all c.args.version planes visited c.sort_visits.new.visited.items c.sort_visits.ensures c.in_ok-go_round_all.ensures.found.each
+    let visited = c.go_round_all.new.found.visited in
+    lists_all c.args.version planes visited c.sort.new.self c.in_ok-sort.ensures c.in_ok-go_round_all.ensures.found.each
     (all_visited planes c.args.version visited (length planes) c.in_ok-go_round_all.ensures.found.below (omega arith) (planes_apart c.args.sound.now c.args.table.now.of planes c.requires.made.planes))

@@ -6,7 +6,7 @@ use Rattle.staat_model.specs.Certify.{IsDirection, NamesWitness}
 use Rattle.staat_ring.specs.WholeCircles.{AreSignsAt, stop_at}
 use Rattle.staat_ring.proofs.StopLemmas.{vertex_first}
 use Rattle.staat_ring.proofs.WholeCircles.{vertex_listed, vertex_some}
-use Rattle.staat_certify.specs.declared.visits.Visit.{Visit}
+use Rattle.staat_certify.specs.declared.visit_list.Visit.{Visit}
 use Rattle.staat_certify.specs.Visits.{IsNamed, IsVisitedDirection, NamesIfTold, visited_directions}
 use Rattle.staat_certify.proofs.WitnessLemmas.{told_here, visited_next}
 use Rattle.staat_certify.proofs.VisitLemmas.{all_more, gone_more, named_still, still_visited, visited_earlier, visited_here}
@@ -30,8 +30,8 @@ returns-then-first_entry-plane-clause-gone c =
     let e = c.first_entry.result in
     let lt : e.plane < r.plane = subst (λ k. e.plane < k) c.plane.ensures c.if-first_entry-plane.true in
     gone_more c.args.self.now.sound.now t version found found r c.args.k (λ v h. h) (λ below. c.requires.gone.so_far)
-    (subst (IsVisitedDirection version found.visited.items) (vertex_first t.planes r.plane (stop_at r c.args.k).entries e c.first_entry.ensures)
-    (visited_earlier t.planes version found.visited.items r.plane c.requires.gone.so_far.below r.plane e refl c.requires.circle.small lt))
+    (subst (IsVisitedDirection version found.visited) (vertex_first t.planes r.plane (stop_at r c.args.k).entries e c.first_entry.ensures)
+    (visited_earlier t.planes version found.visited r.plane c.requires.gone.so_far.below r.plane e refl c.requires.circle.small lt))
     c.requires.gone
 
 pub number_here-requires-clause-at : goal.number_here-requires-clause-at
@@ -68,23 +68,23 @@ returns-clause-gone c =
     let version = c.args.self.now.version in
     let r = c.args.circle.now in
     let old = c.args.found.now in
-    let new = c.push.new.self.items in
+    let new = c.push.new.self in
     let here = c.in_ok-number.ensures.number in
     let before = c.requires.gone.so_far in
     let after = c.number_here.new.found.witnesses.items in
     let visit : Visit = record { d = c.direction.result; number = c.in_ok-number.number } in
     let place = c.direction.ensures.is ∙ c.vertex-vertex.ensures in
-    let is : new ≡ old.visited.items ++ visit ∷ [] = c.in_ok-push.ensures.items ∙ ap (λ vs. vs ++ visit ∷ []) c.in_ok-number.ensures.visited in
-    gone_more parts t version old (record { keys = c.number_here.new.found.keys; witnesses = c.number_here.new.found.witnesses; visited = c.push.new.self; kept = c.number_here.new.found.kept; room = c.number_here.new.found.room }) r c.args.k (still_visited old.visited.items new visit is)
+    let is : new ≡ old.visited ++ visit ∷ [] = c.in_ok-push.ensures ∙ ap (λ vs. vs ++ visit ∷ []) c.in_ok-number.ensures.visited in
+    gone_more parts t version old (record { keys = c.number_here.new.found.keys; witnesses = c.number_here.new.found.witnesses; visited = c.push.new.self; kept = c.number_here.new.found.kept; room = c.number_here.new.found.room }) r c.args.k (still_visited old.visited new visit is)
     (λ below. record {
       kept = c.in_ok-number.ensures.kept;
       keys_are = here.keys_are;
-      each = all_more old.visited.items new visit is (λ v. IsDirection version t.planes v.d) before.each (subst (IsDirection version t.planes) (sym place) (record {
+      each = all_more old.visited new visit is (λ v. IsDirection version t.planes v.d) before.each (subst (IsDirection version t.planes) (sym place) (record {
         vertex = vertex_listed t.planes c.set-set.ensures.rules.planes r c.requires.circle c.args.k c.requires.place;
         canonical = c.requires.listed;
       }));
-      named = all_more old.visited.items new visit is (IsNamed parts t.of after) (named_still parts t.of old.witnesses.items after old.visited.items here.kept before.named) here.names;
+      named = all_more old.visited new visit is (IsNamed parts t.of after) (named_still parts t.of old.witnesses.items after old.visited here.kept before.named) here.names;
       below = below;
     })
-    (λ canonical. subst (Contains (visited_directions new)) place (visited_here old.visited.items new visit is))
+    (λ canonical. subst (Contains (visited_directions new)) place (visited_here old.visited new visit is))
     c.requires.gone

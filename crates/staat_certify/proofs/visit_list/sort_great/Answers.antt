@@ -2,7 +2,7 @@ use Rattle.std.proofs.Common.{rules}
 use Rattle.std.proofs.lemmas.Fn.{dedup_same}
 use Rattle.std.proofs.lemmas.List.Sorted.{answers_always}
 use Rattle.staat_certify.proofs.VisitLemmas.{same_direction, visits_sorted}
-use Rattle.staat_certify.proofs.visits.sort_visits.Goals as goal
+use Rattle.staat_certify.proofs.visit_list.sort_great.Goals as goal
 
 pub returns : goal.returns
 returns c =
