@@ -5,4 +5,3 @@ pub mod Holding
 pub mod Listing
 pub mod TableHolding
 pub mod Bonding
-pub mod FirstVertices

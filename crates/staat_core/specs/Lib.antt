@@ -4,4 +4,3 @@ pub mod Cores
 pub mod Listed
 pub mod TableCores
 pub mod Bonds
-pub mod LastAxis

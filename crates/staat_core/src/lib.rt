@@ -1,7 +1,6 @@
 //! Cores: a few pairs of pieces by which a set of parts is seen to be held together.
 #![tactic(auto)]
 
-mod axis;
 mod bonds;
 mod cores;
 mod decide;
@@ -13,7 +12,6 @@ mod source;
 mod table_core;
 mod table_pairs;
 
-pub use axis::served_on_axis;
 pub use cores::Core;
 pub use joins::Moving;
 pub use listed::PairList;

@@ -17,8 +17,6 @@ use Rattle.staat_model.proofs.VertexLemmas.{vertices_decide_lemma}
 use Rattle.staat_graph.proofs.Finite.{len_fewer}
 use Rattle.staat_planes.specs.declared.search.Served.{Served}
 use Rattle.staat_planes.specs.VertexSearch.{IsFirstServed}
-use Rattle.staat_core.specs.LastAxis.{last_axis}
-use Rattle.staat_core.proofs.FirstVertices.{axis_first}
 use Rattle.staat_linear.specs.declared.order.Leave.{Leave}
 use Rattle.staat_linear.specs.declared.order.Order.{Order}
 use Rattle.staat_linear.specs.declared.order.Order.TheVariants.{Whole, Locked}
@@ -49,10 +47,6 @@ served_is_leave parts w s first =
     let (planes, are) = some_planes parts w in
     let h = first planes are in
     record { planes = planes; planes_are = are; first = h.first; leaves = h.found_is.leaves; least = h.found_is.least }
-
--- the first two vertices are the last axis and its opposite
-pub axis_is_leave : (parts : List Part) (w : PartSet) (s : Served ℕ) → IsFirstServed (LetsLeave parts w) (IsLeastLeaving parts w) (last_axis ∷ negative last_axis ∷ []) s → IsLeave parts w (record { part = s.found; d = s.d })
-axis_is_leave parts w s h = served_is_leave parts w s (λ planes are. axis_first (LetsLeave parts w) (IsLeastLeaving parts w) parts w planes are (Some s) h)
 
 -- ---- the order
 

@@ -18,8 +18,6 @@ use Rattle.staat_graph.proofs.Sides.{moved_of_first, serves_of_weak, weak_of_ser
 use Rattle.staat_pairs.specs.Tables.{Table, WasMadeFrom}
 use Rattle.staat_planes.specs.declared.search.Served.{Served}
 use Rattle.staat_planes.specs.VertexSearch.{IsFirstServed}
-use Rattle.staat_core.specs.LastAxis.{last_axis}
-use Rattle.staat_core.proofs.FirstVertices.{axis_first}
 use Rattle.staat_local.specs.declared.side.Loose.{Loose}
 use Rattle.staat_local.specs.Beginnings.{HoldsBetween, IsBeginning, IsFoundIn, IsTight, Loosens}
 use Rattle.staat_local.specs.Contacts.{Starts}
@@ -50,11 +48,6 @@ module _ (parts : List Part) (t : Table) (w : PartSet) (made : WasMadeFrom parts
   served_begins s first =
       let h = first t.planes own_planes in
       subst (λ (u : PartSet). IsBeginning parts u (record { side = s.found; d = s.d })) all (record { planes = t.planes; planes_are = own_planes; first = h.first; moved = h.found_is })
-
-  -- the first two vertices are those along the last axis
-  pub axis_begins : (s : PartSet) → Loosens parts w last_axis × IsMovedSideBy Starts parts w last_axis s → IsBeginning parts t.of (record { side = s; d = last_axis })
-  axis_begins s h = served_begins (record { d = last_axis; found = s }) (λ planes are.
-      axis_first (Loosens parts w) (IsMovedSideBy Starts parts w) parts w planes are (Some (record { d = last_axis; found = s })) (record { first = inl (refl, h.0); found_is = h.1 }))
 
   pub none_is_tight : 2 ≤ set.len t.of → ((planes : List V3) → ArePlanes parts w planes → All (λ v. Loosens parts w v → ⊥) (vertices planes)) → IsTight parts t.of
   none_is_tight two none =

@@ -7,12 +7,9 @@ ghost use Rattle.staat_model.specs.{Sets.{IsNonempty, IsSide, IsSubset}, declare
 ghost use Rattle.staat_pairs.specs.Tables.{WasMadeFrom};
 ghost use Rattle.staat_plan.specs.Planning.{IsSideSearch};
 
-use crate::side_trial::{SideLook, SideTrial};
-use staat_core::served_on_axis;
+use crate::side_trial::SideTrial;
 use staat_model::{PartSet, Step};
-use staat_planes::{
-    FEW_PAIRS, PlanePairs, PlaneTable, Search, Trial, first_few, first_passing, first_vertex,
-};
+use staat_planes::{PlaneTable, Search, first_vertex, first_within};
 use staat_vec::DIRECTION;
 
 /// The step of a set of parts that is not empty and lies in the table's set: the first of the vertices of its planes
@@ -44,38 +41,17 @@ pub(crate) fn step_of(table: &PlaneTable, w: PartSet) -> Option<Step>
 /// How many pairs of planes are tried, at most, where a core passes over planes.
 const LATE_PAIRS: u32 = 4096;
 
-// The first vertex that serves, if a core decides it: none where it shows that there is none, or the first where it
-// passes over planes. What a core keeps on the stack is large, and is not to be part of the callers' frames.
-#[inline(never)]
-fn late_search(table: &PlaneTable, w: PartSet) -> Search<PartSet>
-    requires within { IsSubset w table.now.of }
-    requires some { IsNonempty w }
-    ensures { IsSideSearch table.now w result }
-{
-    let mut trial = SideTrial::new();
-    if trial.rules_out_all(table, w) {
-        return Search::Nothing;
-    }
-    first_passing(table, w, &mut trial, LATE_PAIRS)
-}
-
 /// The first of the vertices of the planes of a set of parts along which a side of it moves, if the first vertices or a
 /// core decide it. The set is not empty, and lies in the table's set. It takes no memory.
+// what a core keeps on the stack is large, and is not to be part of the callers' frames
+#[inline(never)]
 pub(crate) fn early_search(table: &PlaneTable, w: PartSet) -> Search<PartSet>
     requires within { IsSubset w table.now.of }
     requires some { IsNonempty w }
     ensures { IsSideSearch table.now w result }
 {
-    let mut look = SideLook;
-    if let Some(served) = served_on_axis(table, w, &mut look) {
-        return Search::First(served);
-    }
-    let mut pairs = PlanePairs::of(table, w);
-    match first_few(&mut pairs, table, w, &mut look, FEW_PAIRS) {
-        Search::Undecided => late_search(table, w),
-        Search::Nothing => Search::Nothing,
-        Search::First(served) => Search::First(served),
-    }
+    let mut trial = SideTrial::new();
+    first_within(table, w, &mut trial, LATE_PAIRS)
 }
 
 /// The step of the table's set of parts: the first of the vertices of its planes along which some side of the set is

@@ -10,3 +10,4 @@ pub mod Marking
 pub mod UsedPlanes
 pub mod PairSteps
 pub mod SearchSteps
+pub mod FirstVertices

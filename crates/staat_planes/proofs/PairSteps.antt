@@ -3,7 +3,7 @@ use Rattle.std.proofs.Common.{◌≡◌, ◌≢◌, ◌↔◌, inl, inr, ⊎_eli
 use Rattle.std.specs.Prelude.{IsTrue, Some, slice_get, slice_index, slice_index_or}
 use Rattle.std.proofs.Common.{length-append, pos, neg_ℤ}
 use Rattle.std.proofs.lemmas.List.{get_or_default, get_or-drop, get_or-take, length-drop, length-take-le}
-use Rattle.std.proofs.lemmas.List.Elements.{Contains-append_cases}
+use Rattle.std.proofs.lemmas.List.Elements.{Contains-append_cases, Contains-get_or}
 use Rattle.std.proofs.lemmas.Option.{get_or_from_slice_get, slice_get-get_or}
 use Rattle.staat_vec.specs.declared.vector.V3.{V3}
 use Rattle.staat_vec.specs.Primitives.{primitive}
@@ -62,9 +62,6 @@ nothing_left planes ks i j le end = λ d. crossings (slice_index_or planes (slic
 
 -- ---- the numbers at a place
 
-pub number_in : (ks : List ℕ) (i : ℕ) → i < length ks → Contains ks (slice_index ks i)
-number_in ks i lt = (i, lt, get_or_default ks i (slice_index ks i) 0 lt)
-
 pub apart_at : (planes : List V3) (ks : List ℕ) (i j : ℕ) (g h : V3) → AreTablePlanes planes → AreRisingNumbers planes ks → i < j → j < length ks
     → slice_get planes (slice_index ks i) ≡ Some g → slice_get planes (slice_index ks j) ≡ Some h → cross g h ≢ origin
 apart_at planes ks i j g h are numbers lt small eg eh = are.apart (slice_index ks i) (slice_index ks j) g h eg eh (λ e. let rise = places_rise ks i j numbers.ascending lt small in absurd (omega (arith, rise, e)))
@@ -74,7 +71,7 @@ module _ (planes : List V3) (p : PlanePairs) (place : IsPlaceIn planes p) where
   count_is = length-take-le p.count p.numbers (let room = place.room in let most = place.most in omega (arith, room, most))
 
   pub number_small : (i : ℕ) → i < p.count → slice_index p.numbers i < length planes
-  number_small i lt = subst (λ k. k < length planes) (get_or-take p.count p.numbers i 0 lt) (place.numbers.small (slice_index (numbers_of p) i) (number_in (numbers_of p) i (omega (arith, lt, count_is))))
+  number_small i lt = subst (λ k. k < length planes) (get_or-take p.count p.numbers i 0 lt) (place.numbers.small (slice_index (numbers_of p) i) (Contains-get_or (numbers_of p) i 0 (omega (arith, lt, count_is))))
 
   pub plane_used : (i : ℕ) (g : V3) → i < p.count → slice_get planes (slice_index p.numbers i) ≡ Some g → slice_get planes (slice_index (numbers_of p) i) ≡ Some g
   plane_used i g lt at = subst (λ k. slice_get planes k ≡ Some g) (sym (get_or-take p.count p.numbers i 0 lt)) at
@@ -130,7 +127,7 @@ apart_behind planes ks i j g are numbers lt eg n (k, small, at) =
     let long = length-drop j ks in
     let within : j + k < length ks = omega (arith, small, long) in
     let place : slice_index ks (j + k) ≡ n = get_or_default ks (j + k) 0 n within ∙ (sym (get_or-drop j ks k n) ∙ at) in
-    let is : slice_get planes n ≡ Some (slice_index_or planes n origin) = slice_get-get_or planes n origin (numbers.small n (subst (Contains ks) place (number_in ks (j + k) within))) in
+    let is : slice_get planes n ≡ Some (slice_index_or planes n origin) = slice_get-get_or planes n origin (numbers.small n (subst (Contains ks) place (Contains-get_or ks (j + k) 0 within))) in
     apart_at planes ks i (j + k) g (slice_index_or planes n origin) are numbers (omega (arith, lt)) within eg
     (subst (λ m. slice_get planes m ≡ Some (slice_index_or planes n origin)) (sym place) is)
 

@@ -1,12 +1,12 @@
 -- What a search over directions has found.
-use Rattle.std.proofs.Common.{◌≡◌, inl, inr, ℕ, ◌+◌, ◌*◌, ◌≤◌, arith, ap, sym, subst, ◌∙◌, refl, Bool, false, List, [], ◌∷◌, ◌++◌, length, length-append, All, Contains}
+use Rattle.std.proofs.Common.{◌≡◌, inl, inr, ℕ, ◌+◌, ◌*◌, ◌≤◌, arith, ap, sym, subst, ◌∙◌, refl, List, [], ◌∷◌, ◌++◌, length, length-append, All, Contains}
 use Rattle.std.proofs.lemmas.List.{append-nil, append_assoc}
-use Rattle.std.proofs.lemmas.List.Elements.{All-append, All-contains, All-nil}
+use Rattle.std.proofs.lemmas.List.Elements.{All-append, All-nil}
 use Rattle.staat_vec.specs.declared.vector.V3.{V3}
 use Rattle.staat_vec.specs.Lists.{IsFirst}
 use Rattle.staat_vec.specs.Vectors.{negative}
 use Rattle.staat_model.proofs.Members.{All-from_members}
-use Rattle.staat_vec.proofs.Unique.{Contains-front, Contains-later}
+use Rattle.staat_vec.proofs.ListLaws.{first_left, first_right}
 use Rattle.staat_planes.specs.declared.search.Search.{Search}
 use Rattle.staat_planes.specs.declared.search.Search.TheVariants.{First, Nothing, Undecided}
 use Rattle.staat_planes.specs.declared.search.Served.{Served}
@@ -15,15 +15,6 @@ use Rattle.staat_planes.specs.VertexSearch.{AreManyPassed, ArePassed, IsFirstSer
 module _ (serves : V3 → Type 0) where
   abbrev Not : V3 → Type 0
   Not v = serves v → ⊥
-
-  first_behind : (xs ys : List V3) (x : V3) → ((y : V3) → Contains xs y → serves y → ⊥) → IsFirst serves ys x → IsFirst serves (xs ++ ys) x
-  first_behind [] ys x none h = h
-  first_behind (y ∷ xs) ys x none h = inr (none y (Contains-front y xs), first_behind xs ys x (λ z c. none z (Contains-later y xs z c)) h)
-
-  first_before : (xs ys : List V3) (x : V3) → IsFirst serves xs x → IsFirst serves (xs ++ ys) x
-  first_before [] ys x h = absurd h
-  first_before (y ∷ xs) ys x (inl h) = inl h
-  first_before (y ∷ xs) ys x (inr h) = inr (h.0, first_before xs ys x h.1)
 
   -- a row more of which none serves
   pub row_passed : (vs left later row : List V3) → (p : ArePassed serves vs left) → left ≡ row ++ later → All Not row → ArePassed serves vs later
@@ -43,26 +34,18 @@ module _ (serves : V3 → Type 0) where
   pub none_passed : (vs : List V3) → ArePassed serves vs vs
   none_passed vs = record { before = []; is = refl; none = All-nil Not }
 
-  pub none_tried : (passes : Bool) (vs : List V3) → AreManyPassed passes serves vs vs 0
-  unfolding none_passed
-  none_tried passes vs = record { passed = none_passed vs; many = omega arith; exact = λ no. refl }
+  pub none_tried : (vs : List V3) → AreManyPassed serves vs vs 0
+  none_tried vs = record { passed = none_passed vs; many = omega arith }
 
   -- some passed over, or none, and a pair more of which neither serves
-  pub pair_tried : (passes : Bool) (vs left mid later : List V3) (d : V3) (k : ℕ) → AreManyPassed passes serves vs left k → ArePassed serves left mid → (passes ≡ false → mid ≡ left) → mid ≡ d ∷ negative d ∷ later
-      → All Not (d ∷ negative d ∷ []) → AreManyPassed passes serves vs later (k + 1)
+  pub pair_tried : (vs left mid later : List V3) (d : V3) (k : ℕ) → AreManyPassed serves vs left k → ArePassed serves left mid → mid ≡ d ∷ negative d ∷ later
+      → All Not (d ∷ negative d ∷ []) → AreManyPassed serves vs later (k + 1)
   unfolding row_passed passed_both
-  pair_tried passes vs left mid later d k tried p same e none =
+  pair_tried vs left mid later d k tried p e none =
       let one = length-append tried.passed.before p.before in
       let all = length-append (tried.passed.before ++ p.before) (d ∷ negative d ∷ []) in
-      let many = tried.many in record {
-        passed = row_passed vs mid later (d ∷ negative d ∷ []) (passed_both vs left mid tried.passed p) e none;
-        many = omega (arith, many, one, all);
-        exact = λ no.
-            let is = ap length p.is in
-            let long = length-append p.before mid in
-            let stays = ap length (same no) in
-            let told = tried.exact no in omega (arith, one, all, is, long, stays, told);
-      }
+      let many = tried.many in
+      record { passed = row_passed vs mid later (d ∷ negative d ∷ []) (passed_both vs left mid tried.passed p) e none; many = omega (arith, many, one, all) }
 
   pub all_passed : (vs left : List V3) → ArePassed serves vs left → left ≡ [] → All Not vs
   all_passed vs left p e = subst (All Not) (sym (p.is ∙ (ap (λ l. p.before ++ l) e ∙ append-nil p.before))) p.none
@@ -71,7 +54,7 @@ module _ (serves : V3 → Type 0) where
     -- the first of two directions that serves, where those before do not
     pub first_of : (vs left later : List V3) (d : V3) (s : Served F) → ArePassed serves vs left → left ≡ d ∷ negative d ∷ later → IsFirstServed serves finds (d ∷ negative d ∷ []) s → IsFirstServed serves finds vs s
     first_of vs left later d s p e h = record {
-      first = subst (λ l. IsFirst serves l s.d) (sym p.is) (first_behind p.before left s.d (λ v c. All-contains Not p.before v p.none c) (subst (λ l. IsFirst serves l s.d) (sym e) (first_before (d ∷ negative d ∷ []) later s.d h.first)));
+      first = subst (λ l. IsFirst serves l s.d) (sym p.is) (first_right serves p.before left s.d p.none (subst (λ l. IsFirst serves l s.d) (sym e) (first_left serves (d ∷ negative d ∷ []) later s.d h.first)));
       found_is = h.found_is;
     }
 
@@ -82,8 +65,8 @@ module _ (serves : V3 → Type 0) where
     unless_as Old New vs us Undecided e weaker h = weaker h
 
   -- so many directions stand there, if so many were passed
-  pub so_many : (passes : Bool) (vs us left : List V3) (pairs : ℕ) → vs ≡ us → AreManyPassed passes serves vs left pairs → 2 * pairs ≤ length us
-  so_many passes vs us left pairs e tried =
+  pub so_many : (vs us left : List V3) (pairs : ℕ) → vs ≡ us → AreManyPassed serves vs left pairs → 2 * pairs ≤ length us
+  so_many vs us left pairs e tried =
       let is = ap length tried.passed.is in
       let same = ap length e in
       let many = tried.many in omega (arith, is, same, many, length-append tried.passed.before left)

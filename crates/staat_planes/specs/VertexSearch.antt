@@ -1,10 +1,12 @@
 -- What a search over directions finds: the first that serves.
-use Rattle.std.specs.Prelude.{◌≡◌, ◌≢◌, ℕ, ◌*◌, ◌≤◌, Bool, false}
+use Rattle.std.specs.Prelude.{◌≡◌, ◌≢◌, ℕ, ◌*◌, ◌<◌, ◌≤◌}
 use Rattle.std.specs.Prelude.{List, ◌++◌, All, Option, MatchOption, length, ⊤}
 use Rattle.staat_vec.specs.declared.vector.V3.{V3}
 use Rattle.staat_vec.specs.declared.vector.TheConstants.{DIRECTION}
 use Rattle.staat_vec.specs.Lists.{IsFirst}
 use Rattle.staat_vec.specs.Vectors.{IsWithin, negative, origin}
+use Rattle.staat_model.specs.Planes.{vertices}
+use Rattle.staat_planes.specs.declared.search.TheConstants.{ALL_PAIRS}
 use Rattle.staat_planes.specs.declared.search.Search.{Search}
 use Rattle.staat_planes.specs.declared.search.Search.TheVariants.{First, Nothing, Undecided}
 use Rattle.staat_planes.specs.declared.search.Served.{Served}
@@ -49,15 +51,14 @@ pub record ArePassed (serves : V3 → Type 0) (vs left : List V3) : Type 0 where
   pub is : vs ≡ before ++ left
   pub none : NoDirectionServes serves before
 
--- those before them are the crossings of so many pairs of planes, two of each
-abbrev pub ArePairsPassed : (V3 → Type 0) → (vs left : List V3) → (pairs : ℕ) → Type 0
-ArePairsPassed serves vs left pairs = (p : ArePassed serves vs left) × (length p.before ≡ 2 * pairs)
-
--- those before them are at least two for each of so many pairs of planes, and no more if none are passed over
-pub record AreManyPassed (passes : Bool) (serves : V3 → Type 0) (vs left : List V3) (pairs : ℕ) : Type 0 where
+-- and those before them are at least two for each of so many pairs of planes
+pub record AreManyPassed (serves : V3 → Type 0) (vs left : List V3) (pairs : ℕ) : Type 0 where
   pub passed : ArePassed serves vs left
   pub many : 2 * pairs ≤ length passed.before
-  pub exact : passes ≡ false → length passed.before ≡ 2 * pairs
+
+-- the planes have two vertices for each of so many pairs, which are fewer than a table may have
+abbrev pub HasManyVertices : (pairs : ℕ) → List V3 → Type 0
+HasManyVertices pairs planes = (2 * pairs ≤ length (vertices planes)) × (pairs < ALL_PAIRS)
 
 -- ---- what is known of what is found, whatever serves
 

@@ -15,8 +15,6 @@ pub use build::tabulate;
 pub use leads::{Heading, Leads};
 pub use pairs::PlanePairs;
 pub use refusal::PlanesRefusal;
-pub use search::{
-    FEW_PAIRS, Search, Served, Trial, Tried, first_few, first_passing, first_vertex, served_at,
-};
+pub use search::{ALL_PAIRS, Search, Served, Trial, Tried, first_vertex, first_within};
 pub use steps::Steps;
 pub use table::PlaneTable;

@@ -1,5 +1,5 @@
 // The search for the first vertex of the planes of a set of parts that serves.
-ghost use Rattle.std.specs.Prelude.{◌≡◌, ◌≢◌, ◌≤◌, ◌*◌, List, ◌∷◌, [], IfSome, IsTrue, false, length, pos};
+ghost use Rattle.std.specs.Prelude.{◌≡◌, ◌≢◌, List, ◌∷◌, [], IfSome, IsTrue, pos};
 ghost use Rattle.staat_vec.specs.declared.vector.V3.{V3 as Vector};
 ghost use Rattle.staat_vec.specs.Vectors.{IsWithin, dot, negative, origin};
 ghost use Rattle.staat_model.specs.declared.assembly.Part.{Part as PartValue};
@@ -8,7 +8,7 @@ ghost use Rattle.staat_model.specs.Planes.{ArePlanes, vertices};
 ghost use Rattle.staat_model.specs.Sets.{IsSubset};
 ghost use Rattle.staat_pairs.specs.Tables.{Table, WasMadeFrom};
 ghost use Rattle.staat_planes.specs.PairOrder.{IsPlaceIn, vertices_left};
-ghost use Rattle.staat_planes.specs.VertexSearch.{AreManyPassed, ArePairsPassed, ArePassed, IfFirst, IfFound};
+ghost use Rattle.staat_planes.specs.VertexSearch.{AreManyPassed, ArePassed, HasManyVertices, IfFirst, IfFound};
 ghost use Rattle.staat_planes.specs.VertexSearch.{IsDirectionWith, IsFirstIfAny, IsFirstOfTwo, IsFirstUnless};
 
 use crate::pairs::PlanePairs;
@@ -101,13 +101,13 @@ pub trait Trial {
 }
 
 /// How many pairs of planes are tried one by one before it is asked whether no direction serves.
-pub const FEW_PAIRS: u32 = 8;
+const FEW_PAIRS: u32 = 8;
 
-// more pairs than the planes of a table have
-const ALL_PAIRS: u32 = 1_049_601;
+/// More pairs than the planes of a table have.
+pub const ALL_PAIRS: u32 = 1_049_601;
 
 // Passes over the rows of pairs whose plane has no direction that serves, from a row that begins at the place, if rows
-// are passed over at all. On a row that is not passed over nothing changes.
+// are passed over at all.
 fn pass_rows<T: Trial>(
     pairs: &mut PlanePairs,
     table: &PlaneTable,
@@ -124,8 +124,6 @@ fn pass_rows<T: Trial>(
     ensures passed { (parts : List PartValue) → WasMadeFrom parts table.now → T.knows trial.old parts
         → ArePassed (T.serves parts w) (vertices_left table.now.planes pairs.old)
         (vertices_left table.now.planes pairs.new) }
-    ensures same { passes ≡ false
-        → vertices_left table.now.planes pairs.new ≡ vertices_left table.now.planes pairs.old }
 {
     if !passes {
         return;
@@ -142,8 +140,8 @@ fn pass_rows<T: Trial>(
     }
 }
 
-/// What a trial finds at a direction or at its opposite. None exactly where neither serves.
-pub fn served_at<T: Trial>(
+// what a trial finds at a direction or at its opposite, and none exactly where neither serves
+fn served_at<T: Trial>(
     table: &PlaneTable,
     w: PartSet,
     d: V3,
@@ -166,8 +164,8 @@ pub fn served_at<T: Trial>(
     }
 }
 
-// The first of the vertices that are left that serves. It ends undecided after so many pairs of planes whose crossings
-// were tried, and the pairs stand at the next one.
+// The first of the vertices that are left that serves, where rows are passed over or none are. It ends undecided after
+// so many pairs of planes whose crossings were tried.
 fn search_from<T: Trial>(
     pairs: &mut PlanePairs,
     table: &PlaneTable,
@@ -184,7 +182,7 @@ fn search_from<T: Trial>(
     ensures knows { (parts : List PartValue) → T.knows trial.old parts → T.knows trial.new parts }
     ensures among { IfFirst result (IsDirectionWith (T.among w)) }
     ensures first { (parts : List PartValue) → WasMadeFrom parts table.now → T.knows trial.old parts
-        → IsFirstUnless (AreManyPassed passes (T.serves parts w) (vertices_left table.now.planes pairs.old)
+        → IsFirstUnless (AreManyPassed (T.serves parts w) (vertices_left table.now.planes pairs.old)
         (vertices_left table.now.planes pairs.new) limit) (T.serves parts w) (T.finds parts w)
         (vertices_left table.now.planes pairs.old) result }
 {
@@ -200,35 +198,12 @@ fn search_from<T: Trial>(
     Search::Undecided
 }
 
-/// The first of the vertices that are left that serves, and what is found there, with a limit on the pairs of planes
-/// whose crossings are tried. Where it ends undecided, the pairs stand at the next one.
+/// The first of the vertices of the planes of `w`, in pair order, that serves, and what is found there, with a limit on
+/// the pairs of planes whose crossings are tried after the first few, where the trial passes over rows of pairs.
 ///
-/// The pairs were made for this table and this set, and the trial may be asked about them.
-pub fn first_few<T: Trial>(
-    pairs: &mut PlanePairs,
-    table: &PlaneTable,
-    w: PartSet,
-    trial: &mut T,
-    limit: u32,
-) -> Search<T::Found>
-    requires place { IsPlaceIn table.now.planes pairs.old }
-    requires fits { T.fits trial.old table.now w }
-    requires within { IsSubset w table.now.of }
-    ensures place { IsPlaceIn table.now.planes pairs.new }
-    ensures fits { T.fits trial.new table.now w }
-    ensures knows { (parts : List PartValue) → T.knows trial.old parts → T.knows trial.new parts }
-    ensures among { IfFirst result (IsDirectionWith (T.among w)) }
-    ensures first { (parts : List PartValue) → WasMadeFrom parts table.now → T.knows trial.old parts
-        → IsFirstUnless (ArePairsPassed (T.serves parts w) (vertices_left table.now.planes pairs.old)
-        (vertices_left table.now.planes pairs.new) limit) (T.serves parts w) (T.finds parts w)
-        (vertices_left table.now.planes pairs.old) result }
-{
-    search_from(pairs, table, w, trial, false, limit)
-}
-
-/// The first of the vertices of the planes of `w` that serves, where the trial passes over rows of pairs, the first one
-/// too. It ends undecided after so many pairs of planes whose crossings were tried, if there are so many.
-pub fn first_passing<T: Trial>(
+/// `w` lies in the table's set, and the trial may be asked about it. The first vertices of each set are looked at before
+/// its planes are. It ends undecided only after so many pairs. It takes no memory.
+pub fn first_within<T: Trial>(
     table: &PlaneTable,
     w: PartSet,
     trial: &mut T,
@@ -241,11 +216,26 @@ pub fn first_passing<T: Trial>(
     ensures among { IfFirst result (IsDirectionWith (T.among w)) }
     ensures first { (parts : List PartValue) (planes : List Vector) → WasMadeFrom parts table.now
         → T.knows trial.old parts → ArePlanes parts w planes
-        → IsFirstUnless (2 * limit ≤ length (vertices planes)) (T.serves parts w) (T.finds parts w)
-        (vertices planes) result }
+        → IsFirstUnless (HasManyVertices limit planes) (T.serves parts w) (T.finds parts w) (vertices planes) result }
 {
+    // the first two coordinate planes cross along the last axis, and most sets come apart there
+    let axis = V3 { x: 0, y: 0, z: 1 };
+    if let Some(served) = served_at(table, w, axis, trial) {
+        return Search::First(served);
+    }
     let mut pairs = PlanePairs::of(table, w);
-    search_from(&mut pairs, table, w, trial, true, limit)
+    match search_from(&mut pairs, table, w, trial, false, FEW_PAIRS) {
+        Search::First(served) => Search::First(served),
+        Search::Nothing => Search::Nothing,
+        // most sets that are stuck are seen to be so at once, and most rows have no direction that serves
+        Search::Undecided => {
+            if trial.rules_out_all(table, w) {
+                return Search::Nothing;
+            }
+            let mut rows = PlanePairs::of(table, w);
+            search_from(&mut rows, table, w, trial, true, limit)
+        }
+    }
 }
 
 /// The first of the vertices of the planes of `w`, in pair order, that serves, and what is found there. None exactly
@@ -267,21 +257,10 @@ pub fn first_vertex<T: Trial>(
         → T.knows trial.old parts → ArePlanes parts w planes
         → IsFirstIfAny (T.serves parts w) (T.finds parts w) (vertices planes) result }
 {
-    let mut pairs = PlanePairs::of(table, w);
-    match first_few(&mut pairs, table, w, trial, FEW_PAIRS) {
+    match first_within(table, w, trial, ALL_PAIRS) {
         Search::First(served) => Some(served),
         Search::Nothing => None,
-        // most sets that are stuck are seen to be so at once, and most rows have no direction that serves
-        Search::Undecided => {
-            if trial.rules_out_all(table, w) {
-                return None;
-            }
-            match first_passing(table, w, trial, ALL_PAIRS) {
-                Search::First(served) => Some(served),
-                Search::Nothing => None,
-                // no set has so many pairs
-                Search::Undecided => None,
-            }
-        }
+        // no set has so many pairs
+        Search::Undecided => None,
     }
 }

@@ -1,17 +1,10 @@
-use Rattle.std.proofs.Common.{subst}
-use Rattle.staat_model.specs.Outcomes.{IsMovedSide, Serves}
-use Rattle.staat_planes.specs.VertexSearch.{IsFirstServed, NoDirectionServes}
+use Rattle.std.proofs.Common.{refl}
+use Rattle.std.specs.Prelude.{⊤}
+use Rattle.staat_model.specs.{Outcomes.{IsMovedSide, Serves}, Planes.vertices}
+use Rattle.staat_planes.specs.VertexSearch.{HasManyVertices}
+use Rattle.staat_planes.proofs.SearchSteps.{unless_as}
 use Rattle.staat_plan.proofs.step.early_search.Goals as goal
 
-pub returns-in-Nothing : goal.returns-in-Nothing
-returns-in-Nothing c parts planes made are =
-    subst (NoDirectionServes (Serves parts c.args.w)) (c.of-pairs.ensures.vertices parts planes made are)
-    (c.in-Nothing.ensures.first parts made tt)
-
-pub returns-in-First : goal.returns-in-First
-returns-in-First c parts planes made are =
-    subst (λ vs. IsFirstServed (Serves parts c.args.w) (IsMovedSide parts c.args.w) vs c.in-First.served)
-    (c.of-pairs.ensures.vertices parts planes made are) (c.in-First.ensures.first parts made tt)
-
-pub returns-in-Some : goal.returns-in-Some
-returns-in-Some c parts planes made are = c.in-Some.ensures.first parts planes made tt are
+pub returns : goal.returns
+returns c parts planes made are =
+    unless_as (Serves parts c.args.w) (IsMovedSide parts c.args.w) (HasManyVertices 4096 planes) ⊤ (vertices planes) (vertices planes) c.first_within.result refl (λ many. tt) (c.first_within.ensures.first parts planes made tt are)

@@ -1,4 +1,4 @@
-use Rattle.std.proofs.Common.{◌∙◌, refl, sym, subst, drop, All}
+use Rattle.std.proofs.Common.{◌∙◌, sym, subst, drop, All}
 use Rattle.std.proofs.lemmas.List.Elements.{All-weaker}
 use Rattle.staat_vec.specs.declared.vector.V3.{V3}
 use Rattle.staat_model.specs.Planes.{crossings}
@@ -13,7 +13,6 @@ returns-then-not-passes g c = record {
   fits = c.requires.fits;
   knows = λ parts knows. knows;
   passed = λ parts made knows. none_passed (g.T.Trial.serves parts c.args.w) (vertices_left c.args.table.now.planes c.args.pairs.now);
-  same = λ no. refl;
 }
 
 pub loop-k-init : goal.loop-k-init

@@ -9,7 +9,7 @@ loop-k-init g c = record {
   place = c.requires.place;
   fits = c.requires.fits;
   knows = λ parts knows. knows;
-  tried = λ parts made knows. none_tried (g.T.Trial.serves parts c.args.w) c.args.passes (vertices_left c.args.table.now.planes c.args.pairs.now);
+  tried = λ parts made knows. none_tried (g.T.Trial.serves parts c.args.w) (vertices_left c.args.table.now.planes c.args.pairs.now);
 }
 
 pub loop-k-preserved : goal.loop-k-preserved
@@ -20,8 +20,8 @@ loop-k-preserved g c = record {
   tried = λ parts made knows.
       let left = vertices_left c.args.table.now.planes in
       let known = c.loop-k.invariant.knows parts knows in
-      pair_tried (g.T.Trial.serves parts c.args.w) c.args.passes (left c.args.pairs.now) (left c.loop-k.pairs) (left c.pass_rows.new.pairs) (left c.next_crossing.new.self) c.in-Some.d c.loop-k._k
-      (c.loop-k.invariant.tried parts made knows) (c.pass_rows.ensures.passed parts made known) c.pass_rows.ensures.same c.in-Some.ensures.crossing
+      pair_tried (g.T.Trial.serves parts c.args.w) (left c.args.pairs.now) (left c.loop-k.pairs) (left c.pass_rows.new.pairs) (left c.next_crossing.new.self) c.in-Some.d c.loop-k._k
+      (c.loop-k.invariant.tried parts made knows) (c.pass_rows.ensures.passed parts made known) c.in-Some.ensures.crossing
       (c.in_default-served_at.ensures.served parts made (c.pass_rows.ensures.knows parts known));
 }
 
@@ -47,5 +47,5 @@ returns-in-Some-served_at-clause-first g c parts made knows =
 pub returns-clause-first : goal.returns-clause-first
 returns-clause-first g c parts made knows =
     let end : c.loop-k._k ≡ c.args.limit = (let a = c.loop-k-test.false in let b = c.loop-k.auto._k-end in omega (arith, a, b)) in
-    subst (AreManyPassed c.args.passes (g.T.Trial.serves parts c.args.w) (vertices_left c.args.table.now.planes c.args.pairs.now) (vertices_left c.args.table.now.planes c.loop-k.pairs)) end
+    subst (AreManyPassed (g.T.Trial.serves parts c.args.w) (vertices_left c.args.table.now.planes c.args.pairs.now) (vertices_left c.args.table.now.planes c.loop-k.pairs)) end
     (c.loop-k.invariant.tried parts made knows)

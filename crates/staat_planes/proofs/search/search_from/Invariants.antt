@@ -11,5 +11,5 @@ invariant-loop-k g l = record {
   fits : g.T.Trial.fits l.trial l.table l.w;
   knows : (parts : List Part) → g.T.Trial.knows l.initial.trial parts → g.T.Trial.knows l.trial parts;
   tried : (parts : List Part) → WasMadeFrom parts l.table → g.T.Trial.knows l.initial.trial parts
-      → AreManyPassed l.passes (g.T.Trial.serves parts l.w) (vertices_left l.table.planes l.initial.pairs) (vertices_left l.table.planes l.pairs) l._k;
+      → AreManyPassed (g.T.Trial.serves parts l.w) (vertices_left l.table.planes l.initial.pairs) (vertices_left l.table.planes l.pairs) l._k;
 }
