@@ -1,6 +1,6 @@
 -- Texts of lines, whatever the lines say: one way to cut them, and what lines lead to.
 use Rattle.std.proofs.Common.{◌≡◌, ◌++◌, ◌∷◌, ◌≤◌, ℕ, Bool, true, false, List, [], map, length, All, ap, ap₂, sym, subst, refl, ◌∙◌, append_assoc, append-nil}
-use Rattle.std.specs.Prelude.{Option, Some, None, flat_map, option_and_then}
+use Rattle.std.specs.Prelude.{IfNone, Option, Some, None, flat_map, option_and_then}
 use Rattle.std.proofs.lemmas.Grind.{flat_map-append}
 use Rattle.std.proofs.lemmas.List.Elements.{All-append, All-cons, All-head, All-nil, All-tail}
 use Rattle.staat_limits.specs.declared.limits.TheConstants.{LINE_LIMIT}
@@ -149,7 +149,7 @@ module _ {S L C : Type 0} {line_text : L → List ℕ} {InBounds : L → Type 0}
       }
 
   -- no whole text goes on with a line that can't stand there
-  pub line_wrong : (s : S) (bytes : List ℕ) → IsLine bytes → ((l : L) → IsTextOfLine line_text InBounds bytes l → step s l ≡ None) → (before : List ℕ) → Leads s before → BeginsWhole spells (before ++ bytes) → ⊥
+  line_wrong : (s : S) (bytes : List ℕ) → IsLine bytes → ((l : L) → IsTextOfLine line_text InBounds bytes l → step s l ≡ None) → (before : List ℕ) → Leads s before → BeginsWhole spells (before ++ bytes) → ⊥
   line_wrong s bytes whole none before h b =
       let x = ahead s before (bytes ++ b.more) b.whole h (subst (λ t. spells t b.whole) (append_assoc before bytes b.more) b.is) in
       go x.lines x.bounds x.is x.runs
@@ -160,6 +160,12 @@ module _ {S L C : Type 0} {line_text : L → List ℕ} {InBounds : L → Type 0}
           let fits = All-head InBounds l ls f in
           let cut = lines_once bytes (line_text l) b.more (flat_map line_text ls) whole (format.are_lines.whole l fits) e in
           none_some (ended b.whole) (sym (ap (λ o. run_by step o ls) (none l (record { text = cut.0; bounds = fits })) ∙ run_none step ls) ∙ r)
+
+  -- the same of bytes that are no line, of whatever has such states
+  pub none_follows : {T : Type 0} (state : T → S) (bytes : List ℕ) (found : Option L) → IfNone found ((l : L) → IsTextOfLine line_text InBounds bytes l → ⊥)
+      → IfNone found (IsLine bytes → (t : T) (before : List ℕ) → Leads (state t) before → BeginsWhole spells (before ++ bytes) → ⊥)
+  none_follows state bytes None none = λ whole t. line_wrong (state t) bytes whole (λ l is. absurd (none l is))
+  none_follows state bytes (Some l) none = none
 
   -- whether the line was taken
   pub takes_line : (s t : S) (bytes : List ℕ) (l : L) (b : Bool) → IsTextOfLine line_text InBounds bytes l → MakesState (step s l) b t → IsLine bytes → TakesLine spells (Leads s) (Leads t) bytes b

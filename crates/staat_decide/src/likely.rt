@@ -151,25 +151,16 @@ fn finer(first: Option<Leaving>, second: Option<Leaving>) -> Option<Leaving>
     }
 }
 
-// how the direction of the step before takes w apart, if it is a likely one
-fn leaving_as_before(
-    alloc: Global,
-    parts: &[Part],
-    asked: &[AskedRows],
-    w: &[u32],
-    before: V3,
-) -> Result<Option<Leaving>, OutOfMemory>
-    requires asked { All (AreAskedRows parts.now) asked.now }
-    requires members { All (λ p. p < length parts.now) w.now }
-    requires ascending { IsStrictlySortedBy nat_cmp w.now }
-    ensures { IfOk result (λ answer. IfSome answer (IsLeaving parts.now w.now)) }
+// the place of the direction among those asked, if it is one of them
+fn place_of(asked: &[AskedRows], d: V3) -> Option<usize>
+    ensures { IfSome result (λ k. k < length asked.now) }
 {
-    for one in asked {
-        if is_same(one.d, before) {
-            return leaving_along(alloc, parts, one, w);
+    for (k, one) in asked.iter().enumerate() {
+        if is_same(one.d, d) {
+            return Some(k);
         }
     }
-    Ok(None)
+    None
 }
 
 // whether no other direction need be looked at: all parts leave one by one, or there is a way, and the axes are done
@@ -192,7 +183,10 @@ pub fn likely_leaving(
     requires ascending { IsStrictlySortedBy nat_cmp w.now }
     ensures { IfOk result (λ answer. IfSome answer (IsLeaving parts.now w.now)) }
 {
-    let mut best = leaving_as_before(alloc, parts, asked, w, before)?;
+    let mut best = match place_of(asked, before) {
+        None => None,
+        Some(k) => leaving_along(alloc, parts, &asked[k], w)?,
+    };
     for (k, one) in asked.iter().enumerate() {
         if is_fine(&best, w.len(), k) {
             return Ok(best);

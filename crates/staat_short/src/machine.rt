@@ -3,7 +3,7 @@ ghost use Rattle.std.specs.Prelude.{◌≡◌, ℕ, IfOk, option_map};
 ghost use Rattle.staat_cert.specs.TextLines.{MakesState};
 ghost use Rattle.staat_short.specs.Fronts.{after_end, after_kind, after_parts, after_stuck, after_title, complete};
 ghost use Rattle.staat_short.specs.Fronts.{planning, short_answer};
-ghost use Rattle.staat_short.specs.ShortStanding.{EndsGroup, TakesShortLine};
+ghost use Rattle.staat_short.specs.ShortStanding.{EndsGroup, IsShortLineText, TakesShortLine};
 ghost use Rattle.staat_short.specs.ShortTexts.{IsShortTextOf};
 ghost use Rattle.staat_short.specs.ShortViews.{HasTakenShort, front_of, holding_of};
 
@@ -184,23 +184,22 @@ fn take_line(alloc: Global, stage: &mut Stage, line: ShortLine) -> Result<bool, 
 }
 
 impl TextStage for Stage {
+    type Line = ShortLine;
+
     type Whole = ShortCertificate;
+
+    ghost says = { IsShortLineText };
 
     ghost spells = { IsShortTextOf };
 
     ghost has_taken = { HasTakenShort };
 
-    fn take(
-        &mut self,
-        alloc: Global,
-        numbers: &mut Vec<i128>,
-        line: &[u8],
-    ) -> Result<bool, AllocError> {
-        let found = line_of(numbers, line)?;
-        match found {
-            None => Ok(false),
-            Some(said) => take_line(alloc, self, said),
-        }
+    fn line_of(numbers: &mut Vec<i128>, bytes: &[u8]) -> Result<Option<ShortLine>, AllocError> {
+        line_of(numbers, bytes)
+    }
+
+    fn take_line(&mut self, alloc: Global, said: ShortLine) -> Result<bool, AllocError> {
+        take_line(alloc, self, said)
     }
 
     fn is_whole(&self) -> bool {

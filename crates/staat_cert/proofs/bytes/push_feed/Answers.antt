@@ -13,10 +13,10 @@ returns-then-is_whole-clause-read g c = λ text h.
 pub returns-then-taken-clause-read : goal.returns-then-taken-clause-read
 returns-then-taken-clause-read g c = λ text h.
     let items = c.clear.ensures.items in
-    rw items (taken_there g.S.TextStage.spells _ _ c.args.progress.now.line.items c.as_slice.result.now _ _ text c.in_ok-taken.ensures
-    (c.as_slice.ensures.value ∙ c.in_ok-push.ensures.items) (h.good c.if-progress.false) _ _ c.if-progress.false c.if-taken.true refl)
+    rw items (taken_there g.S.TextStage.spells _ _ c.args.progress.now.line.items c.as_slice-line.result.now _ _ text c.in_ok-taken.ensures
+    (c.as_slice-line.ensures.value ∙ c.in_ok-push.ensures.items) (h.good c.if-progress.false) _ _ c.if-progress.false c.if-taken.true refl)
 
 pub returns-else-taken-clause-read : goal.returns-else-taken-clause-read
 returns-else-taken-clause-read g c = λ text h.
-    refused_there g.S.TextStage.spells _ _ c.args.progress.now.line.items c.as_slice.result.now _ _ text c.in_ok-taken.ensures
-    (c.as_slice.ensures.value ∙ c.in_ok-push.ensures.items) (h.good c.if-progress.false) _ c.if-taken.false
+    refused_there g.S.TextStage.spells _ _ c.args.progress.now.line.items c.as_slice-line.result.now _ _ text c.in_ok-taken.ensures
+    (c.as_slice-line.ensures.value ∙ c.in_ok-push.ensures.items) (h.good c.if-progress.false) _ c.if-taken.false

@@ -3,9 +3,15 @@ use Rattle.std.specs.Prelude.{IfSome, Option}
 use Rattle.staat_decide.specs.declared.decision.Leaving.{Leaving}
 use Rattle.staat_decide.specs.Decided.{IsLeaving}
 use Rattle.staat_decide.proofs.likely.likely_leaving.Goals as goal
+use Rattle.staat_decide.proofs.likely.likely_leaving.Goals.{in-None, in-Some+in_ok-best-in-Some}
 
 pub loop-k-init : goal.loop-k-init
-loop-k-init c = c.in_ok-best.ensures
+loop-k-init c =
+    let Serves : Option Leaving → Type 0 = λ answer. IfSome answer (IsLeaving c.args.parts.now c.args.w.now) in
+    elim c.match-place_of.branch [
+      | in-None w ↦ subst Serves (sym w.best-is) tt
+      | in-Some+in_ok-best-in-Some w ↦ subst Serves (sym w.best-is) w.in_ok-best-in-Some.ensures
+    ]
 
 pub returns-then-is_fine : goal.returns-then-is_fine
 returns-then-is_fine c = c.loop-k.invariant
