@@ -5,26 +5,6 @@
 //! given to a function: so little is to be proved of a test.
 #![tactic(auto)]
 
-#[cfg(test)]
-mod certificates;
-#[cfg(test)]
-mod comparing;
-#[cfg(test)]
-mod failing_reads;
-#[cfg(test)]
-mod inputs;
-#[cfg(test)]
-mod judging;
-#[cfg(test)]
-mod refusals;
-#[cfg(test)]
-mod replies;
 pub mod sameness;
 #[cfg(test)]
-mod shelves;
-#[cfg(test)]
-mod short_texts;
-#[cfg(test)]
-mod texts;
-#[cfg(test)]
-mod writing;
+mod tests;

@@ -1,7 +1,7 @@
 // Texts and numbers that no command reaches.
 
-use crate::comparing::{same_bytes, same_count, same_truth};
-use crate::inputs::name;
+use crate::tests::comparing::{same_bytes, same_count, same_truth};
+use crate::tests::inputs::name;
 use staat_fault::laws::{memory_line, usage_line, write_line};
 use staat_fault::{Fault, fault_line, status_of};
 use staat_graph::Graph;

@@ -1,7 +1,7 @@
 // Shelves and sinks: whole files and whole texts, where calls fail and where they do not.
 
-use crate::comparing::{same_bytes, same_count, same_text, same_truth, text_of};
-use crate::inputs::{bytes, name};
+use crate::tests::comparing::{same_bytes, same_count, same_text, same_truth, text_of};
+use crate::tests::inputs::{bytes, name};
 use staat_edge::{
     Calls, DiskShelf, Failed, Files, MemoryShelf, MemorySink, ReadRefusal, Shelf, Sink, StreamSink,
     read_whole, write_whole,

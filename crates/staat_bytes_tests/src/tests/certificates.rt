@@ -1,7 +1,7 @@
 // Certificates that are read and written again, and a reader that was fed too much. Which texts are refused, and with
 // what line, stands in tests/texts-of-certificates.txt.
 
-use crate::comparing::{same_answer, same_bytes, shows};
+use crate::tests::comparing::{same_answer, same_bytes, shows};
 use staat_cert::{CertReader, CertRefusal, cert_text, read_cert};
 use std::alloc::Global;
 use std::process::Abort;

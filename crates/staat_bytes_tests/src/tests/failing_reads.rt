@@ -1,8 +1,8 @@
 // Files that fail in mid-stream. What a call says for words and files stands in the transcripts of tests/.
 
-use crate::comparing::{same_count, same_text};
-use crate::inputs::words;
-use crate::replies::{VALID, said, says};
+use crate::tests::comparing::{same_count, same_text};
+use crate::tests::inputs::words;
+use crate::tests::replies::{VALID, said, says};
 use std::alloc::Global;
 use std::process::Abort;
 

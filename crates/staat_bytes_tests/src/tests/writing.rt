@@ -1,8 +1,8 @@
 // What out and err hold when one of them fails, at each byte. The whole answers stand in the transcripts of tests/.
 
-use crate::comparing::{same_count, same_text};
-use crate::replies::{VALID, reply, shelf, sink};
-use crate::shelves::NEVER;
+use crate::tests::comparing::{same_count, same_text};
+use crate::tests::replies::{VALID, reply, shelf, sink};
+use crate::tests::shelves::NEVER;
 use std::alloc::Global;
 use std::process::Abort;
 

@@ -1,6 +1,6 @@
 // The texts of short certificates: those that are read and written again, and those that are refused.
 
-use crate::comparing::{same_answer, same_count, same_text, shows, text_of};
+use crate::tests::comparing::{same_answer, same_count, same_text, shows, text_of};
 use staat_cert::CertRefusal;
 use staat_short::{ShortAnswer, ShortCertificate, ShortReader, read_short, short_text};
 use std::alloc::Global;

@@ -1,8 +1,8 @@
 // The call `staat` over files and sinks in memory.
 
-use crate::comparing::same_text;
-use crate::inputs::{bytes, name, words};
-use crate::shelves::{NEVER, calls};
+use crate::tests::comparing::same_text;
+use crate::tests::inputs::{bytes, name, words};
+use crate::tests::shelves::{NEVER, calls};
 use staat_edge::{Files, MemoryShelf, MemorySink};
 use staat_top::staat;
 use staat_vec::{Bytes, Name};

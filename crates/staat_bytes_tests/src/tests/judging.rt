@@ -1,7 +1,7 @@
 // What `check` says of certificates that come in small pieces. What it says of whole ones stands in tests/check.txt.
 
-use crate::replies::{VALID, says};
-use crate::shelves::NEVER;
+use crate::tests::replies::{VALID, says};
+use crate::tests::shelves::NEVER;
 use std::alloc::Global;
 use std::process::Abort;
 

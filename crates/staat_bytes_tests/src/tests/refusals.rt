@@ -1,7 +1,7 @@
 // The texts of refusals, which `staat` does not print: its lines are those of faults.
 
-use crate::comparing::shows;
-use crate::inputs::name;
+use crate::tests::comparing::shows;
+use crate::tests::inputs::name;
 use staat_cert::CertRefusal;
 use staat_edge::ReadRefusal;
 use staat_manifest::ManifestRefusal;
