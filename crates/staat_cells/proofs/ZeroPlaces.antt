@@ -16,7 +16,7 @@ use Rattle.staat_cells.specs.Packing.{incidence_of}
 use Rattle.staat_vec.proofs.ListLaws.{append_nothing, only_one}
 use Rattle.std.proofs.lemmas.List.Elements.{Contains-get_or}
 use Rattle.staat_vec.proofs.Unique.{Contains-cases, Contains-front, Contains-later, Contains-nothing}
-use Rattle.staat_cells.specs.Stages.{IsBesideIncidence, place_from}
+use Rattle.staat_cells.specs.Stages.{IsBesideIncidence}
 use Rattle.staat_cells.proofs.Growing.{Below}
 
 -- ---- the zeros, one sign after another
@@ -227,34 +227,25 @@ zero_sign_there planes v ks j is listed =
 
 -- ---- all planes through the vertex
 
-place_small : (n i : ℕ) (back : Bool) → i < n → place_from n i back < n
-place_small n i true lt = omega arith
-place_small n i false lt = lt
+-- the incidence is on the plane at the i-th of the places of zeros
+abbrev pub IsPassed : List V3 → V3 → V3 → ℕ → List ℕ → Incidence → ℕ → Type 0
+IsPassed planes v m k ks x i = IsBesideIncidence (get_or planes (get_or ks i 0) origin ∷ []) planes v m k x
 
-place_twice : (n i : ℕ) (back : Bool) → i < n → place_from n (place_from n i back) back ≡ i
-place_twice n i true lt = omega arith
-place_twice n i false lt = refl
-
--- the incidence is on the plane at the i-th of the places of zeros, from either end on
-abbrev pub IsPassed : List V3 → V3 → V3 → ℕ → List ℕ → Bool → Incidence → ℕ → Type 0
-IsPassed planes v m k ks back x i =
-    IsBesideIncidence (get_or planes (get_or ks (place_from (length ks) i back) 0) origin ∷ []) planes v m k x
-
-pub all_passed : (planes : List V3) (v m : V3) (k : ℕ) (ks : List ℕ) (back : Bool) (i : ℕ) (x : Incidence) → i ≡ length ks
+pub all_passed : (planes : List V3) (v m : V3) (k : ℕ) (ks : List ℕ) (i : ℕ) (x : Incidence) → i ≡ length ks
     → ks ≡ zero_places 0 (signs_of planes v)
-    → Below (IsPassed planes v m k ks back x) i ↔ IsBesideIncidence planes planes v m k x
-all_passed planes v m k ks back i x end is = (from, to)
+    → Below (IsPassed planes v m k ks x) i ↔ IsBesideIncidence planes planes v m k x
+all_passed planes v m k ks i x end is = (from, to)
   where
-    from : Below (IsPassed planes v m k ks back x) i → IsBesideIncidence planes planes v m k x
+    from : Below (IsPassed planes v m k ks x) i → IsBesideIncidence planes planes v m k x
     from (j, lt, b) =
         let o = b.beside in
-        let z = get_or ks (place_from (length ks) j back) 0 in
-        let z_in = Contains-get_or ks (place_from (length ks) j back) 0 (place_small (length ks) j back (omega (arith, lt, end))) in
+        let z = get_or ks j 0 in
+        let z_in = Contains-get_or ks j 0 (omega (arith, lt, end)) in
         let c_in = subst (Contains planes) (sym (only_one (get_or planes z origin) o.c o.c_in))
         (Contains-get_or planes z origin (zero_place planes v ks z is z_in)) in
         record { signs = b.signs; beside = record { c = o.c; c_in = c_in; on = o.on; towards = o.towards }; is = b.is }
 
-    to : IsBesideIncidence planes planes v m k x → Below (IsPassed planes v m k ks back x) i
+    to : IsBesideIncidence planes planes v m k x → Below (IsPassed planes v m k ks x) i
     to b =
         let o = b.beside in
         let (p, lt, at) = o.c_in in
@@ -264,11 +255,10 @@ all_passed planes v m k ks back i x end is = (from, to)
         let long = length-map planes (λ n. sign (dot n v)) in
         let listed = zero_listed (signs_of planes v) 0 p Neg (omega (arith, lt, long)) (ap is_zero value) in
         let (q, below, there) = subst (Contains ks) (let e : 0 + p ≡ p = omega arith in e) (subst (λ zs. Contains zs (0 + p)) (sym is) listed) in
-        let plane : get_or planes (get_or ks (place_from (length ks) (place_from (length ks) q back) back) 0) origin ≡ o.c =
-        ap (λ j. get_or planes (get_or ks j 0) origin) (place_twice (length ks) q back below)
-        ∙ ap (λ j. get_or planes j origin) (get_or_default ks q 0 p below ∙ there) ∙ here in (
-          place_from (length ks) q back,
-          (let small = place_small (length ks) q back below in omega (arith, small, end)),
+        let plane : get_or planes (get_or ks q 0) origin ≡ o.c =
+        ap (λ j. get_or planes j origin) (get_or_default ks q 0 p below ∙ there) ∙ here in (
+          q,
+          omega (arith, below, end),
           record {
             signs = b.signs;
             beside = record { c = o.c; c_in = subst (λ g. Contains (g ∷ []) o.c) (sym plane) (Contains-front o.c []); on = o.on; towards = o.towards };

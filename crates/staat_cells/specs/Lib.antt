@@ -1,6 +1,5 @@
 pub mod Beside
 pub mod Packing
-pub mod Mirrors
 pub mod Compositions
 pub mod Stages
 pub mod ZeroSigns

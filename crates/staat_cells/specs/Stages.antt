@@ -86,10 +86,6 @@ pub record IsAxisOff (v m : V3) : Type 0 where
   pub axis : Contains axes m
   pub off : dot m v ≢ pos 0
 
--- the place of the i-th of so many, counted from the end or from the beginning
-abbrev pub place_from : ℕ → ℕ → Bool → ℕ
-place_from count i back = if back then count - 1 - i else i
-
 -- the list has grown by what has P
 abbrev pub GrewByAll : (Incidence → Type 0) → List Incidence → List Incidence → Type 0
 GrewByAll P old new = (x : Incidence) → Contains new x ↔ (Contains old x ⊎ P x)

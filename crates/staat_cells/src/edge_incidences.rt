@@ -10,7 +10,7 @@ ghost use Rattle.staat_cells.specs.ZeroSigns.{zero_places};
 ghost use Rattle.staat_cells.specs.Compositions.{entry_of};
 ghost use Rattle.staat_cells.specs.Packing.{incidence_cmp, incidence_of};
 ghost use Rattle.staat_cells.specs.Stages.{GrewByAll, HaveSigns, IsAxisOff, IsBesideIncidence, IsEdgeIncidence};
-ghost use Rattle.staat_cells.specs.Stages.{IsIncidence, place_from};
+ghost use Rattle.staat_cells.specs.Stages.{IsIncidence};
 
 use crate::cell::Cell;
 use crate::incidence::Incidence;
@@ -60,23 +60,13 @@ fn push_at(
     Ok(())
 }
 
-// the place of the i-th of so many, counted from the end or from the beginning
-fn place_from(count: usize, i: usize, back: bool) -> usize
-    requires { i < count }
-    ensures is { result ≡ place_from count i back }
-    ensures small { result < count }
-{
-    if back { count - 1 - i } else { i }
-}
-
-// adds the incidences of a vertex on all planes through it, from the last one on or from the first one on
+// adds the incidences of a vertex on all planes through it
 fn push_all(
     planes: &[Normal],
     point: &Cell,
     zeros: &[usize],
     base: Incidence,
     m: V3,
-    back: bool,
     incidences: &mut Vec<Incidence>,
 ) -> Result<(), OutOfMemory>
     requires few { length planes.now ≤ 256 }
@@ -88,21 +78,18 @@ fn push_all(
         incidences.old.items incidences.new.items) }
 {
     for i in 0..zeros.len() {
-        let j = zeros[place_from(zeros.len(), i, back)];
-        push_at(planes, point, zeros, base, j, m, incidences)?;
+        push_at(planes, point, zeros, base, zeros[i], m, incidences)?;
     }
     Ok(())
 }
 
-/// Adds the incidences of a vertex, with its number, on its planes from the last one on or from the first one on: so
-/// those of the opposite vertex are added in the opposite order.
+// adds the incidences of a vertex, with its number
 fn push_edge_incidences(
     alloc: Global,
     planes: &[Normal],
     point: &Cell,
     own: Incidence,
     k: usize,
-    back: bool,
     incidences: &mut Vec<Incidence>,
 ) -> Result<(), OutOfMemory>
     requires planes { AreTablePlanes planes.now }
@@ -116,7 +103,7 @@ fn push_edge_incidences(
     let base = Incidence { of: k, ..own };
     let zeros = zeros_of(alloc, point.signs.as_slice())?;
     let m = axis_off(point.d);
-    push_all(planes, point, &zeros, base, m, back, incidences)
+    push_all(planes, point, &zeros, base, m, incidences)
 }
 
 /// The incidences of vertices towards the edges that end there, in their order, from those with the signs of the
@@ -136,8 +123,7 @@ pub(crate) fn edge_incidences(
 {
     let mut incidences = Vec::with_capacity(alloc, points.len().saturating_mul(4))?;
     for k in 0..points.len() {
-        let back = k >= points.len() / 2;
-        push_edge_incidences(alloc, planes, &points[k], own[k], k, back, &mut incidences)?;
+        push_edge_incidences(alloc, planes, &points[k], own[k], k, &mut incidences)?;
     }
-    in_order(incidences)
+    Ok(in_order(incidences))
 }

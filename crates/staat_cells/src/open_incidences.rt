@@ -40,5 +40,5 @@ pub(crate) fn open_incidences(
     for k in 0..edges.len() {
         push_both(own[k], k, &mut incidences)?;
     }
-    in_order(incidences)
+    Ok(in_order(incidences))
 }

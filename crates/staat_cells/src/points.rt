@@ -70,7 +70,7 @@ fn own_incidences(alloc: Global, cells: &[Cell]) -> Result<Vec<Incidence>, OutOf
     for k in 0..cells.len() {
         incidences.push(incidence_of(cells[k].signs.as_slice(), k))?;
     }
-    in_order(incidences)
+    Ok(in_order(incidences))
 }
 
 // a cell once more

@@ -1,6 +1,5 @@
 use Rattle.std.proofs.Common.{◌≡◌, [], arith, length, map, subst, sym, Contains}
 use Rattle.std.proofs.lemmas.List.{length-map}
-use Rattle.std.proofs.lemmas.Result.{IfOk-weaker}
 use Rattle.staat_vec.specs.Lists.{Lists}
 use Rattle.staat_model.specs.declared.tree.Kind.TheVariants.{Edge}
 use Rattle.staat_model.specs.Cells.{CellEntry, signs_of}
@@ -59,9 +58,7 @@ returns c =
     let cells = map entry_of c.args.points.now in
     let all : c.loop-k.k ≡ length cells =
     omega (arith, c.loop-k-test.false, c.loop-k.auto.k-end, length-map c.args.points.now entry_of) in
-    IfOk-weaker c.in_order.result (λ sorted. Lists incidence_cmp (Contains c.loop-k.incidences.items) sorted.items)
-    (λ sorted. Lists incidence_cmp (IsIncidence planes Edge cells) sorted.items)
-    (λ sorted. sorted_all (IsIncidence planes Edge cells) (IsEdgeAt planes cells) c.loop-k.incidences.items sorted.items c.loop-k.k
+    sorted_all (IsIncidence planes Edge cells) (IsEdgeAt planes cells) c.loop-k.incidences.items c.in_order.result.items c.loop-k.k
     c.loop-k.invariant (λ x. edges_all cells c.loop-k.k all x planes
-    (λ k lt. sym (point_in planes c.requires.planes cells c.requires.points k lt).1)))
+    (λ k lt. sym (point_in planes c.requires.planes cells c.requires.points k lt).1))
     c.in_order.ensures

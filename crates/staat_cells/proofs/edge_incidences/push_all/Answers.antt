@@ -9,10 +9,10 @@ use Rattle.staat_cells.proofs.ZeroPlaces.{IsPassed, all_passed}
 use Rattle.staat_cells.proofs.edge_incidences.push_all.Goals as goal
 
 pub loop-i-init : goal.loop-i-init
-loop-i-init c = λ x. adds_nothing (none_below (IsPassed c.args.planes.now c.args.point.now.d c.args.m c.args.base.of c.args.zeros.now c.args.back x))
+loop-i-init c = λ x. adds_nothing (none_below (IsPassed c.args.planes.now c.args.point.now.d c.args.m c.args.base.of c.args.zeros.now x))
 
 pub push_at-requires-clause-listed : goal.push_at-requires-clause-listed
-push_at-requires-clause-listed c = Contains-get_or c.args.zeros.now c.place_from.result 0 c.place_from.ensures.small
+push_at-requires-clause-listed c = Contains-get_or c.args.zeros.now c.loop-i.i 0 c.loop-i-test.true
 
 pub loop-i-preserved : goal.loop-i-preserved
 loop-i-preserved c =
@@ -20,13 +20,11 @@ loop-i-preserved c =
     let v = c.args.point.now.d in
     let k = c.args.base.of in
     let zeros = c.args.zeros.now in
-    let pushed = subst (λ n. GrewByAll (IsBesideIncidence (get_or planes (get_or zeros n 0) origin ∷ []) planes v c.args.m k)
-    c.loop-i.incidences.items c.push_at.new.incidences.items) c.place_from.ensures.is c.in_ok-push_at.ensures in
-    λ x. grown_more (IsPassed planes v c.args.m k zeros c.args.back x) c.loop-i.i (c.loop-i.invariant x) (pushed x)
+    λ x. grown_more (IsPassed planes v c.args.m k zeros x) c.loop-i.i (c.loop-i.invariant x) (c.in_ok-push_at.ensures x)
 
 pub returns : goal.returns
 returns c =
     let end : c.loop-i.i ≡ length c.args.zeros.now = omega (arith, c.loop-i-test.false, c.loop-i.auto.i-end) in
     λ x. grown_same (c.loop-i.invariant x)
-    (all_passed c.args.planes.now c.args.point.now.d c.args.m c.args.base.of c.args.zeros.now c.args.back c.loop-i.i x end
+    (all_passed c.args.planes.now c.args.point.now.d c.args.m c.args.base.of c.args.zeros.now c.loop-i.i x end
     (c.requires.zeros ∙ ap (zero_places 0) c.requires.signs))

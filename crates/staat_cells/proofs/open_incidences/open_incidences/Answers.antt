@@ -1,6 +1,5 @@
 use Rattle.std.proofs.Common.{◌≡◌, [], arith, length, map, subst, sym, Contains}
 use Rattle.std.proofs.lemmas.List.{length-map}
-use Rattle.std.proofs.lemmas.Result.{IfOk-weaker}
 use Rattle.staat_vec.specs.Lists.{Lists}
 use Rattle.staat_vec.specs.declared.vector.Sign.TheVariants.{Neg, Pos}
 use Rattle.staat_cells.specs.Beside.{filled}
@@ -33,8 +32,6 @@ returns c =
     let cells = map entry_of c.args.edges.now in
     let all : c.loop-k.k ≡ length cells =
     omega (arith, c.loop-k-test.false, c.loop-k.auto.k-end, length-map c.args.edges.now entry_of) in
-    IfOk-weaker c.in_order.result (λ sorted. Lists incidence_cmp (Contains c.loop-k.incidences.items) sorted.items)
-    (λ sorted. Lists incidence_cmp (IsFilledIncidence cells) sorted.items)
-    (λ sorted. sorted_all (IsFilledIncidence cells) (IsFilledAt cells) c.loop-k.incidences.items sorted.items c.loop-k.k
-    c.loop-k.invariant (filled_all cells c.loop-k.k all))
+    sorted_all (IsFilledIncidence cells) (IsFilledAt cells) c.loop-k.incidences.items c.in_order.result.items c.loop-k.k
+    c.loop-k.invariant (filled_all cells c.loop-k.k all)
     c.in_order.ensures

@@ -1,6 +1,5 @@
 use Rattle.std.proofs.Common.{◌≡◌, ◌∙◌, ap, arith, subst, sym, ◌++◌, ◌∷◌, [], length, map, Contains}
 use Rattle.std.proofs.lemmas.List.{length-map}
-use Rattle.std.proofs.lemmas.Result.{IfOk-weaker}
 use Rattle.staat_vec.specs.Lists.{Lists}
 use Rattle.staat_model.specs.Cells.{CellEntry}
 use Rattle.staat_cells.specs.declared.cell.Cell.{Cell}
@@ -30,8 +29,6 @@ returns c =
     let cells = map entry_of c.args.cells.now in
     let all : c.loop-k.k ≡ length cells =
     omega (arith, c.loop-k-test.false, c.loop-k.auto.k-end, length-map c.args.cells.now entry_of) in
-    IfOk-weaker c.in_order.result (λ sorted. Lists incidence_cmp (Contains c.loop-k.incidences.items) sorted.items)
-    (λ sorted. Lists incidence_cmp (IsOwnIncidence cells) sorted.items)
-    (λ sorted. sorted_all (IsOwnIncidence cells) (IsOwnAt cells) c.loop-k.incidences.items sorted.items c.loop-k.k
-    c.loop-k.invariant (own_all cells c.loop-k.k all))
+    sorted_all (IsOwnIncidence cells) (IsOwnAt cells) c.loop-k.incidences.items c.in_order.result.items c.loop-k.k
+    c.loop-k.invariant (own_all cells c.loop-k.k all)
     c.in_order.ensures

@@ -2,7 +2,7 @@ use Rattle.std.proofs.lemmas.List.Filters.{dedup_is}
 use Rattle.std.proofs.lemmas.List.Kept.{Contains-dedup, Contains-from_dedup, IsStrictlySortedBy-dedup}
 use Rattle.std.proofs.lemmas.List.Sorted.{Contains-permutation, IsPermutation-sym}
 use Rattle.staat_cells.proofs.IncidenceOrder.{test, incidence_total, ties, test_equivalence, test_exact}
-use Rattle.staat_cells.proofs.order.sorted.Goals as goal
+use Rattle.staat_cells.proofs.order.in_order.Goals as goal
 
 pub returns : goal.returns
 returns c =
