@@ -1,14 +1,12 @@
 // The command `blocks`: who blocks whom along a direction, in a product of any size.
-ghost use Rattle.std.specs.Prelude.{◌≡◌, ◌≤◌, ◌<◌, IfOk, IfErr};
 ghost use Rattle.std.specs.Prelude.{[]};
 ghost use Rattle.staat_input.specs.Opened.{OpensSomeOf};
 ghost use Rattle.staat_input.specs.declared.limits.TheConstants.Limits.{PRODUCT};
 ghost use Rattle.staat_vec.specs.Vectors.{IsWithin};
 ghost use Rattle.staat_words.specs.Requests.{IsBlocksRequest};
 ghost use Rattle.staat_directions.specs.Graphing.{IsGraphed};
-ghost use Rattle.staat_edge.specs.Fitting.{Fit};
-ghost use Rattle.staat_input.specs.Work.{Files, Follows};
-ghost use Rattle.staat_input.specs.Causes.{HasCause, ShelfSide, over};
+ghost use Rattle.staat_input.specs.Causes.{HasCause};
+ghost use Rattle.staat_input.specs.Taking.{DoesWork, IsWorkedOut};
 ghost use Rattle.staat_deciding.specs.Blocks.{BlocksWork};
 
 use staat_cone::Scan;
@@ -26,9 +24,7 @@ use std::alloc::Global;
 // The text of the blocking graph along a direction. Each two parts are asked about once, in either order.
 fn graphed(alloc: Global, product: &SoundProduct, along: V3) -> Result<Answer, Fault>
     requires { IsWithin DIRECTION along }
-    ensures status { IfOk result (λ a. a.status < 2) }
-    ensures graphed { Follows (IsGraphed product.now along) result }
-    ensures cause { (shelf : ShelfSide) → IfErr result (HasCause shelf) }
+    ensures { IsWorkedOut (IsGraphed product.now along) result }
 {
     let parts = product.product().as_slice();
     let bodies = Bodies::of(alloc, parts)?;
@@ -47,13 +43,8 @@ pub fn blocks<H: Shelf>(
     shelf: &mut H,
 ) -> Result<Answer, Fault>
     requires { IsBlocksRequest request.now }
-    ensures holds { (H.told shelf.new).holds ≡ (H.told shelf.old).holds }
-    ensures count { (H.told shelf.old).faults ≤ (H.told shelf.new).faults }
-    ensures status { IfOk result (λ a. a.status < 2) }
-    ensures opens { OpensSomeOf PRODUCT request.now.asked.input [] (H.told shelf.old) (H.told shelf.new) }
-    ensures found { (files : Files) → Fit (H.told shelf.new) files →
-        Follows (BlocksWork request.now files) result }
-    ensures cause { IfErr result (HasCause (over (H.told shelf.old) (H.told shelf.new))) }
+    ensures { DoesWork (BlocksWork request.now) (OpensSomeOf PRODUCT request.now.asked.input []) HasCause
+        (H.told shelf.old) (H.told shelf.new) result }
 {
     let product = read_product(alloc, shelf, &request.asked)?;
     graphed(alloc, &product, request.along)

@@ -8,10 +8,10 @@ ghost use Rattle.staat_model.specs.Assemblies.{IsProduct};
 ghost use Rattle.staat_holds.specs.Partials.{IsShownRest};
 ghost use Rattle.staat_decide.specs.Decided.{IsDecision};
 ghost use Rattle.staat_words.specs.Requests.{IsAskedWithin};
-ghost use Rattle.staat_edge.specs.Fitting.{Fit};
-ghost use Rattle.staat_input.specs.Work.{Files, Follows};
+ghost use Rattle.staat_input.specs.Work.{Follows};
 ghost use Rattle.staat_input.specs.Counting.{all_parts};
-ghost use Rattle.staat_input.specs.Causes.{HasCause, ShelfSide, over};
+ghost use Rattle.staat_input.specs.Causes.{HasCause, ShelfSide};
+ghost use Rattle.staat_input.specs.Taking.{DoesWork, IsWorkedOut};
 ghost use Rattle.staat_deciding.specs.Deciding.{DecideWork, IsDecided, IsDecidedAs, IsDecidedDown, IsDecidedShort};
 
 use crate::certificate::{
@@ -76,9 +76,7 @@ fn certificate_answer(
     decision: Decision,
 ) -> Result<Answer, Fault>
     requires { IsDecision product.now (all_parts product.now) decision }
-    ensures status { IfOk result (λ a. a.status < 2) }
-    ensures decided { Follows (IsDecidedShort false product.now) result }
-    ensures cause { (shelf : ShelfSide) → IfErr result (HasCause shelf) }
+    ensures { IsWorkedOut (IsDecidedShort false product.now) result }
 {
     match decision {
         Decision::Apart(tree) => {
@@ -96,9 +94,7 @@ fn certificate_answer(
 // certificate of either.
 #[tactic(auto, using(crate::proofs::DecidedLemmas::bounds))]
 fn decided(alloc: Global, product: &SoundProduct, certificate: bool) -> Result<Answer, Fault>
-    ensures status { IfOk result (λ a. a.status < 2) }
-    ensures decided { Follows (IsDecidedAs false certificate product.now) result }
-    ensures cause { (shelf : ShelfSide) → IfErr result (HasCause shelf) }
+    ensures { IsWorkedOut (IsDecidedAs false certificate product.now) result }
 {
     let parts = product.product().as_slice();
     let decision = staat_decide::decide(alloc, &Scan, parts)?;
@@ -116,9 +112,7 @@ fn down_certificate_answer(
     tree: GroupedTree,
 ) -> Result<Answer, Fault>
     requires { IsShownRest product.now tree }
-    ensures status { IfOk result (λ a. a.status < 2) }
-    ensures decided { Follows (IsDecidedShort true product.now) result }
-    ensures cause { (shelf : ShelfSide) → IfErr result (HasCause shelf) }
+    ensures { IsWorkedOut (IsDecidedShort true product.now) result }
 {
     if has_groups(&tree) {
         let refusal = rest_certificate(alloc, product, tree)?;
@@ -133,9 +127,7 @@ fn down_certificate_answer(
 // the certificate of them.
 #[tactic(auto, using(crate::proofs::DecidedLemmas::bounds))]
 fn decided_down(alloc: Global, product: &SoundProduct, certificate: bool) -> Result<Answer, Fault>
-    ensures status { IfOk result (λ a. a.status < 2) }
-    ensures decided { Follows (IsDecidedAs true certificate product.now) result }
-    ensures cause { (shelf : ShelfSide) → IfErr result (HasCause shelf) }
+    ensures { IsWorkedOut (IsDecidedAs true certificate product.now) result }
 {
     let parts = product.product().as_slice();
     let tree = plan_to_groups(alloc, &Scan, parts)?;
@@ -153,9 +145,7 @@ fn answer_as(
     rest: bool,
     certificate: bool,
 ) -> Result<Answer, Fault>
-    ensures status { IfOk result (λ a. a.status < 2) }
-    ensures decided { Follows (IsDecidedAs rest certificate product.now) result }
-    ensures cause { (shelf : ShelfSide) → IfErr result (HasCause shelf) }
+    ensures { IsWorkedOut (IsDecidedAs rest certificate product.now) result }
 {
     if rest {
         decided_down(alloc, product, certificate)
@@ -173,13 +163,8 @@ pub fn decide<H: Shelf>(
     shelf: &mut H,
 ) -> Result<Answer, Fault>
     requires { IsAskedWithin MOST_PRODUCT_PARTS request.now.asked }
-    ensures holds { (H.told shelf.new).holds ≡ (H.told shelf.old).holds }
-    ensures count { (H.told shelf.old).faults ≤ (H.told shelf.new).faults }
-    ensures status { IfOk result (λ a. a.status < 2) }
-    ensures opens { OpensSomeOf PRODUCT request.now.asked.input [] (H.told shelf.old) (H.told shelf.new) }
-    ensures found { (files : Files) → Fit (H.told shelf.new) files →
-        Follows (DecideWork request.now files) result }
-    ensures cause { IfErr result (HasCause (over (H.told shelf.old) (H.told shelf.new))) }
+    ensures { DoesWork (DecideWork request.now) (OpensSomeOf PRODUCT request.now.asked.input []) HasCause
+        (H.told shelf.old) (H.told shelf.new) result }
 {
     let product = read_product(alloc, shelf, &request.asked)?;
     answer_as(alloc, &product, request.rest, request.certificate)

@@ -6,11 +6,11 @@ ghost use Rattle.staat_input.specs.declared.limits.TheConstants.Limits.{ASSEMBLY
 ghost use Rattle.staat_limits.specs.declared.limits.TheConstants.{LEAST_PLANES, MOST_CELL_PLANES};
 ghost use Rattle.staat_words.specs.Requests.{IsCellsRequest};
 ghost use Rattle.staat_pairs.specs.Tables.{WasMadeFrom};
-ghost use Rattle.staat_edge.specs.Fitting.{Fit};
-ghost use Rattle.staat_input.specs.Work.{Files, Follows};
+ghost use Rattle.staat_input.specs.Work.{Follows};
 ghost use Rattle.staat_directions.specs.CellTables.{AreCountedCells, AreTabled, CellsWork};
 ghost use Rattle.staat_input.specs.Counting.{all_parts};
-ghost use Rattle.staat_input.specs.Causes.{HasCause, ShelfSide, over};
+ghost use Rattle.staat_input.specs.Causes.{HasCause, ShelfSide};
+ghost use Rattle.staat_input.specs.Taking.{DoesWork, IsWorkedOut};
 
 use staat_cells::all_cells;
 use staat_edge::Shelf;
@@ -43,9 +43,7 @@ fn tabled(alloc: Global, sound: &Sound, table: &PlaneTable) -> Result<Answer, Fa
 fn counted(alloc: Global, sound: &Sound, planes: u32) -> Result<Answer, Fault>
     requires least { LEAST_PLANES ≤ planes }
     requires most { planes ≤ MOST_CELL_PLANES }
-    ensures status { IfOk result (λ a. a.status < 2) }
-    ensures tabled { Follows (AreCountedCells planes sound.now) result }
-    ensures cause { (shelf : ShelfSide) → IfErr result (HasCause shelf) }
+    ensures { IsWorkedOut (AreCountedCells planes sound.now) result }
 {
     let table = table_of(alloc, sound, planes)?;
     tabled(alloc, sound, &table)
@@ -59,13 +57,8 @@ pub fn cells<H: Shelf>(
     shelf: &mut H,
 ) -> Result<Answer, Fault>
     requires { IsCellsRequest request.now }
-    ensures holds { (H.told shelf.new).holds ≡ (H.told shelf.old).holds }
-    ensures count { (H.told shelf.old).faults ≤ (H.told shelf.new).faults }
-    ensures status { IfOk result (λ a. a.status < 2) }
-    ensures opens { OpensSomeOf ASSEMBLY request.now.asked.input [] (H.told shelf.old) (H.told shelf.new) }
-    ensures found { (files : Files) → Fit (H.told shelf.new) files →
-        Follows (CellsWork request.now files) result }
-    ensures cause { IfErr result (HasCause (over (H.told shelf.old) (H.told shelf.new))) }
+    ensures { DoesWork (CellsWork request.now) (OpensSomeOf ASSEMBLY request.now.asked.input []) HasCause
+        (H.told shelf.old) (H.told shelf.new) result }
 {
     let sound = read_sound(alloc, shelf, &request.asked)?;
     counted(alloc, &sound, request.planes)

@@ -1,14 +1,12 @@
 // The command `graph`: who blocks whom along a direction.
-ghost use Rattle.std.specs.Prelude.{◌≡◌, ◌≤◌, ◌<◌, IfOk, IfErr};
 ghost use Rattle.std.specs.Prelude.{[]};
 ghost use Rattle.staat_input.specs.Opened.{OpensSomeOf};
 ghost use Rattle.staat_input.specs.declared.limits.TheConstants.Limits.{ASSEMBLY};
 ghost use Rattle.staat_vec.specs.Vectors.{IsWithin};
 ghost use Rattle.staat_words.specs.Requests.{IsGraphRequest};
-ghost use Rattle.staat_edge.specs.Fitting.{Fit};
-ghost use Rattle.staat_input.specs.Work.{Files, Follows};
 ghost use Rattle.staat_directions.specs.Graphing.{IsCountedGraph, GraphWork};
-ghost use Rattle.staat_input.specs.Causes.{HasCause, ShelfSide, over};
+ghost use Rattle.staat_input.specs.Causes.{HasCause};
+ghost use Rattle.staat_input.specs.Taking.{DoesWork, IsWorkedOut};
 
 use staat_edge::Shelf;
 use staat_fault::Fault;
@@ -23,9 +21,7 @@ use std::alloc::Global;
 // The answer for a sound assembly.
 fn counted(alloc: Global, sound: &Sound, along: V3) -> Result<Answer, Fault>
     requires { IsWithin DIRECTION along }
-    ensures status { IfOk result (λ a. a.status < 2) }
-    ensures graphed { Follows (IsCountedGraph along sound.now) result }
-    ensures cause { (shelf : ShelfSide) → IfErr result (HasCause shelf) }
+    ensures { IsWorkedOut (IsCountedGraph along sound.now) result }
 {
     let table = table_of(alloc, sound, MOST_PLANES)?;
     let parts = sound.assembly().parts();
@@ -40,13 +36,8 @@ pub fn graph<H: Shelf>(
     shelf: &mut H,
 ) -> Result<Answer, Fault>
     requires { IsGraphRequest request.now }
-    ensures holds { (H.told shelf.new).holds ≡ (H.told shelf.old).holds }
-    ensures count { (H.told shelf.old).faults ≤ (H.told shelf.new).faults }
-    ensures status { IfOk result (λ a. a.status < 2) }
-    ensures opens { OpensSomeOf ASSEMBLY request.now.asked.input [] (H.told shelf.old) (H.told shelf.new) }
-    ensures found { (files : Files) → Fit (H.told shelf.new) files →
-        Follows (GraphWork request.now files) result }
-    ensures cause { IfErr result (HasCause (over (H.told shelf.old) (H.told shelf.new))) }
+    ensures { DoesWork (GraphWork request.now) (OpensSomeOf ASSEMBLY request.now.asked.input []) HasCause
+        (H.told shelf.old) (H.told shelf.new) result }
 {
     let sound = read_sound(alloc, shelf, &request.asked)?;
     counted(alloc, &sound, request.along)

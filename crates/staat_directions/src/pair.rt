@@ -2,15 +2,15 @@
 ghost use Rattle.std.specs.Prelude.{◌≡◌, ◌≤◌, ◌<◌, ◌↔◌, ◌≤ℤ◌, pos};
 ghost use Rattle.std.specs.Prelude.{IsTrue, IfOk, IfErr};
 ghost use Rattle.std.specs.Prelude.{◌∷◌, []};
-ghost use Rattle.staat_edge.specs.Opening.{OpensSome};
+ghost use Rattle.staat_edge.specs.Opening.{OpensFiles};
 ghost use Rattle.staat_fault.specs.declared.fault.Fault.TheVariants.{OutOfMemory};
 ghost use Rattle.staat_vec.specs.Vectors.{IsWithin, dot};
 ghost use Rattle.staat_model.specs.Walls.{IsShown};
 ghost use Rattle.staat_words.specs.Requests.{IsPairRequest};
-ghost use Rattle.staat_edge.specs.Fitting.{Fit};
-ghost use Rattle.staat_input.specs.Work.{Files, Follows};
+ghost use Rattle.staat_input.specs.Work.{Follows};
 ghost use Rattle.staat_directions.specs.Pairs.{IsJudged, PairWork};
-ghost use Rattle.staat_input.specs.Causes.{HasCause, ShelfSide, over};
+ghost use Rattle.staat_input.specs.Causes.{HasCause, ShelfSide};
+ghost use Rattle.staat_input.specs.Taking.{DoesWork};
 
 use staat_cone::separates;
 use staat_edge::Shelf;
@@ -71,14 +71,8 @@ fn judge(alloc: Global, p: &Piece, q: &Piece, along: V3, wall: V3) -> Result<Ans
 /// direction, never meets that of the second. The first file is read and judged before the second.
 pub fn pair<H: Shelf>(alloc: Global, request: &PairRequest, shelf: &mut H) -> Result<Answer, Fault>
     requires { IsPairRequest request.now }
-    ensures holds { (H.told shelf.new).holds ≡ (H.told shelf.old).holds }
-    ensures count { (H.told shelf.old).faults ≤ (H.told shelf.new).faults }
-    ensures status { IfOk result (λ a. a.status < 2) }
-    ensures opens { OpensSome (request.now.first ∷ request.now.second ∷ []) (H.told shelf.old).given
-        (H.told shelf.new).given }
-    ensures found { (files : Files) → Fit (H.told shelf.new) files →
-        Follows (PairWork request.now files) result }
-    ensures cause { IfErr result (HasCause (over (H.told shelf.old) (H.told shelf.new))) }
+    ensures { DoesWork (PairWork request.now) (OpensFiles false (request.now.first ∷ request.now.second ∷ []))
+        HasCause (H.told shelf.old) (H.told shelf.new) result }
 {
     let p = read_piece(alloc, request.digits, shelf, &request.first)?;
     let q = read_piece(alloc, request.digits, shelf, &request.second)?;

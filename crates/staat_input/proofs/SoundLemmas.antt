@@ -14,12 +14,12 @@ use Rattle.staat_input.specs.Causes.{HasCause, MayName, ShelfSide}
 use Rattle.staat_input.specs.Inputs.{IsInputOfWithin}
 use Rattle.staat_input.specs.Opened.{OpensInput}
 use Rattle.staat_input.specs.Taking.{TakesStep}
-use Rattle.staat_input.specs.Work.{Follows, Found, Then}
+use Rattle.staat_input.specs.Work.{Follows, Found}
 use Rattle.staat_input.proofs.InputLemmas.{then_given}
 use Rattle.staat_input.proofs.OpenedLemmas.{input_opened}
-use Rattle.staat_input.proofs.TakingLemmas.{after_none, takes_fault, takes_pure}
+use Rattle.staat_input.proofs.TakingLemmas.{after_none, after_step, takes_fault, takes_pure}
 use Rattle.staat_input.specs.Refusals.{asm_fault}
-use Rattle.staat_input.specs.Assembling.{IsTested, overlapping, sound}
+use Rattle.staat_input.specs.Assembling.{IsTested, ReadsSound, overlapping, sound}
 
 pub tested_sound : (parts built : List Part) → built ≡ parts → IsSound built → IsTested parts (Ok built)
 tested_sound parts built e is = sound (subst IsSound e is) (ap Ok e)
@@ -34,23 +34,17 @@ Reads limits asked before now result =
     TakesStep (λ files. IsInputOfWithin limits files asked) (λ found. OpensInput limits (is_ok found) asked.input [] before now)
     (MayName asked.input) before now result
 
--- and the test after it
-abbrev Tests : Limits → Asked → ShelfTold → ShelfTold → Found (List Part) → Type 0
-Tests limits asked before now result =
-    TakesStep (λ files. Then (IsInputOfWithin limits files asked) IsTested)
-    (λ found. OpensInput limits (is_ok found) asked.input [] before now) (MayName asked.input) before now result
-
 pub failed_read : (limits : Limits) (asked : Asked) {before now : ShelfTold} {f : Fault} (r : Found (List Part))
-    → Reads limits asked before now (Err f) → IsErrAnd r (λ e. e ≡ f) → Tests limits asked before now r
+    → Reads limits asked before now (Err f) → IsErrAnd r (λ e. e ≡ f) → ReadsSound limits asked before now r
 failed_read limits asked {before} {now} {f} r reads is =
-    takes_fault (after_none before) reads (λ files fit g at. inl (g, at, refl)) (λ g. reads.opened) (λ name may. may) is
+    takes_fault (after_none before) reads (λ files fit g at. inl (g, at, refl)) (λ g. reads.opens) (λ name may. may) is
 
 pub tests_read : (limits : Limits) (asked : Asked) {before now : ShelfTold} (parts : List Part) (r : Found (List Part))
     → Reads limits asked before now (Ok parts) → Follows (IsTested parts) r → ((shelf : ShelfSide) → IfErr r (HasCause shelf))
-    → Tests limits asked before now r
+    → ReadsSound limits asked before now r
 tests_read limits asked {before} {now} parts r reads tested cause =
-    takes_pure reads.after (λ files fit. then_given (IsInputOfWithin limits files asked) IsTested parts r (reads.found files fit) tested)
-    (input_opened limits (is_ok r) asked.input [] before now reads.opened) cause
+    takes_pure (after_step reads) (λ files fit. then_given (IsInputOfWithin limits files asked) IsTested parts r (reads.found files fit) tested)
+    (input_opened limits (is_ok r) asked.input [] before now reads.opens) cause
 
 -- what holds of the parts holds of those that are sound
 pub tested_same : (P : List Part → Type 0) (parts : List Part) (r : Result (List Part) Fault) → Follows

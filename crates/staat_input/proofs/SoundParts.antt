@@ -16,7 +16,8 @@ use Rattle.staat_words.specs.declared.request.Input.{Input}
 use Rattle.staat_words.specs.declared.request.Input.TheVariants as inputs
 use Rattle.staat_words.specs.declared.request.Asked.{Asked}
 use Rattle.staat_input.specs.declared.answer.Answer.{Answer}
-use Rattle.staat_input.specs.Work.{Files, Found, Each, to_read, too_long, taken}
+use Rattle.staat_input.specs.Counting.{AreCounted}
+use Rattle.staat_input.specs.Work.{Files, Found, Each, Then, to_read, too_long, taken}
 use Rattle.staat_input.specs.declared.limits.Limits.{Limits}
 use Rattle.staat_input.specs.declared.limits.TheConstants.Limits.{ASSEMBLY, PRODUCT}
 use Rattle.staat_input.specs.Inputs.{alone, SaysListingWithin, no_listing, listing, IsListingOfWithin, IsPartOf}
@@ -125,3 +126,17 @@ same_answer a b e = cc
 
 pub same_status : (a b : Answer) → ◌≡◌ {A = Found Answer} (Ok a) (Ok b) → a.status ≡ b.status
 same_status a b e = let same : a ≡ b = cc in ap (λ (x : Answer). x.status) same
+
+-- the parts of an answer to which the work comes after their planes were counted
+pub counted_answer : (files : Files) (asked : Asked) (limit : ℕ) (Last : List Part → Found Answer → Type 0) (a : Answer) → IsAsked asked
+    → Then (IsSoundOf files asked) (λ parts. Then (AreCounted parts limit) (λ planes. Last parts)) (Ok a)
+    → (parts : List Part) × AreSoundParts files asked parts × Last parts (Ok a)
+counted_answer files asked limit Last a bounds (inl (fault, at, e)) = absurd cc
+counted_answer files asked limit Last a bounds (inr (parts, found, inl (fault, at, e))) = absurd cc
+counted_answer files asked limit Last a bounds (inr (parts, found, inr (planes, counted, last))) =
+    (parts, sound_parts files asked parts bounds found, last)
+
+-- what the text of an answer says, the text of the same answer says
+pub said : (Says : List ℕ → Type 0) (told a : Answer) → ◌≡◌ {A = Found Answer} (Ok a) (Ok told) → (told.status ≡ a.status → Says told.text) → Says a.text
+said Says told a e says =
+    subst (λ (b : Answer). (told.status ≡ b.status → Says told.text) → Says b.text) (same_answer a told e) (λ is. is refl) says

@@ -23,6 +23,10 @@ pub after_twice : (before mid now : ShelfTold) → IsLaterShelf before mid → I
 after_twice before mid now first second =
     record { holds = second.holds ∙ first.holds; count = omega (arith, first.count, second.count) }
 
+pub after_step : {X : Type 0} {Step : Files → Found X → Type 0} {Opened : Found X → Type 0} {Long : List ℕ → Type 0} {before now : ShelfTold}
+    {r : Found X} → TakesStep Step Opened Long before now r → IsLaterShelf before now
+after_step takes = record { holds = takes.holds; count = takes.count }
+
 -- what holds of a fault holds of the answer with it
 pub failed : {X : Type 0} (P : Found X → Type 0) (f : Fault) (r : Found X) → P (Err f) → IsErrAnd r (λ e. e ≡ f) → P r
 failed P f (Ok x) h is = absurd is
@@ -38,15 +42,23 @@ module _ {Y : Type 0} {Whole : Files → Found Y → Type 0} {All : Found Y → 
   pub takes_pure : IsLaterShelf before now → ((files : Files) → Fit now files → Follows (Whole files) r) → All r
       → ((shelf : ShelfSide) → IfErr r (HasCause shelf)) → TakesStep Whole All Q before now r
   takes_pure after found opened cause =
-      record { after = after; found = found; opened = opened; cause = cause (over before now); named = never_long Q r cause }
+      record {
+        holds = after.holds;
+        count = after.count;
+        opens = opened;
+        found = found;
+        cause = cause (over before now);
+        named = never_long Q r cause;
+      }
 
   -- there was no memory
   pub takes_memory : IsLaterShelf before now → ((g : Fault) → All (Err g)) → IsErrAnd r (λ e. e ≡ fault.OutOfMemory)
       → TakesStep Whole All Q before now r
   takes_memory after opened is = failed (TakesStep Whole All Q before now) fault.OutOfMemory r (record {
-    after = after;
+    holds = after.holds;
+    count = after.count;
+    opens = opened fault.OutOfMemory;
     found = λ files fit. tt;
-    opened = opened fault.OutOfMemory;
     cause = tt;
     named = tt;
   }) is
@@ -57,9 +69,10 @@ module _ {Y : Type 0} {Whole : Files → Found Y → Type 0} {All : Found Y → 
       → ((files : Files) → Fit now files → Follows (Rest files) r → Follows (Whole files) r) → All r
       → ((name : List ℕ) → P name → Q name) → TakesStep Whole All Q before now r
   takes_later {Rest} {Opened} {P} {mid} after rest found opened wider = record {
-    after = after_twice before mid now after rest.after;
+    holds = rest.holds ∙ after.holds;
+    count = omega (arith, after.count, rest.count);
+    opens = opened;
     found = λ files fit. found files fit (rest.found files fit);
-    opened = opened;
     cause = IfErr-weaker r (HasCause (over mid now)) (HasCause (over before now))
         (λ f h. cause_from before mid now f after.count after.holds h) rest.cause;
     named = IfErr-weaker r (IfTooLong P) (IfTooLong Q) (λ f h. long_wider P Q f wider h) rest.named;
@@ -73,9 +86,10 @@ module _ {Y : Type 0} {Whole : Files → Found Y → Type 0} {All : Found Y → 
       → TakesStep Whole All Q before now r
   takes_fault {X} {Step} {Opened} {P} {mid} {f} after step found opened wider is =
       failed (TakesStep Whole All Q before now) f r (record {
-        after = after_twice before mid now after step.after;
+        holds = step.holds ∙ after.holds;
+        count = omega (arith, after.count, step.count);
+        opens = opened f;
         found = λ files fit. follows_fault (Step files) (Whole files) f (found files fit) (step.found files fit);
-        opened = opened f;
         cause = cause_from before mid now f after.count after.holds step.cause;
         named = long_wider P Q f wider step.named;
       }) is
@@ -85,9 +99,10 @@ pub untaken : {X : Type 0} (Says : List ℕ → Found X → Type 0) (before now 
     → OpensFiles false (name ∷ []) before now → IsNotTaken now name f → HasCause (over before now) f
     → TakesFiles (λ files. IsTaken files name Says) (name ∷ []) (λ long. long ≡ name) before now (Err f)
 untaken Says before now name f after opens refused cause = record {
-  after = after;
+  holds = after.holds;
+  count = after.count;
+  opens = opens;
   found = λ files fit. not_taken Says now files name f fit refused;
-  opened = opens;
   cause = cause;
   named = long_named f refused;
 }
@@ -100,7 +115,7 @@ untaken Says before now name f after opens refused cause = record {
 pub takes_back : {X : Type 0} {Step : Files → Found X → Type 0} {P : List ℕ → Type 0} {before now : ShelfTold} {x : X}
     (names : List (List ℕ)) → TakesStep Step (λ found. OpensFiles (is_ok found) names before now) P before now (Ok x) → Narrows before now
 takes_back {X} {Step} {P} {before} {now} names takes =
-    narrowed names before now takes.after.holds (all_some names before.given now.given takes.opened)
+    narrowed names before now takes.holds (all_some names before.given now.given takes.opens)
 
 -- ---- a step for each member of a list
 
@@ -123,9 +138,10 @@ module _ {X Y : Type 0} {Step : Files → X → Found Y → Type 0} {xs : List X
   pub taken_end : {Q : List ℕ → Type 0} (all : List (List ℕ)) (result : List Y) → length xs ≤ i → result ≡ done → names ≡ all
       → TakesStep (λ files. Each (Step files) xs) (λ found. OpensFiles (is_ok found) all before mid) Q before mid (Ok result)
   taken_end all result le is same = record {
-    after = so_far.after;
+    holds = so_far.after.holds;
+    count = so_far.after.count;
     found = λ files fit. subst (λ ys. Each (Step files) xs (Ok ys)) (sym is) (each_end (Step files) xs i done le (so_far.found files fit));
-    opened = subst (λ (ns : List (List ℕ)). OpensAll ns before.given mid.given) same so_far.opens;
+    opens = subst (λ (ns : List (List ℕ)). OpensAll ns before.given mid.given) same so_far.opens;
     cause = tt;
     named = tt;
   }
@@ -145,12 +161,12 @@ module _ {X Y : Type 0} {Step : Files → X → Found Y → Type 0} {xs : List X
     taken_more all y later takes is same =
         let back = takes_back more takes in
         record {
-          after = after_twice before mid now so_far.after takes.after;
+          after = after_twice before mid now so_far.after (after_step takes);
           found = λ files fit. subst (Continues (Step files) xs (i + 1)) (sym is)
               (each_more (Step files) xs i done x y lt (subst (λ z. Step files z (Ok y)) at (takes.found files fit))
               (so_far.found files (back files fit)));
           opens = subst (λ (ns : List (List ℕ)). OpensAll ns before.given now.given) same
-              (opens_after true names more before.given mid.given now.given so_far.opens takes.opened);
+              (opens_after true names more before.given mid.given now.given so_far.opens takes.opens);
         }
 
     -- a fault at the next member
@@ -160,9 +176,9 @@ module _ {X Y : Type 0} {Step : Files → X → Found Y → Type 0} {xs : List X
         → ((name : List ℕ) → P name → Q name) → IsErrAnd r (λ e. e ≡ f)
         → TakesStep (λ files. Each (Step files) xs) (λ found. OpensFiles (is_ok found) all before now) Q before now r
     taken_fault all f takes some wider is =
-        let back : Narrows mid now = narrowed more mid now takes.after.holds takes.opened in
+        let back : Narrows mid now = narrowed more mid now takes.holds takes.opens in
         takes_fault so_far.after takes
         (λ files fit g fails. so_far.found files (back files fit) (Err g)
         (subst (λ zs. Each (Step files) zs (Err g)) (sym (drop_more xs i x lt))
         (inl (g, subst (λ z. Step files z (Err g)) at fails, refl))))
-        (λ g. some (opens_after false names more before.given mid.given now.given so_far.opens takes.opened)) wider is
+        (λ g. some (opens_after false names more before.given mid.given now.given so_far.opens takes.opens)) wider is

@@ -1,12 +1,17 @@
 -- The sound assembly that an input gives, and the sound product.
-use Rattle.std.specs.Prelude.{◌≡◌, List, Ok, Err}
+use Rattle.std.specs.Prelude.{◌≡◌, List, Ok, Err, [], is_ok}
 use Rattle.staat_model.specs.declared.assembly.Part.{Part}
 use Rattle.staat_model.specs.declared.certificate.Arc.{Arc}
 use Rattle.staat_model.specs.Assemblies.{IsSound, IsAssembly, IsProduct}
 use Rattle.staat_asm.specs.Overlaps.{IsFirstOverlap}
 use Rattle.staat_fault.specs.declared.fault.Fault.TheVariants.{Overlap}
+use Rattle.staat_edge.specs.Told.{ShelfTold}
 use Rattle.staat_words.specs.declared.request.Asked.{Asked}
+use Rattle.staat_input.specs.declared.limits.Limits.{Limits}
 use Rattle.staat_input.specs.declared.limits.TheConstants.Limits.{PRODUCT}
+use Rattle.staat_input.specs.Causes.{MayName}
+use Rattle.staat_input.specs.Opened.{OpensInput}
+use Rattle.staat_input.specs.Taking.{TakesStep}
 use Rattle.staat_input.specs.Work.{Files, Found, Then}
 use Rattle.staat_input.specs.Inputs.{IsInputOf, IsInputOfWithin}
 
@@ -36,3 +41,9 @@ pub record AreSoundProductParts (files : Files) (asked : Asked) (parts : List Pa
   pub named : IsInputOfWithin PRODUCT files asked (Ok parts)
   pub product : IsProduct parts
   pub sound : IsSound parts
+
+-- The call takes the step that reads the whole input, within these limits, and tests it.
+abbrev pub ReadsSound : Limits → Asked → ShelfTold → ShelfTold → Found (List Part) → Type 0
+ReadsSound limits asked before now result =
+    TakesStep (λ files. Then (IsInputOfWithin limits files asked) IsTested)
+    (λ found. OpensInput limits (is_ok found) asked.input [] before now) (MayName asked.input) before now result

@@ -12,7 +12,7 @@ ghost use Rattle.staat_edge.specs.Readings.{whole_reading};
 ghost use Rattle.staat_input.specs.Drawing.{piece_found, raw_in};
 ghost use Rattle.staat_input.specs.Pieces.{IsPieceOf, SaysPiece};
 ghost use Rattle.staat_input.specs.Taking.{IsLaterShelf, TakesFiles};
-ghost use Rattle.staat_input.specs.Causes.{HasCause, IfTooLong, ShelfSide, over};
+ghost use Rattle.staat_input.specs.Causes.{HasCause, ShelfSide, over};
 
 use crate::refusals::{mesh_fault, off_fault, read_fault};
 use staat_edge::{Shelf, read_whole};
@@ -96,13 +96,8 @@ pub fn read_piece<H: Shelf>(
     name: &Name,
 ) -> Result<Piece, Fault>
     requires { digits ≤ MOST_DIGITS }
-    ensures holds { (H.told shelf.new).holds ≡ (H.told shelf.old).holds }
-    ensures count { (H.told shelf.old).faults ≤ (H.told shelf.new).faults }
-    ensures opens { OpensFiles (is_ok result) (name.now ∷ []) (H.told shelf.old) (H.told shelf.new) }
-    ensures found { (files : Files) → Fit (H.told shelf.new) files →
-        Follows (IsPieceOf files digits name.now) result }
-    ensures cause { IfErr result (HasCause (over (H.told shelf.old) (H.told shelf.new))) }
-    ensures named { IfErr result (IfTooLong (λ long. long ≡ name.now)) }
+    ensures { TakesFiles (λ files. IsPieceOf files digits name.now) (name.now ∷ []) (λ long. long ≡ name.now)
+        (H.told shelf.old) (H.told shelf.new) result }
 {
     let Drawn { piece, .. } = read_drawn(alloc, digits, shelf, name)?;
     Ok(piece)

@@ -1,13 +1,12 @@
 // The sound assembly that an input gives, and the sound product.
-ghost use Rattle.std.specs.Prelude.{◌≡◌, ◌≤◌, [], IfErr, IfOk, List, OnOk, length};
-ghost use Rattle.std.specs.Prelude.{is_ok};
+ghost use Rattle.std.specs.Prelude.{◌≡◌, ◌≤◌, [], IfErr, IfOk, List, OnOk, is_ok, length};
 ghost use Rattle.staat_input.specs.Opened.{OpensInput};
 ghost use Rattle.staat_input.specs.declared.limits.TheConstants.Limits.{ASSEMBLY, PRODUCT};
 ghost use Rattle.staat_limits.specs.declared.limits.TheConstants.{MOST_PIECES, MOST_PRODUCT_PARTS};
 ghost use Rattle.staat_words.specs.Requests.{IsAsked, IsAskedWithin};
 ghost use Rattle.staat_edge.specs.Fitting.{Fit};
 ghost use Rattle.staat_input.specs.Work.{Files, Follows};
-ghost use Rattle.staat_input.specs.Assembling.{IsSoundOf, IsSoundProductOf, IsTested};
+ghost use Rattle.staat_input.specs.Assembling.{IsSoundOf, IsTested, ReadsSound};
 ghost use Rattle.staat_input.specs.Drawing.{AreSmall, IsDrawn};
 ghost use Rattle.staat_input.specs.Causes.{HasCause, IfTooLong, MayName, ShelfSide, over};
 
@@ -64,14 +63,7 @@ pub fn read_sketched<H: Shelf>(
 /// The same where nothing is drawn.
 pub fn read_sound<H: Shelf>(alloc: Global, shelf: &mut H, asked: &Asked) -> Result<Sound, Fault>
     requires { IsAsked asked.now }
-    ensures holds { (H.told shelf.new).holds ≡ (H.told shelf.old).holds }
-    ensures count { (H.told shelf.old).faults ≤ (H.told shelf.new).faults }
-    ensures opens { OpensInput ASSEMBLY (is_ok result) asked.now.input [] (H.told shelf.old)
-        (H.told shelf.new) }
-    ensures found { (files : Files) → Fit (H.told shelf.new) files →
-        Follows (IsSoundOf files asked.now) result }
-    ensures cause { IfErr result (HasCause (over (H.told shelf.old) (H.told shelf.new))) }
-    ensures named { IfErr result (IfTooLong (MayName asked.now.input)) }
+    ensures { ReadsSound ASSEMBLY asked.now (H.told shelf.old) (H.told shelf.new) result }
 {
     let mut nothing = Sketch::new(alloc, false);
     read_sketched(alloc, shelf, asked, &mut nothing)
@@ -101,14 +93,7 @@ pub fn read_product<H: Shelf>(
     asked: &Asked,
 ) -> Result<SoundProduct, Fault>
     requires { IsAskedWithin MOST_PRODUCT_PARTS asked.now }
-    ensures holds { (H.told shelf.new).holds ≡ (H.told shelf.old).holds }
-    ensures count { (H.told shelf.old).faults ≤ (H.told shelf.new).faults }
-    ensures opens { OpensInput PRODUCT (is_ok result) asked.now.input [] (H.told shelf.old)
-        (H.told shelf.new) }
-    ensures found { (files : Files) → Fit (H.told shelf.new) files →
-        Follows (IsSoundProductOf files asked.now) result }
-    ensures cause { IfErr result (HasCause (over (H.told shelf.old) (H.told shelf.new))) }
-    ensures named { IfErr result (IfTooLong (MayName asked.now.input)) }
+    ensures { ReadsSound PRODUCT asked.now (H.told shelf.old) (H.told shelf.new) result }
 {
     let mut nothing = Sketch::new(alloc, false);
     let parts = read_within(alloc, shelf, asked, Limits::PRODUCT, &mut nothing)?;

@@ -24,9 +24,7 @@ use Rattle.staat_judging.specs.Feeding.{IsFed, IsFedFile}
 use Rattle.staat_input.specs.Causes.{ShelfSide}
 use Rattle.staat_judging.specs.Causes.{HasCertificateCause}
 use Rattle.staat_input.proofs.ReadLemmas.{not_taken_within}
-use Rattle.staat_edge.proofs.OpeningLemmas.{none_opened, opens_some, refused}
 use Rattle.staat_judging.proofs.FeedingLemmas.{found_fed}
-use Rattle.staat_input.proofs.OpenedLemmas.{all_opened}
 
 -- ---- what the file says
 
@@ -55,8 +53,6 @@ found_certificate told files name reader r fit file says = found_fed (SaysCertif
 -- it was not
 pub no_certificate : (told : ShelfTold) (files : Files) (name : List ℕ) (f : Fault) → Fit told files → IsNotTakenWithin TEXT_LIMIT told name f → Follows (IsCertificateIn files name) (Err f)
 no_certificate told files name f fit refused = not_taken_within TEXT_LIMIT (SaysCertificate name) told files name f fit refused
-
-pub ruleset found = (found_certificate, no_certificate, all_opened, refused, none_opened, opens_some)
 
 -- ---- the verdict
 

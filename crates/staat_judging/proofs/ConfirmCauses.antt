@@ -1,6 +1,5 @@
 -- Why the faults of `confirm` came.
 use Rattle.std.proofs.Common.{◌≡◌, ◌∙◌, ◌≤◌, Err, ap, inl, inr}
-use Rattle.std.specs.Prelude.{Result, IfErr, IsErrAnd}
 use Rattle.staat_edge.specs.Files.{told_name}
 use Rattle.staat_edge.specs.Fitting.{Fit}
 use Rattle.staat_edge.specs.Told.{ShelfTold}
@@ -11,35 +10,17 @@ use Rattle.staat_input.specs.Work.{Files, Follows}
 use Rattle.staat_input.specs.Assembling.{IsSoundProductOf}
 use Rattle.staat_input.specs.Causes.{HasCause, IfTooLong, MayName, ShelfSide, over}
 use Rattle.staat_judging.specs.Causes.{HasCertificateCause, HasConfirmCause}
-use Rattle.staat_input.proofs.InputLemmas.{cause_from, failed_with}
-use Rattle.staat_judging.proofs.OpenedFurther.{input_begun, opened_after_input}
+use Rattle.staat_input.proofs.InputLemmas.{cause_from}
 
 -- a fault of the input
-pub input_cause : {X : Type 0} (request : CheckRequest) (shelf : ShelfSide) (f : Fault) (r : Result X Fault)
-    → HasCause shelf f → IfTooLong (MayName request.asked.input) f
-    → ((files : Files) → Fit shelf.new files → Follows (IsSoundProductOf files request.asked) (Err f))
-    → IsErrAnd r (λ e. e ≡ f) → IfErr r (HasConfirmCause request shelf)
-input_cause request shelf f r cause named refused fails = failed_with (HasConfirmCause request shelf) f r
-    (go f cause named refused) fails
-  where
-    go : (f : Fault) → HasCause shelf f → IfTooLong (MayName request.asked.input) f
-        → ((files : Files) → Fit shelf.new files
-        → Follows (IsSoundProductOf files request.asked) (Err f)) → HasConfirmCause request shelf f
-    go (fault.TooLong name) past named refused = inl (record { past = past; named = named; refused = refused })
-    go f cause named refused = cause
+pub input_cause : (request : CheckRequest) (shelf : ShelfSide) (f : Fault) → HasCause shelf f → IfTooLong (MayName request.asked.input) f
+    → ((files : Files) → Fit shelf.new files → Follows (IsSoundProductOf files request.asked) (Err f)) → HasConfirmCause request shelf f
+input_cause request shelf (fault.TooLong name) past named refused = inl (record { past = past; named = named; refused = refused })
+input_cause request shelf f cause named refused = cause
 
 -- a fault of the certificate's file, which is read later
-pub certificate_cause : {X : Type 0} (request : CheckRequest) (before mid after : ShelfTold) (f : Fault)
-    (r : Result X Fault) → before.faults ≤ mid.faults → mid.holds ≡ before.holds
-    → HasCertificateCause request.certificate (over mid after) f → IsErrAnd r (λ e. e ≡ f)
-    → IfErr r (HasConfirmCause request (over before after))
-certificate_cause request before mid after f r le same cause fails = failed_with
-    (HasConfirmCause request (over before after)) f r (go f cause) fails
-  where
-    go : (f : Fault) → HasCertificateCause request.certificate (over mid after) f
-        → HasConfirmCause request (over before after) f
-    go (fault.TooLong name) h = inr
-        (h.0, record { place = h.1.place; opened = h.1.opened ∙ ap (λ holds. told_name holds name) same })
-    go f h = cause_from before mid after f le same h
-
-pub ruleset confirming = (input_cause, certificate_cause, input_begun, opened_after_input)
+pub certificate_cause : (request : CheckRequest) (before mid after : ShelfTold) (f : Fault) → before.faults ≤ mid.faults
+    → mid.holds ≡ before.holds → HasCertificateCause request.certificate (over mid after) f → HasConfirmCause request (over before after) f
+certificate_cause request before mid after (fault.TooLong name) le same h =
+    inr (h.0, record { place = h.1.place; opened = h.1.opened ∙ ap (λ holds. told_name holds name) same })
+certificate_cause request before mid after f le same h = cause_from before mid after f le same h

@@ -2,6 +2,7 @@ pub mod CertificateLemmas
 pub mod CheckCauses
 pub mod ConfirmCauses
 pub mod FeedingLemmas
+pub mod Judgments
 pub mod OneAnswer
 pub mod OneShortAnswer
 pub mod OpenedFurther

@@ -24,9 +24,7 @@ use Rattle.staat_judging.specs.Confirming.{SaysShortCertificate, says_short, say
 use Rattle.staat_judging.specs.Confirming.{IsConfirmed, short_verdict_answer}
 use Rattle.staat_judging.specs.Feeding.{IsFed, IsFedFile}
 use Rattle.staat_input.proofs.ReadLemmas.{not_taken_within}
-use Rattle.staat_edge.proofs.OpeningLemmas.{none_opened, opens_some, refused}
 use Rattle.staat_judging.proofs.FeedingLemmas.{found_fed}
-use Rattle.staat_input.proofs.OpenedLemmas.{all_opened}
 
 -- ---- what the file says
 
@@ -65,8 +63,6 @@ pub no_certificate : (told : ShelfTold) (files : Files) (name : List ℕ) (f : F
     → IsNotTakenWithin TEXT_LIMIT told name f → Follows (IsShortCertificateIn files name) (Err f)
 no_certificate told files name f fit refused = not_taken_within TEXT_LIMIT (SaysShortCertificate name) told files
     name f fit refused
-
-pub ruleset found = (found_certificate, no_certificate, all_opened, refused, none_opened, opens_some)
 
 -- ---- the verdict
 

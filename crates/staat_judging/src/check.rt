@@ -1,5 +1,5 @@
 // The command `check`: whether a certificate is valid for the parts.
-ghost use Rattle.std.specs.Prelude.{◌≡◌, ◌≤◌, ◌<◌, IfOk, IfErr};
+ghost use Rattle.std.specs.Prelude.{◌≡◌, ◌<◌, IfOk, IfErr};
 ghost use Rattle.std.specs.Prelude.{◌∷◌, []};
 ghost use Rattle.staat_fault.specs.declared.fault.Fault.TheVariants.{OutOfMemory};
 ghost use Rattle.staat_input.specs.Opened.{OpensSomeOf};
@@ -7,11 +7,11 @@ ghost use Rattle.staat_input.specs.declared.limits.TheConstants.Limits.{ASSEMBLY
 ghost use Rattle.staat_model.specs.Texts.{IsWellFormed};
 ghost use Rattle.staat_words.specs.Requests.{IsAsked};
 ghost use Rattle.staat_words.specs.declared.request.CheckRequest.{CheckRequest};
-ghost use Rattle.staat_edge.specs.Fitting.{Fit};
-ghost use Rattle.staat_input.specs.Work.{Files, Follows};
+ghost use Rattle.staat_input.specs.Work.{Follows};
 ghost use Rattle.staat_judging.specs.Checking.{IsChecked, verdict_answer, CheckWork};
 ghost use Rattle.staat_judging.specs.Causes.{HasCheckCause};
-ghost use Rattle.staat_input.specs.Causes.{ShelfSide, over};
+ghost use Rattle.staat_input.specs.Causes.{ShelfSide};
+ghost use Rattle.staat_input.specs.Taking.{DoesWork};
 
 use crate::certificate::read_certificate;
 use staat_edge::Shelf;
@@ -49,21 +49,15 @@ fn judged(alloc: Global, sound: &Sound, certificate: &Certificate) -> Result<Ans
 
 /// The answer to the command `check`: whether the certificate is valid for the parts, or the first rule that it
 /// breaks. The parts are read and tested before the certificate's file is opened.
-#[tactic(auto, using(crate::proofs::CheckCauses::checking))]
 pub fn check<H: Shelf>(
     alloc: Global,
     request: &CheckRequest,
     shelf: &mut H,
 ) -> Result<Answer, Fault>
     requires { IsAsked request.now.asked }
-    ensures holds { (H.told shelf.new).holds ≡ (H.told shelf.old).holds }
-    ensures count { (H.told shelf.old).faults ≤ (H.told shelf.new).faults }
-    ensures status { IfOk result (λ a. a.status < 2) }
-    ensures opens { OpensSomeOf ASSEMBLY request.now.asked.input (request.now.certificate ∷ []) (H.told shelf.old)
-        (H.told shelf.new) }
-    ensures found { (files : Files) → Fit (H.told shelf.new) files →
-        Follows (CheckWork request.now files) result }
-    ensures cause { IfErr result (HasCheckCause request.now (over (H.told shelf.old) (H.told shelf.new))) }
+    ensures { DoesWork (CheckWork request.now)
+        (OpensSomeOf ASSEMBLY request.now.asked.input (request.now.certificate ∷ [])) (HasCheckCause request.now)
+        (H.told shelf.old) (H.told shelf.new) result }
 {
     let sound = read_sound(alloc, shelf, &request.asked)?;
     let certificate = read_certificate(alloc, shelf, &request.certificate)?;

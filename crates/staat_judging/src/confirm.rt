@@ -1,5 +1,5 @@
 // The command `confirm`: whether a short certificate is valid for a product of any size.
-ghost use Rattle.std.specs.Prelude.{◌≡◌, ◌≤◌, ◌<◌, IfOk, IfErr};
+ghost use Rattle.std.specs.Prelude.{◌≡◌, ◌<◌, IfOk, IfErr};
 ghost use Rattle.std.specs.Prelude.{◌∷◌, []};
 ghost use Rattle.staat_fault.specs.declared.fault.Fault.TheVariants.{OutOfMemory};
 ghost use Rattle.staat_input.specs.Opened.{OpensSomeOf};
@@ -8,9 +8,9 @@ ghost use Rattle.staat_limits.specs.declared.limits.TheConstants.{MOST_PRODUCT_P
 ghost use Rattle.staat_short.specs.ShortTexts.{IsShortInOrder};
 ghost use Rattle.staat_words.specs.Requests.{IsAskedWithin};
 ghost use Rattle.staat_words.specs.declared.request.CheckRequest.{CheckRequest};
-ghost use Rattle.staat_edge.specs.Fitting.{Fit};
-ghost use Rattle.staat_input.specs.Work.{Files, Follows};
-ghost use Rattle.staat_input.specs.Causes.{ShelfSide, over};
+ghost use Rattle.staat_input.specs.Work.{Follows};
+ghost use Rattle.staat_input.specs.Causes.{ShelfSide};
+ghost use Rattle.staat_input.specs.Taking.{DoesWork};
 ghost use Rattle.staat_judging.specs.Causes.{HasConfirmCause};
 ghost use Rattle.staat_judging.specs.Confirming.{ConfirmWork, IsConfirmed, short_verdict_answer};
 
@@ -57,21 +57,15 @@ fn judged(
 
 /// The answer to the command `confirm`: whether the short certificate is valid for the parts, or the first rule that
 /// it breaks. The parts are read and tested before the certificate's file is opened.
-#[tactic(auto, using(crate::proofs::ConfirmCauses::confirming))]
 pub fn confirm<H: Shelf>(
     alloc: Global,
     request: &CheckRequest,
     shelf: &mut H,
 ) -> Result<Answer, Fault>
     requires { IsAskedWithin MOST_PRODUCT_PARTS request.now.asked }
-    ensures holds { (H.told shelf.new).holds ≡ (H.told shelf.old).holds }
-    ensures count { (H.told shelf.old).faults ≤ (H.told shelf.new).faults }
-    ensures status { IfOk result (λ a. a.status < 2) }
-    ensures opens { OpensSomeOf PRODUCT request.now.asked.input (request.now.certificate ∷ []) (H.told shelf.old)
-        (H.told shelf.new) }
-    ensures found { (files : Files) → Fit (H.told shelf.new) files →
-        Follows (ConfirmWork request.now files) result }
-    ensures cause { IfErr result (HasConfirmCause request.now (over (H.told shelf.old) (H.told shelf.new))) }
+    ensures { DoesWork (ConfirmWork request.now)
+        (OpensSomeOf PRODUCT request.now.asked.input (request.now.certificate ∷ [])) (HasConfirmCause request.now)
+        (H.told shelf.old) (H.told shelf.new) result }
 {
     let product = read_product(alloc, shelf, &request.asked)?;
     let certificate = read_short_certificate(alloc, shelf, &request.certificate)?;

@@ -1,15 +1,13 @@
 // The short certificate that a file holds.
-ghost use Rattle.std.specs.Prelude.{◌≡◌, ◌≤◌, List, ℕ, IfOk, IfErr};
-ghost use Rattle.std.specs.Prelude.{is_ok, ◌∷◌, []};
-ghost use Rattle.staat_edge.specs.Opening.{OpensFiles};
+ghost use Rattle.std.specs.Prelude.{List, ℕ, IfOk, IfErr};
 ghost use Rattle.staat_short.specs.ShortFeeds.{WasFedShort};
 ghost use Rattle.staat_short.specs.ShortTexts.{IsShortInOrder};
-ghost use Rattle.staat_edge.specs.Fitting.{Fit};
-ghost use Rattle.staat_input.specs.Work.{Files, Follows};
-ghost use Rattle.staat_input.specs.Causes.{ShelfSide, over};
+ghost use Rattle.staat_input.specs.Work.{Follows};
+ghost use Rattle.staat_input.specs.Causes.{ShelfSide};
 ghost use Rattle.staat_judging.specs.Confirming.{IsShortCertificateIn, SaysShortCertificate};
 ghost use Rattle.staat_judging.specs.Feeding.{IsFed};
 ghost use Rattle.staat_judging.specs.Causes.{HasCertificateCause};
+ghost use Rattle.staat_judging.specs.Reading.{ReadsCertificate};
 
 use crate::feeding::{cert_fault, feed_named};
 use staat_edge::Shelf;
@@ -38,19 +36,14 @@ fn short_certificate_in(
 
 /// The short certificate that a file holds. That the file cannot be read to its end, and that it is too long, come
 /// before what it says.
-#[tactic(auto, using(crate::proofs::ShortLemmas::found))]
 pub fn read_short_certificate<H: Shelf>(
     alloc: Global,
     shelf: &mut H,
     name: &Name,
 ) -> Result<ShortCertificate, Fault>
-    ensures holds { (H.told shelf.new).holds ≡ (H.told shelf.old).holds }
-    ensures count { (H.told shelf.old).faults ≤ (H.told shelf.new).faults }
+    ensures takes { ReadsCertificate (λ files. IsShortCertificateIn files name.now) name.now
+        (H.told shelf.old) (H.told shelf.new) result }
     ensures formed { IfOk result IsShortInOrder }
-    ensures opens { OpensFiles (is_ok result) (name.now ∷ []) (H.told shelf.old) (H.told shelf.new) }
-    ensures found { (files : Files) → Fit (H.told shelf.new) files →
-        Follows (IsShortCertificateIn files name.now) result }
-    ensures cause { IfErr result (HasCertificateCause name.now (over (H.told shelf.old) (H.told shelf.new))) }
 {
     let mut reader = ShortReader::new(alloc)?;
     feed_named(alloc, shelf, name, &mut reader)?;

@@ -14,15 +14,15 @@ use Rattle.staat_linear.specs.Orders.{IsChosen}
 use Rattle.staat_linear.specs.OrderTexts.{order_text}
 use Rattle.staat_linear.proofs.Choosing.{chosen_settles}
 use Rattle.staat_linear.proofs.Locked.{locked_lemma}
-use Rattle.staat_orders.specs.Ordering.{order_answer, order_status, SaysLocked, SaysOrder, LinearWork}
+use Rattle.staat_orders.specs.Ordering.{IsOrdered, order_answer, order_status, SaysLocked, SaysOrder, LinearWork}
 use Rattle.staat_words.specs.declared.request.LocalRequest.{LocalRequest}
 use Rattle.staat_local.specs.declared.side.Loose.{Loose}
 use Rattle.staat_local.specs.Beginnings.{IsFoundIn, IsTight}
 use Rattle.staat_local.proofs.Beginning.{none_loosens}
 use Rattle.staat_local.proofs.Holding.{tight_is_stuck_lemma}
-use Rattle.staat_orders.specs.Beginning.{local_answer, local_status, SaysBeginning, SaysTight, LocalWork}
+use Rattle.staat_orders.specs.Beginning.{IsBegun, local_answer, local_status, SaysBeginning, SaysTight, LocalWork}
 use Rattle.staat_input.specs.Assembling.{AreSoundParts}
-use Rattle.staat_input.proofs.SoundParts.{sound_parts, same_answer}
+use Rattle.staat_input.proofs.SoundParts.{counted_answer, said}
 use Rattle.staat_words.specs.Requests.{IsLinearRequest, IsLocalRequest}
 
 -- the status of a set of parts no side of which begins to move
@@ -59,33 +59,21 @@ tight_is_said files request parts None are (inl few) one = absurd (no_status_one
 tight_is_said files request parts None are (inr tight) one = record { parts = parts; sound = are; is_tight = tight; is_stuck = tight_is_stuck_lemma parts (all_parts parts) tight; says = refl }
 
 pub linear_is_right : (request : LinearRequest) (files : Files) (a : Answer) → IsLinearRequest request → LinearWork request files (Ok a) → a.status ≡ 0 → SaysOrder files request a.text
-linear_is_right request files a bounds (inl (fault, at, e)) zero = absurd cc
-linear_is_right request files a bounds (inr (built, found, inl (fault, at, e))) zero = absurd cc
-linear_is_right request files a bounds (inr (built, found, inr (planes, counted, p))) zero =
-    let same : order_answer p.order ≡ a = same_answer a (order_answer p.order) p.is in
-    subst (λ (b : Answer). SaysOrder files request b.text) same
-    (order_is_said files request built p.order (sound_parts files request.asked built bounds.0 found) p.chosen (ap (λ (b : Answer). b.status) same ∙ zero))
+linear_is_right request files a bounds work zero =
+    let (parts, are, p) = counted_answer files request.asked request.planes IsOrdered a bounds.0 work in
+    said (SaysOrder files request) (order_answer p.order) a p.is (λ same. order_is_said files request parts p.order are p.chosen (same ∙ zero))
 
 pub linear_is_denied : (request : LinearRequest) (files : Files) (a : Answer) → IsLinearRequest request → LinearWork request files (Ok a) → a.status ≡ 1 → SaysLocked files request a.text
-linear_is_denied request files a bounds (inl (fault, at, e)) one = absurd cc
-linear_is_denied request files a bounds (inr (built, found, inl (fault, at, e))) one = absurd cc
-linear_is_denied request files a bounds (inr (built, found, inr (planes, counted, p))) one =
-    let same : order_answer p.order ≡ a = same_answer a (order_answer p.order) p.is in
-    subst (λ (b : Answer). SaysLocked files request b.text) same
-    (locked_is_said files request built p.order (sound_parts files request.asked built bounds.0 found) p.chosen (ap (λ (b : Answer). b.status) same ∙ one))
+linear_is_denied request files a bounds work one =
+    let (parts, are, p) = counted_answer files request.asked request.planes IsOrdered a bounds.0 work in
+    said (SaysLocked files request) (order_answer p.order) a p.is (λ same. locked_is_said files request parts p.order are p.chosen (same ∙ one))
 
 pub local_is_right : (request : LocalRequest) (files : Files) (a : Answer) → IsLocalRequest request → LocalWork request files (Ok a) → a.status ≡ 0 → SaysBeginning files request a.text
-local_is_right request files a bounds (inl (fault, at, e)) zero = absurd cc
-local_is_right request files a bounds (inr (built, found, inl (fault, at, e))) zero = absurd cc
-local_is_right request files a bounds (inr (built, found, inr (planes, counted, p))) zero =
-    let same : local_answer (all_parts built) p.begins ≡ a = same_answer a (local_answer (all_parts built) p.begins) p.is in
-    subst (λ (b : Answer). SaysBeginning files request b.text) same
-    (beginning_is_said files request built p.begins (sound_parts files request.asked built bounds.0 found) p.is_found (ap (λ (b : Answer). b.status) same ∙ zero))
+local_is_right request files a bounds work zero =
+    let (parts, are, p) = counted_answer files request.asked request.planes IsBegun a bounds.0 work in
+    said (SaysBeginning files request) (local_answer (all_parts parts) p.begins) a p.is (λ same. beginning_is_said files request parts p.begins are p.is_found (same ∙ zero))
 
 pub local_is_denied : (request : LocalRequest) (files : Files) (a : Answer) → IsLocalRequest request → LocalWork request files (Ok a) → a.status ≡ 1 → SaysTight files request a.text
-local_is_denied request files a bounds (inl (fault, at, e)) one = absurd cc
-local_is_denied request files a bounds (inr (built, found, inl (fault, at, e))) one = absurd cc
-local_is_denied request files a bounds (inr (built, found, inr (planes, counted, p))) one =
-    let same : local_answer (all_parts built) p.begins ≡ a = same_answer a (local_answer (all_parts built) p.begins) p.is in
-    subst (λ (b : Answer). SaysTight files request b.text) same
-    (tight_is_said files request built p.begins (sound_parts files request.asked built bounds.0 found) p.is_found (ap (λ (b : Answer). b.status) same ∙ one))
+local_is_denied request files a bounds work one =
+    let (parts, are, p) = counted_answer files request.asked request.planes IsBegun a bounds.0 work in
+    said (SaysTight files request) (local_answer (all_parts parts) p.begins) a p.is (λ same. tight_is_said files request parts p.begins are p.is_found (same ∙ one))

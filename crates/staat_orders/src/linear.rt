@@ -7,11 +7,11 @@ ghost use Rattle.staat_input.specs.declared.limits.TheConstants.Limits.{ASSEMBLY
 ghost use Rattle.staat_limits.specs.declared.limits.TheConstants.{LEAST_PLANES, MOST_PLANES};
 ghost use Rattle.staat_linear.specs.Orders.{HasTableWithin, IsChosen};
 ghost use Rattle.staat_words.specs.Requests.{IsLinearRequest};
-ghost use Rattle.staat_edge.specs.Fitting.{Fit};
-ghost use Rattle.staat_input.specs.Work.{Files, Follows};
+ghost use Rattle.staat_input.specs.Work.{Follows};
 ghost use Rattle.staat_input.specs.Counting.{AreCounted, all_parts};
 ghost use Rattle.staat_orders.specs.Ordering.{IsCountedOrder, order_answer, LinearWork};
-ghost use Rattle.staat_input.specs.Causes.{HasCause, ShelfSide, over};
+ghost use Rattle.staat_input.specs.Causes.{HasCause, ShelfSide};
+ghost use Rattle.staat_input.specs.Taking.{DoesWork, IsWorkedOut};
 
 use staat_cone::Scan;
 use staat_edge::Shelf;
@@ -55,9 +55,7 @@ fn answer_of(alloc: Global, order: &Order) -> Result<Answer, Fault>
 fn counted(alloc: Global, sound: &Sound, planes: u32) -> Result<Answer, Fault>
     requires least { LEAST_PLANES ≤ planes }
     requires most { planes ≤ MOST_PLANES }
-    ensures status { IfOk result (λ a. a.status < 2) }
-    ensures ordered { Follows (IsCountedOrder planes sound.now) result }
-    ensures cause { (shelf : ShelfSide) → IfErr result (HasCause shelf) }
+    ensures { IsWorkedOut (IsCountedOrder planes sound.now) result }
 {
     let order = order_of(alloc, sound, planes)?;
     answer_of(alloc, &order)
@@ -71,13 +69,8 @@ pub fn linear<H: Shelf>(
     shelf: &mut H,
 ) -> Result<Answer, Fault>
     requires { IsLinearRequest request.now }
-    ensures holds { (H.told shelf.new).holds ≡ (H.told shelf.old).holds }
-    ensures count { (H.told shelf.old).faults ≤ (H.told shelf.new).faults }
-    ensures status { IfOk result (λ a. a.status < 2) }
-    ensures opens { OpensSomeOf ASSEMBLY request.now.asked.input [] (H.told shelf.old) (H.told shelf.new) }
-    ensures found { (files : Files) → Fit (H.told shelf.new) files →
-        Follows (LinearWork request.now files) result }
-    ensures cause { IfErr result (HasCause (over (H.told shelf.old) (H.told shelf.new))) }
+    ensures { DoesWork (LinearWork request.now) (OpensSomeOf ASSEMBLY request.now.asked.input []) HasCause
+        (H.told shelf.old) (H.told shelf.new) result }
 {
     let sound = read_sound(alloc, shelf, &request.asked)?;
     counted(alloc, &sound, request.planes)

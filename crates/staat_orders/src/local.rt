@@ -1,5 +1,5 @@
 // The command `local`: whether some side of the parts begins to move.
-ghost use Rattle.std.specs.Prelude.{◌≡◌, ◌≤◌, ◌<◌, Some, IfOk, IfErr, IfSome};
+ghost use Rattle.std.specs.Prelude.{◌≡◌, ◌≤◌, ◌<◌, Some, IfSome};
 ghost use Rattle.std.specs.Prelude.{[]};
 ghost use Rattle.staat_input.specs.Opened.{OpensSomeOf};
 ghost use Rattle.staat_input.specs.declared.limits.TheConstants.Limits.{ASSEMBLY};
@@ -9,9 +9,8 @@ ghost use Rattle.staat_words.specs.Requests.{IsLocalRequest};
 ghost use Rattle.staat_pairs.specs.Tables.{WasMadeFrom};
 ghost use Rattle.staat_local.specs.Beginnings.{IsFoundIn};
 ghost use Rattle.staat_orders.specs.Beginning.{IsCountedBeginning, local_status, LocalWork};
-ghost use Rattle.staat_input.specs.Causes.{HasCause, ShelfSide, over};
-ghost use Rattle.staat_edge.specs.Fitting.{Fit};
-ghost use Rattle.staat_input.specs.Work.{Files, Follows};
+ghost use Rattle.staat_input.specs.Causes.{HasCause};
+ghost use Rattle.staat_input.specs.Taking.{DoesWork, IsWorkedOut};
 
 use staat_edge::Shelf;
 use staat_fault::Fault;
@@ -50,9 +49,7 @@ fn status_of(of: PartSet, found: &Option<Loose>) -> u8
 fn counted(alloc: Global, sound: &Sound, planes: u32) -> Result<Answer, Fault>
     requires least { LEAST_PLANES ≤ planes }
     requires most { planes ≤ MOST_PLANES }
-    ensures status { IfOk result (λ a. a.status < 2) }
-    ensures begun { Follows (IsCountedBeginning planes sound.now) result }
-    ensures cause { (shelf : ShelfSide) → IfErr result (HasCause shelf) }
+    ensures { IsWorkedOut (IsCountedBeginning planes sound.now) result }
 {
     let table = table_of(alloc, sound, planes)?;
     let of = table.set();
@@ -71,13 +68,8 @@ pub fn local<H: Shelf>(
     shelf: &mut H,
 ) -> Result<Answer, Fault>
     requires { IsLocalRequest request.now }
-    ensures holds { (H.told shelf.new).holds ≡ (H.told shelf.old).holds }
-    ensures count { (H.told shelf.old).faults ≤ (H.told shelf.new).faults }
-    ensures status { IfOk result (λ a. a.status < 2) }
-    ensures opens { OpensSomeOf ASSEMBLY request.now.asked.input [] (H.told shelf.old) (H.told shelf.new) }
-    ensures found { (files : Files) → Fit (H.told shelf.new) files →
-        Follows (LocalWork request.now files) result }
-    ensures cause { IfErr result (HasCause (over (H.told shelf.old) (H.told shelf.new))) }
+    ensures { DoesWork (LocalWork request.now) (OpensSomeOf ASSEMBLY request.now.asked.input []) HasCause
+        (H.told shelf.old) (H.told shelf.new) result }
 {
     let sound = read_sound(alloc, shelf, &request.asked)?;
     counted(alloc, &sound, request.planes)

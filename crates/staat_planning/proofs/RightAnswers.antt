@@ -26,7 +26,7 @@ use Rattle.staat_model.proofs.ValidCertificates.{plan_certificate_valid, refusal
 use Rattle.staat_certify.specs.Certifying.{IsValidFor}
 use Rattle.staat_plan.specs.Planning.{Settles}
 use Rattle.staat_words.specs.declared.request.PlanRequest.{PlanRequest}
-use Rattle.staat_planning.specs.Planning.{IsWritten, certificate, outcome_answer, outcome_status, steps}
+use Rattle.staat_planning.specs.Planning.{IsPlanned, IsWritten, certificate, outcome_answer, outcome_status, steps}
 use Rattle.staat_planning.specs.Planning.{text_too_long, SaysOutcome, SaysGoodPlan, SaysStuckSet, PlanWork}
 use Rattle.staat_model.specs.Reasons.{IsVerdict}
 use Rattle.staat_words.specs.declared.request.ExplodeRequest.{ExplodeRequest}
@@ -42,7 +42,7 @@ use Rattle.staat_input.specs.Drawing.{solids_of}
 use Rattle.staat_planning.specs.Exploding.{AreShifted, IsPlanViewed, IsOutcomeViewed, IsViewed, scene, scene_too_long}
 use Rattle.staat_planning.specs.Exploding.{shifted_far, shifted_near, vectors, SaysApart, SaysView, plan_asked}
 use Rattle.staat_planning.specs.Exploding.{ExplodeWork}
-use Rattle.staat_input.proofs.SoundParts.{sound_parts, same_answer, same_status, same_points}
+use Rattle.staat_input.proofs.SoundParts.{counted_answer, said, sound_parts, same_answer, same_status, same_points}
 
 -- a certificate of an outcome is valid
 pub certified : (parts : List Part) (version : ℕ) (f : Finding) (c : Certificate) → IsAssembly parts → Settles parts (all_parts parts) f → IsCertificateOf parts version f c → IsValidFor parts f c
@@ -127,27 +127,21 @@ stuck_is_said files request parts named (planned plan marks) a are outcome (inl 
 stuck_is_said files request parts named (planned plan marks) a are outcome (inr (text, viewed, e)) one = absurd (omega (arith, one, same_status _ _ e))
 
 pub plan_is_right : (request : PlanRequest) (files : Files) (a : Answer) → IsPlanRequest request → PlanWork request files (Ok a) → a.status ≡ 0 → SaysGoodPlan files request a.text
-plan_is_right request files a bounds (inl (fault, at, e)) zero = absurd cc
-plan_is_right request files a bounds (inr (built, found, inl (fault, at, e))) zero = absurd cc
-plan_is_right request files a bounds (inr (built, found, inr (planes, counted, p))) zero =
+plan_is_right request files a bounds work zero =
+    let (parts, are, p) = counted_answer files request.asked request.planes (λ parts. IsPlanned parts request.robust request.certificate) a bounds.0 work in
     elim p.written [
       | inl (fault, at, e) ↦ absurd cc
-      | inr (text, written, e) ↦
-          let same : outcome_answer p.finding text ≡ a = same_answer a (outcome_answer p.finding text) e in
-          subst (λ (b : Answer). SaysGoodPlan files request b.text) same
-          (plan_is_good files request built p.finding text (sound_parts files request.asked built bounds.0 found) p.outcome written (ap (λ (b : Answer). b.status) same ∙ zero))
+      | inr (text, written, e) ↦ said (SaysGoodPlan files request) (outcome_answer p.finding text) a e
+          (λ same. plan_is_good files request parts p.finding text are p.outcome written (same ∙ zero))
     ]
 
 pub plan_is_denied : (request : PlanRequest) (files : Files) (a : Answer) → IsPlanRequest request → PlanWork request files (Ok a) → a.status ≡ 1 → SaysStuckSet files request a.text
-plan_is_denied request files a bounds (inl (fault, at, e)) one = absurd cc
-plan_is_denied request files a bounds (inr (built, found, inl (fault, at, e))) one = absurd cc
-plan_is_denied request files a bounds (inr (built, found, inr (planes, counted, p))) one =
+plan_is_denied request files a bounds work one =
+    let (parts, are, p) = counted_answer files request.asked request.planes (λ parts. IsPlanned parts request.robust request.certificate) a bounds.0 work in
     elim p.written [
       | inl (fault, at, e) ↦ absurd cc
-      | inr (text, written, e) ↦
-          let same : outcome_answer p.finding text ≡ a = same_answer a (outcome_answer p.finding text) e in
-          subst (λ (b : Answer). SaysStuckSet files request b.text) same
-          (set_is_stuck files request built p.finding text (sound_parts files request.asked built bounds.0 found) p.outcome written (ap (λ (b : Answer). b.status) same ∙ one))
+      | inr (text, written, e) ↦ said (SaysStuckSet files request) (outcome_answer p.finding text) a e
+          (λ same. set_is_stuck files request parts p.finding text are p.outcome written (same ∙ one))
     ]
 
 pub explode_is_right : (request : ExplodeRequest) (files : Files) (a : Answer) → IsExplodeRequest request → ExplodeWork request files (Ok a) → a.status ≡ 0 → SaysApart files request a.text

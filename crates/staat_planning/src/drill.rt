@@ -12,6 +12,7 @@ ghost use Rattle.staat_input.specs.Work.{Files, Follows};
 ghost use Rattle.staat_planning.specs.Drills.{IsCountedDrill, IsDrilled, drill_line, parts_of_product, DrillWork};
 ghost use Rattle.staat_input.specs.Counting.{all_parts};
 ghost use Rattle.staat_input.specs.Causes.{HasCause, ShelfSide};
+ghost use Rattle.staat_input.specs.Taking.{IsWorkedOut};
 
 use crate::plan::{certificate_text, outcome_of};
 use staat_cert::{CertRefusal, read_cert};
@@ -90,9 +91,7 @@ fn drilled(
     requires outcome { IsOutcome false sound.now (all_parts sound.now) (finding_of outcome.now) }
     requires shown { CanBeShown (finding_of outcome.now) }
     requires certified { CanBeCertified sound.now (finding_of outcome.now) }
-    ensures status { IfOk result (λ a. a.status < 2) }
-    ensures drilled { Follows (IsDrilled name sound.now) result }
-    ensures cause { (shelf : ShelfSide) → IfErr result (HasCause shelf) }
+    ensures { IsWorkedOut (IsDrilled name sound.now) result }
 {
     let certificate = certificate_text(alloc, sound, table, outcome, 2)?;
     let verdict = judged(alloc, sound, &certificate)?;
@@ -102,9 +101,7 @@ fn drilled(
 
 // The answer for a sound product.
 fn counted(alloc: Global, name: DrillProduct, sound: &Sound) -> Result<Answer, Fault>
-    ensures status { IfOk result (λ a. a.status < 2) }
-    ensures drilled { Follows (IsCountedDrill name sound.now) result }
-    ensures cause { (shelf : ShelfSide) → IfErr result (HasCause shelf) }
+    ensures { IsWorkedOut (IsCountedDrill name sound.now) result }
 {
     let (outcome, table) = outcome_of(alloc, sound, MOST_PLANES, false)?;
     drilled(alloc, name, sound, &table, &outcome)

@@ -13,14 +13,14 @@ ghost use Rattle.staat_explode.specs.Sizes.{HasDirections};
 ghost use Rattle.staat_certify.specs.Certifying.{CanBeCertified};
 ghost use Rattle.staat_text.specs.PlanTexts.{CanBeShown};
 ghost use Rattle.staat_words.specs.Requests.{IsExplodeRequest};
-ghost use Rattle.staat_edge.specs.Fitting.{Fit};
 ghost use Rattle.staat_input.specs.Work.{Files, Follows};
 ghost use Rattle.staat_input.specs.Inputs.{IsListingOf};
 ghost use Rattle.staat_input.specs.Drawing.{AreSmall, solids_of};
 ghost use Rattle.staat_planning.specs.Exploding.{explode_fault, AreShifted, ExplodeWork, IsCountedView};
 ghost use Rattle.staat_planning.specs.Exploding.{IsPlanViewed, IsOutcomeViewed, IsViewed};
 ghost use Rattle.staat_input.specs.Counting.{all_parts};
-ghost use Rattle.staat_input.specs.Causes.{HasCause, ShelfSide, over};
+ghost use Rattle.staat_input.specs.Causes.{HasCause, ShelfSide};
+ghost use Rattle.staat_input.specs.Taking.{DoesWork};
 
 use crate::plan::outcome_of;
 use staat_edge::Shelf;
@@ -160,13 +160,8 @@ pub fn explode<H: Shelf>(
     shelf: &mut H,
 ) -> Result<Answer, Fault>
     requires { IsExplodeRequest request.now }
-    ensures holds { (H.told shelf.new).holds ≡ (H.told shelf.old).holds }
-    ensures count { (H.told shelf.old).faults ≤ (H.told shelf.new).faults }
-    ensures status { IfOk result (λ a. a.status < 2) }
-    ensures opens { OpensSomeOf ASSEMBLY request.now.asked.input [] (H.told shelf.old) (H.told shelf.new) }
-    ensures found { (files : Files) → Fit (H.told shelf.new) files →
-        Follows (ExplodeWork request.now files) result }
-    ensures cause { IfErr result (HasCause (over (H.told shelf.old) (H.told shelf.new))) }
+    ensures { DoesWork (ExplodeWork request.now) (OpensSomeOf ASSEMBLY request.now.asked.input []) HasCause
+        (H.told shelf.old) (H.told shelf.new) result }
 {
     let mut sketch = Sketch::new(alloc, request.off);
     let sound = read_sketched(alloc, shelf, &request.asked, &mut sketch)?;

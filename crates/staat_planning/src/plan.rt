@@ -14,11 +14,11 @@ ghost use Rattle.staat_cert.specs.Writing.{IsTextAnswer};
 ghost use Rattle.staat_certify.specs.Certifying.{CanBeCertified, HasFewPlanes};
 ghost use Rattle.staat_text.specs.PlanTexts.{CanBeShown};
 ghost use Rattle.staat_words.specs.Requests.{IsPlanRequest};
-ghost use Rattle.staat_edge.specs.Fitting.{Fit};
-ghost use Rattle.staat_input.specs.Work.{Files, Follows, Then};
+ghost use Rattle.staat_input.specs.Work.{Follows, Then};
 ghost use Rattle.staat_input.specs.Counting.{AreCounted, all_parts};
 ghost use Rattle.staat_planning.specs.Planning.{IsCountedPlan, IsWritten, outcome_answer, PlanWork};
-ghost use Rattle.staat_input.specs.Causes.{HasCause, ShelfSide, over};
+ghost use Rattle.staat_input.specs.Causes.{HasCause, ShelfSide};
+ghost use Rattle.staat_input.specs.Taking.{DoesWork, IsWorkedOut};
 
 use staat_cert::cert_text;
 use staat_cone::Scan;
@@ -144,9 +144,7 @@ fn answer_of(
 // The answer for a sound assembly.
 fn planned(alloc: Global, sound: &Sound, request: &PlanRequest) -> Result<Answer, Fault>
     requires { IsPlanRequest request.now }
-    ensures status { IfOk result (λ a. a.status < 2) }
-    ensures planned { Follows (IsCountedPlan request.now sound.now) result }
-    ensures cause { (shelf : ShelfSide) → IfErr result (HasCause shelf) }
+    ensures { IsWorkedOut (IsCountedPlan request.now sound.now) result }
 {
     let (outcome, table) = outcome_of(alloc, sound, request.planes, request.robust)?;
     answer_of(alloc, sound, &table, &outcome, request.certificate)
@@ -156,13 +154,8 @@ fn planned(alloc: Global, sound: &Sound, request: &PlanRequest) -> Result<Answer
 /// apart; or the certificate of either.
 pub fn plan<H: Shelf>(alloc: Global, request: &PlanRequest, shelf: &mut H) -> Result<Answer, Fault>
     requires { IsPlanRequest request.now }
-    ensures holds { (H.told shelf.new).holds ≡ (H.told shelf.old).holds }
-    ensures count { (H.told shelf.old).faults ≤ (H.told shelf.new).faults }
-    ensures status { IfOk result (λ a. a.status < 2) }
-    ensures opens { OpensSomeOf ASSEMBLY request.now.asked.input [] (H.told shelf.old) (H.told shelf.new) }
-    ensures found { (files : Files) → Fit (H.told shelf.new) files →
-        Follows (PlanWork request.now files) result }
-    ensures cause { IfErr result (HasCause (over (H.told shelf.old) (H.told shelf.new))) }
+    ensures { DoesWork (PlanWork request.now) (OpensSomeOf ASSEMBLY request.now.asked.input []) HasCause
+        (H.told shelf.old) (H.told shelf.new) result }
 {
     let sound = read_sound(alloc, shelf, &request.asked)?;
     planned(alloc, &sound, request)

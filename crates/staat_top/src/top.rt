@@ -3,8 +3,7 @@ ghost use Rattle.std.specs.Prelude.{◌≡◌, ◌≢◌, ◌⊎◌, ◌<◌, �
 ghost use Rattle.std.specs.Prelude.{IfOk, IfErr, IsErrAnd, map, string_bytes};
 ghost use Rattle.staat_words.specs.Requests.{HasBounds, request};
 ghost use Rattle.staat_fault.specs.declared.fault.Fault.TheVariants as faults;
-ghost use Rattle.staat_edge.specs.Fitting.{Fit};
-ghost use Rattle.staat_input.specs.Work.{Files, Follows};
+ghost use Rattle.staat_input.specs.Taking.{DoesWork};
 ghost use Rattle.staat_top.specs.Opened.{OpensRequest, OpensWork};
 ghost use Rattle.staat_top.specs.Replies.{WorkOn};
 ghost use Rattle.staat_top.specs.Runs.{HasRequestBounds, HasRequestCause, IsExplained, IsFound, Ran};
@@ -33,13 +32,8 @@ use std::alloc::Global;
 // The work on a request: a line for each command.
 fn work<H: Shelf>(alloc: Global, request: &Request, shelf: &mut H) -> Result<Answer, Fault>
     requires { HasBounds request.now }
-    ensures holds { (H.told shelf.new).holds ≡ (H.told shelf.old).holds }
-    ensures count { (H.told shelf.old).faults ≤ (H.told shelf.new).faults }
-    ensures status { IfOk result (λ a. a.status < 2) }
-    ensures opens { OpensRequest request.now (H.told shelf.old) (H.told shelf.new) }
-    ensures found { (files : Files) → Fit (H.told shelf.new) files →
-        Follows (WorkOn request.now files) result }
-    ensures cause { IfErr result (HasRequestCause request.now (over (H.told shelf.old) (H.told shelf.new))) }
+    ensures { DoesWork (WorkOn request.now) (OpensRequest request.now) (HasRequestCause request.now)
+        (H.told shelf.old) (H.told shelf.new) result }
 {
     match request {
         Request::Pair(request) => pair(alloc, request, shelf),

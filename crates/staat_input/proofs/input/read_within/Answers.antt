@@ -19,7 +19,7 @@ use Rattle.staat_input.specs.Work.{Each, Files}
 use Rattle.staat_input.proofs.InputLemmas.{few_read, no_value, no_value_on, same_length, then_given}
 use Rattle.staat_input.proofs.OpenedLemmas.{pieces_opened}
 use Rattle.staat_input.proofs.SketchLemmas.{small_more, small_none}
-use Rattle.staat_input.proofs.TakingLemmas.{after_none, takes_fault, takes_later}
+use Rattle.staat_input.proofs.TakingLemmas.{after_none, after_step, takes_fault, takes_later}
 use Rattle.staat_input.proofs.input.read_within.Goals as goal
 
 parts_few : (l : Limits) (named : List ListedPart) (r : Result (List Part) Fault) → IsFewWithin l named → IfOk r (AreRead named) → IfOk r (ArePartsWithin l.parts l.pieces)
@@ -54,7 +54,7 @@ returns-in_err-listing g c =
     let is = c.from_residual.ensures.1 in
     record {
       takes = takes_fault (after_none _) c.in_err-listing.ensures.takes (λ files fit f at. inl (f, at, refl))
-          (λ f. c.in_err-listing.ensures.takes.opened) (λ name may. may) is;
+          (λ f. c.in_err-listing.ensures.takes.opens) (λ name may. may) is;
       few = no_value _ _ found is;
       drawn = λ files fit empty. no_value_on _ _ found is;
       small = λ empty. no_value _ _ found is;
@@ -71,16 +71,16 @@ returns g c =
     let names = c.in_ok-listing.ensures in
     let parts = c.read_parts.ensures in
     let few = subst (IsFewWithin limits) (sym c.as_slice.ensures) names.few in
-    let back : Narrows mid now = narrowed (piece_files named) mid now parts.takes.after.holds
-    (opens_some (is_ok c.read_parts.result) (piece_files named) mid.given now.given parts.takes.opened) in
+    let back : Narrows mid now = narrowed (piece_files named) mid now parts.takes.holds
+    (opens_some (is_ok c.read_parts.result) (piece_files named) mid.given now.given parts.takes.opens) in
     let listed : (files : Files) → Fit now files → IsListingOfWithin limits files asked.input (Ok named) =
     λ files fit. subst (λ (n : List ListedPart). IsListingOfWithin limits files asked.input (Ok n)) (sym c.as_slice.ensures)
     (names.takes.found files (back files fit)) in
     record {
-      takes = takes_later names.takes.after parts.takes
+      takes = takes_later (after_step names.takes) parts.takes
           (λ files fit rest. then_given (IsListingOfWithin limits files asked.input) (Each (IsPartOf files asked.digits)) named c.read_parts.result (listed files fit) rest)
           (pieces_opened limits (is_ok c.read_parts.result) asked.input named before mid now
-          (subst (λ (n : List ListedPart). ReadsNames limits asked.input n before mid) (sym c.as_slice.ensures) names.takes.opened) parts.takes.opened)
+          (subst (λ (n : List ListedPart). ReadsNames limits asked.input n before mid) (sym c.as_slice.ensures) names.takes.opens) parts.takes.opens)
           (λ name h. names.names name (subst (λ (n : List ListedPart). ListsPiece n name) c.as_slice.ensures h));
       few = parts_few limits named c.read_parts.result few parts.read;
       drawn = λ files fit empty. parts_drawn limits files asked now c.args.sketch.now c.read_parts.new.sketch named c.read_parts.result fit (listed files fit) empty parts.grows;

@@ -8,26 +8,10 @@ use Rattle.staat_input.proofs.sound.read_product.Goals as goal
 
 pub returns-in_err-parts : goal.returns-in_err-parts
 returns-in_err-parts g c =
-    let takes = failed_read PRODUCT c.args.asked.now c.from_residual.result c.in_err-parts.ensures.takes c.from_residual.ensures.1 in
-    record {
-      holds = takes.after.holds;
-      count = takes.after.count;
-      opens = takes.opened;
-      found = takes.found;
-      cause = takes.cause;
-      named = takes.named;
-    }
+    failed_read PRODUCT c.args.asked.now c.from_residual.result c.in_err-parts.ensures.takes c.from_residual.ensures.1
 
 pub returns : goal.returns
 returns g c =
-    let takes = tests_read PRODUCT c.args.asked.now c.in_ok-parts.parts c.tested_product.result c.in_ok-parts.ensures.takes
+    tests_read PRODUCT c.args.asked.now c.in_ok-parts.parts c.tested_product.result c.in_ok-parts.ensures.takes
     (subst (λ (p : List Part). Follows (IsTested p) c.tested_product.result) c.seal.ensures c.tested_product.ensures.found)
-    c.tested_product.ensures.cause in
-    record {
-      holds = takes.after.holds;
-      count = takes.after.count;
-      opens = takes.opened;
-      found = takes.found;
-      cause = takes.cause;
-      named = takes.named;
-    }
+    c.tested_product.ensures.cause

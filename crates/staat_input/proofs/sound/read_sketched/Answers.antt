@@ -15,9 +15,9 @@ returns-in_err-parts g c =
     let is = c.from_residual.ensures.1 in
     let takes = failed_read ASSEMBLY c.args.asked.now found c.in_err-parts.ensures.takes is in
     record {
-      holds = takes.after.holds;
-      count = takes.after.count;
-      opens = takes.opened;
+      holds = takes.holds;
+      count = takes.count;
+      opens = takes.opens;
       found = takes.found;
       drawn = λ files fit empty. no_value_on _ _ found is;
       small = λ empty. no_value _ _ found is;
@@ -32,9 +32,9 @@ returns g c =
     let tested = subst (λ (p : List Part). Follows (IsTested p) found) c.seal.ensures c.tested.ensures.found in
     let takes = tests_read ASSEMBLY c.args.asked.now parts found c.in_ok-parts.ensures.takes tested c.tested.ensures.cause in
     record {
-      holds = takes.after.holds;
-      count = takes.after.count;
-      opens = takes.opened;
+      holds = takes.holds;
+      count = takes.count;
+      opens = takes.opens;
       found = takes.found;
       drawn = λ files fit empty. value_on (IsDrawn files c.args.asked.now c.args.sketch.now.keep c.read_within.new.sketch) found
           (c.in_ok-parts.ensures.drawn files fit empty);

@@ -10,7 +10,7 @@ use Rattle.staat_input.specs.Counting.{AreCounted, all_parts}
 use Rattle.staat_input.specs.Causes.{HasCause}
 use Rattle.staat_input.specs.Work.{Follows}
 use Rattle.staat_input.proofs.CountingLemmas.{counted_few}
-use Rattle.staat_input.proofs.InputLemmas.{failed_with, no_value, then_failed, then_given}
+use Rattle.staat_input.proofs.AnswerLemmas.{fault_out, then_out}
 use Rattle.staat_orders.specs.Ordering.{IsOrdered, order_answer}
 use Rattle.staat_orders.proofs.linear.counted.Goals as goal
 
@@ -27,15 +27,8 @@ caused P (Err f) h memory = subst P (sym memory) h
 
 pub returns-in_err-order : goal.returns-in_err-order
 returns-in_err-order c =
-    let fault = c.in_err-order.field-0.0 in
-    let found = c.from_residual.result in
-    let is = c.from_residual.ensures.1 in
-    record {
-      status = no_value _ _ found is;
-      ordered = then_failed (AreCounted c.args.sound.now c.args.planes) (λ planes. IsOrdered c.args.sound.now) fault found
-          c.in_err-order.ensures.refused is;
-      cause = λ shelf. failed_with (HasCause shelf) fault found (c.in_err-order.ensures.cause shelf) is;
-    }
+    fault_out (AreCounted c.args.sound.now c.args.planes) (λ planes. IsOrdered c.args.sound.now) c.from_residual.result
+    c.in_err-order.field-0.0 c.in_err-order.ensures.refused c.in_err-order.ensures.cause c.from_residual.ensures.1
 
 pub returns : goal.returns
 returns c =
@@ -43,10 +36,9 @@ returns c =
     let table = c.in_ok-order.ensures.few in
     let found = c.answer_of.result in
     let memory = c.answer_of.ensures.memory in
-    record {
+    then_out (AreCounted parts c.args.planes) (λ planes. IsOrdered parts) found table.0.planes
+    (counted_few parts c.args.planes table.0 table.1) (record {
       status = c.answer_of.ensures.status;
-      ordered = then_given (AreCounted parts c.args.planes) (λ planes. IsOrdered parts) table.0.planes found
-          (counted_few parts c.args.planes table.0 table.1)
-          (ordered parts c.in_ok-order.order found c.in_ok-order.ensures.chosen c.answer_of.ensures.is memory);
+      found = ordered parts c.in_ok-order.order found c.in_ok-order.ensures.chosen c.answer_of.ensures.is memory;
       cause = λ shelf. caused (HasCause shelf) found tt memory;
-    }
+    })

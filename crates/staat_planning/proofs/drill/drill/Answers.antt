@@ -37,6 +37,6 @@ returns c =
     record {
       status = c.counted.ensures.status;
       found = λ files. then_given (IsTested (parts_of_product product)) (IsCountedDrill product) c.in_ok-sound.sound
-          c.counted.result tested c.counted.ensures.drilled;
+          c.counted.result tested c.counted.ensures.found;
       cause = c.counted.ensures.cause;
     }
