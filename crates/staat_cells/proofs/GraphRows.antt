@@ -1,6 +1,6 @@
 -- Tests of a batch that are joined by threes, and the rows of the graph of a cell, batch by batch.
 use Rattle.std.proofs.Common.{◌≡◌, ◌↔◌, inl, inr, refl, ℕ, ◌+◌, ◌*◌, ◌/◌, ◌%◌, ◌<◌, ◌≤◌, sym, subst, ◌∙◌, arith, List}
-use Rattle.std.proofs.Common.{◌∷◌, [], ◌++◌, length, get_or, take, All, ◌≢◌, ◌⊎◌, replicate, Any}
+use Rattle.std.proofs.Common.{◌∷◌, [], ◌++◌, length, get_or, take, All, ◌⊎◌, replicate, Any}
 use Rattle.std.specs.Prelude.{bit_or, slice_index, slice_set}
 use Rattle.std.specs.Int.{bit_at}
 use Rattle.std.proofs.lemmas.List.{get_or_past, take_all, length-set}

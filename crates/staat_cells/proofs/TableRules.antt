@@ -1,5 +1,5 @@
 -- What the rules of a table say of its planes.
-use Rattle.std.proofs.Common.{◌≡◌, ◌≢◌, ◌⊎◌, ◌↔◌, inl, inr, ℕ, All, suc, refl, sym, subst, ⊎_elim, lit≤, ◌*◌, ◌∙◌}
+use Rattle.std.proofs.Common.{◌≡◌, ◌≢◌, ◌⊎◌, ◌↔◌, inl, inr, ℕ, All, suc, refl, sym, subst, ⊎_elim, lit≤, ◌*◌}
 use Rattle.std.proofs.Common.{arith, pos, List, [], ◌∷◌, Contains}
 use Rattle.std.specs.Prelude.{slice_get, Some}
 use Rattle.std.proofs.lemmas.List.Elements.{All-contains, Contains-append_left}

@@ -1,11 +1,9 @@
-use Rattle.std.proofs.Common.{◌≡◌, [], arith, length, map, subst, sym, Contains}
+use Rattle.std.proofs.Common.{◌≡◌, arith, length, map, subst, sym, Contains}
 use Rattle.std.proofs.lemmas.List.{length-map}
-use Rattle.staat_vec.specs.Lists.{Lists}
 use Rattle.staat_model.specs.declared.tree.Kind.TheVariants.{Edge}
 use Rattle.staat_model.specs.Cells.{CellEntry, signs_of}
 use Rattle.staat_model.specs.Planes.{vertices}
 use Rattle.staat_cells.specs.Compositions.{entry_of}
-use Rattle.staat_cells.specs.Packing.{incidence_cmp}
 use Rattle.staat_cells.specs.Stages.{GrewByAll, IsEdgeIncidence, IsIncidence}
 use Rattle.staat_cells.proofs.MadeUpCells.{point_in}
 use Rattle.staat_cells.proofs.Growing.{grown_more}

@@ -1,8 +1,6 @@
-use Rattle.std.proofs.Common.{◌≡◌, ◌∙◌, [], ◌∷◌, ap, arith, get_or, length, subst}
+use Rattle.std.proofs.Common.{◌≡◌, ◌∙◌, ap, arith, length}
 use Rattle.std.proofs.lemmas.List.Elements.{Contains-get_or}
-use Rattle.staat_vec.specs.Vectors.{origin}
 use Rattle.staat_cells.specs.ZeroSigns.{zero_places}
-use Rattle.staat_cells.specs.Stages.{GrewByAll, IsBesideIncidence}
 use Rattle.staat_planes.proofs.Gaining.{adds_nothing}
 use Rattle.staat_cells.proofs.Growing.{grown_more, grown_same, none_below}
 use Rattle.staat_cells.proofs.ZeroPlaces.{IsPassed, all_passed}

@@ -1,11 +1,10 @@
-use Rattle.std.proofs.Common.{◌≡◌, [], arith, length, map, subst, sym, Contains}
+use Rattle.std.proofs.Common.{◌≡◌, arith, length, map}
 use Rattle.std.proofs.lemmas.List.{length-map}
-use Rattle.staat_vec.specs.Lists.{Lists}
 use Rattle.staat_vec.specs.declared.vector.Sign.TheVariants.{Neg, Pos}
 use Rattle.staat_cells.specs.Beside.{filled}
 use Rattle.staat_cells.specs.Compositions.{entry_of}
-use Rattle.staat_cells.specs.Packing.{incidence_cmp, incidence_of}
-use Rattle.staat_cells.specs.Stages.{GrewByAll, IsFilledIncidence, cell_at}
+use Rattle.staat_cells.specs.Packing.{incidence_of}
+use Rattle.staat_cells.specs.Stages.{IsFilledIncidence, cell_at}
 use Rattle.staat_cells.proofs.Growing.{grown_more}
 use Rattle.staat_cells.proofs.ListedIncidences.{IsFilledAt, filled_all, grew_none, grew_pair, own_place, own_signs, sorted_all}
 use Rattle.staat_cells.proofs.open_incidences.open_incidences.Goals as goal

@@ -1,10 +1,9 @@
-use Rattle.std.proofs.Common.{◌≡◌, ◌∙◌, ap, arith, subst, sym, ◌++◌, ◌∷◌, [], length, map, Contains}
+use Rattle.std.proofs.Common.{◌≡◌, ◌∙◌, ap, arith, sym, ◌++◌, ◌∷◌, [], length, map}
 use Rattle.std.proofs.lemmas.List.{length-map}
-use Rattle.staat_vec.specs.Lists.{Lists}
 use Rattle.staat_model.specs.Cells.{CellEntry}
 use Rattle.staat_cells.specs.declared.cell.Cell.{Cell}
 use Rattle.staat_cells.specs.Compositions.{entry_of}
-use Rattle.staat_cells.specs.Packing.{incidence_cmp, incidence_of}
+use Rattle.staat_cells.specs.Packing.{incidence_of}
 use Rattle.staat_cells.specs.Stages.{IsOwnIncidence, cell_at}
 use Rattle.staat_cells.proofs.Growing.{grown_more}
 use Rattle.staat_cells.proofs.ListedIncidences.{IsOwnAt, entry_is, grew_none, grew_one, own_all, sorted_all}

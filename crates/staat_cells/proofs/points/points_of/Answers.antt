@@ -1,4 +1,4 @@
-use Rattle.std.proofs.Common.{◌≡◌, ◌∙◌, ◌↔◌, ◌<◌, sym, ap, refl, subst, length, map, List, All, Contains}
+use Rattle.std.proofs.Common.{◌∙◌, ◌<◌, sym, ap, subst, length, map, List, All, Contains}
 use Rattle.staat_vec.specs.Lists.{Lists}
 use Rattle.staat_vec.specs.Vectors.{vector_cmp}
 use Rattle.staat_model.specs.Planes.{vertices}
