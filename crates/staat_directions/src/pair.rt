@@ -1,6 +1,6 @@
 // The command `pair`: whether a wall shows that one piece never meets another.
 ghost use Rattle.std.specs.Prelude.{◌≡◌, ◌≤◌, ◌<◌, ◌↔◌, ◌≤ℤ◌, pos};
-ghost use Rattle.std.specs.Prelude.{IsTrue, IfOk, IfErr};
+ghost use Rattle.std.specs.Prelude.{IsTrue, IfOk, IfErr, false};
 ghost use Rattle.std.specs.Prelude.{◌∷◌, []};
 ghost use Rattle.staat_edge.specs.Opening.{OpensFiles};
 ghost use Rattle.staat_fault.specs.declared.fault.Fault.TheVariants.{OutOfMemory};
