@@ -36,7 +36,8 @@ returns-in_err-q g c =
     let p = c.in_ok-p.ensures in
     let q = c.in_err-q.ensures in
     let found = c.from_residual-in_err-q.result in
-    let back = narrowed (request.second ∷ []) _ _ q.holds q.opens in
+    let back = narrowed (request.second ∷ []) (g.H.Shelf.told c.read_piece.new.shelf)
+    (g.H.Shelf.told c.read_piece-2.new.shelf) q.holds q.opens in
     let takes : Takes request (g.H.Shelf.told c.args.shelf.now) (g.H.Shelf.told c.read_piece-2.new.shelf) found =
     takes_fault (after_step p) q (λ files fit f at. inr (c.in_ok-p.p, p.found files (back files fit), inl (f, at, refl)))
     (λ f. opens_after false (request.first ∷ []) (request.second ∷ []) _ _ _ p.opens q.opens) (λ name long. tt)
