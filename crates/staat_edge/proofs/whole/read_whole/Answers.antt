@@ -1,7 +1,7 @@
 use Rattle.std.proofs.Common.{⊎_elim, append-nil, ◌<◌, ◌≡◌, ◌∙◌, ◌≤◌, ◌+◌, ◌-◌, ◌∷◌, ◌++◌, ℕ, List, Option, None, Some}
 use Rattle.std.proofs.Common.{Result, Ok, Err, [], ap₂, true, false, drop, min, refl, ap, arith, le_trans, length, pos_of_ne-zero, sym}
 use Rattle.std.proofs.Common.{subst, take, inl, inr}
-use Rattle.std.specs.Prelude.{option_map, IfSome, IsErrAnd, IsSomeAnd}
+use Rattle.std.specs.Prelude.{option_map, IfSome, IsErrAnd, IsErrOf, IsSomeAnd}
 use Rattle.std.specs.Io.KnownBytes.{Consumes}
 use Rattle.std.proofs.KnownBytes.{Consumes-trans}
 use Rattle.std.proofs.lemmas.List.{length-append, length-take, take-append-le}
@@ -9,11 +9,33 @@ use Rattle.staat_edge.specs.Files.{failed_at, held_name, told_name}
 use Rattle.staat_edge.specs.Opening.{OpensAll}
 use Rattle.staat_edge.specs.Readings.{after_read, whole_reading}
 use Rattle.staat_edge.specs.declared.whole.ReadRefusal.{ReadRefusal}
-use Rattle.staat_edge.specs.declared.whole.ReadRefusal.TheVariants.{OutOfMemory}
+use Rattle.staat_edge.specs.declared.whole.ReadRefusal.TheVariants.{OutOfMemory, ReadFault, TooLong}
 use Rattle.staat_edge.proofs.Fitted.{as_it_is, ended_by, grown_by, longer_fits, still_one, whole_fits}
 use Rattle.staat_edge.proofs.OpeningLemmas.{all_some, narrowed}
 use Rattle.staat_edge.proofs.Taken.{not_lacking, rose_since, taken_longer, taken_whole, told_held, where_refused}
 use Rattle.staat_edge.proofs.whole.read_whole.Goals as goal
+
+-- what a goal's long list of facts would make slow to see
+no_error : {X : Type 0} (x : X) (e : ReadRefusal) → IsErrOf (Ok x) e → ⊥
+no_error x e is = absurd cc
+
+fault_not_long : {X : Type 0} → IsErrOf {T = X} (Err ReadFault) TooLong → ⊥
+fault_not_long is = absurd cc
+
+fault_not_memory : {X : Type 0} → IsErrOf {T = X} (Err ReadFault) OutOfMemory → ⊥
+fault_not_memory is = absurd cc
+
+long_not_fault : {X : Type 0} → IsErrOf {T = X} (Err TooLong) ReadFault → ⊥
+long_not_fault is = absurd cc
+
+long_not_memory : {X : Type 0} → IsErrOf {T = X} (Err TooLong) OutOfMemory → ⊥
+long_not_memory is = absurd cc
+
+memory_not_fault : {X : Type 0} → IsErrOf {T = X} (Err OutOfMemory) ReadFault → ⊥
+memory_not_fault is = absurd cc
+
+memory_not_long : {X : Type 0} → IsErrOf {T = X} (Err OutOfMemory) TooLong → ⊥
+memory_not_long is = absurd cc
 
 none_open : (P : ℕ → Type 0) (place : Option ℕ) → place ≡ None → IfSome place P
 none_open P place is = subst (λ o. IfSome o P) (sym is) tt
@@ -68,11 +90,11 @@ returns-then-is_err g c =
       fault = λ _. cause;
       failed = λ _. c.open.ensures.failed ∙ ap (λ b. failed_at b (held_name before.holds name) before.failed) wrong;
       no_fault = λ there no_rise _. ⊎_elim (not_lacking _ name there) no_rise cause;
-      long = λ e. absurd cc;
-      long_name = λ e. absurd cc;
-      longer = λ e. absurd cc;
-      long_failed = λ e. absurd cc;
-      memory_failed = λ e. absurd cc;
+      long = λ e. absurd (fault_not_long e);
+      long_name = λ e. absurd (fault_not_long e);
+      longer = λ e. absurd (fault_not_long e);
+      long_failed = λ e. absurd (fault_not_long e);
+      memory_failed = λ e. absurd (fault_not_memory e);
     }
 
 -- a read asks for no more than what is left up to one past the limit
@@ -131,14 +153,14 @@ returns-in-Ok-eq0 g c =
       within = within.0;
       place = place ∙ ap Some within.2;
       same_failed = c.in-Ok-eq0.ensures.failed ∙ not_failed _ _ ∙ c.pieces.invariant.failed;
-      fault = λ e. absurd cc;
-      failed = λ e. absurd cc;
-      no_fault = λ _ _ e. absurd cc;
-      long = λ e. absurd cc;
-      long_name = λ e. absurd cc;
-      longer = λ e. absurd cc;
-      long_failed = λ e. absurd cc;
-      memory_failed = λ e. absurd cc;
+      fault = λ e. absurd (no_error _ _ e);
+      failed = λ e. absurd (no_error _ _ e);
+      no_fault = λ _ _ e. absurd (no_error _ _ e);
+      long = λ e. absurd (no_error _ _ e);
+      long_name = λ e. absurd (no_error _ _ e);
+      longer = λ e. absurd (no_error _ _ e);
+      long_failed = λ e. absurd (no_error _ _ e);
+      memory_failed = λ e. absurd (no_error _ _ e);
     }
 
 pub returns-in_err-extend_from_slice-in-Ok : goal.returns-in_err-extend_from_slice-in-Ok
@@ -163,13 +185,13 @@ returns-in_err-extend_from_slice-in-Ok g c =
       within = tt;
       place = tt;
       same_failed = tt;
-      fault = λ e. absurd cc;
-      failed = λ e. absurd cc;
-      no_fault = λ _ _ e. absurd cc;
-      long = λ e. absurd cc;
-      long_name = λ e. absurd cc;
-      longer = λ e. absurd cc;
-      long_failed = λ e. absurd cc;
+      fault = λ e. absurd (memory_not_fault e);
+      failed = λ e. absurd (memory_not_fault e);
+      no_fault = λ _ _ e. absurd (memory_not_fault e);
+      long = λ e. absurd (memory_not_long e);
+      long_name = λ e. absurd (memory_not_long e);
+      longer = λ e. absurd (memory_not_long e);
+      long_failed = λ e. absurd (memory_not_long e);
       memory_failed = λ _. c.in-Ok.ensures.failed ∙ not_failed _ _ ∙ c.pieces.invariant.failed;
     })
 
@@ -196,11 +218,11 @@ returns-in-Err g c =
       fault = λ _. inr rose;
       failed = λ _. c.in-Err.ensures.failed ∙ ap₂ (failed_at true) (c.pieces.invariant.name ∙ told_held _ name c.pieces.invariant.has) c.pieces.invariant.failed;
       no_fault = λ _ no_rise _. no_rise rose;
-      long = λ e. absurd cc;
-      long_name = λ e. absurd cc;
-      longer = λ e. absurd cc;
-      long_failed = λ e. absurd cc;
-      memory_failed = λ e. absurd cc;
+      long = λ e. absurd (fault_not_long e);
+      long_name = λ e. absurd (fault_not_long e);
+      longer = λ e. absurd (fault_not_long e);
+      long_failed = λ e. absurd (fault_not_long e);
+      memory_failed = λ e. absurd (fault_not_memory e);
     }
 
 pub returns : goal.returns
@@ -222,16 +244,16 @@ returns g c =
       within = tt;
       place = tt;
       same_failed = tt;
-      fault = λ e. absurd cc;
-      failed = λ e. absurd cc;
-      no_fault = λ _ _ e. absurd cc;
+      fault = λ e. absurd (long_not_fault e);
+      failed = λ e. absurd (long_not_fault e);
+      no_fault = λ _ _ e. absurd (long_not_fault e);
       long = λ _. open_past now.place (length c.pieces.taken.items) c.args.limit c.pieces.invariant.place long;
       long_name = λ _. c.pieces.invariant.name;
       longer = λ _. longer_fits _ name c.pieces.taken.items c.args.limit _ _ long c.pieces.invariant.given (λ held is.
           taken_longer _ name c.pieces.taken.items c.args.limit _ held c.pieces.invariant.has long
           c.pieces.invariant.bytes (sym c.pieces.invariant.holds ∙ is));
       long_failed = λ _. c.pieces.invariant.failed;
-      memory_failed = λ e. absurd cc;
+      memory_failed = λ e. absurd (long_not_memory e);
     }
 
 -- a read within what room was left
