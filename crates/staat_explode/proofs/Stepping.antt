@@ -1,12 +1,12 @@
 -- The least number of steps that takes the moved parts past the resting ones.
 use Rattle.std.proofs.Common.{◌≡◌, ◌≢◌, ℕ, zero, suc, ◌+◌, ◌*◌, ◌<◌, ◌≤◌, ℤ, pos}
-use Rattle.std.proofs.Common.{negsuc, ◌+ℤ◌, ◌-ℤ◌, ◌*ℤ◌, ◌<ℤ◌, ◌≤ℤ◌, unsigned_abs, Bool}
+use Rattle.std.proofs.Common.{negsuc, neg_ℤ, ◌+ℤ◌, ◌-ℤ◌, ◌*ℤ◌, ◌<ℤ◌, ◌≤ℤ◌, unsigned_abs, Bool}
 use Rattle.std.proofs.Common.{true, false, List, ap, refl, arith, inl, inr}
 use Rattle.std.specs.Prelude.{int_lt, if◌then◌else◌}
 use Rattle.std.specs.Int.{div_ceil}
 use Rattle.std.proofs.lemmas.Int.{ints}
 use Rattle.std.proofs.lemmas.Grind.{div_ceil_times}
-use Rattle.std.proofs.Math.Nat.{mul-le-mul_right}
+use Rattle.std.proofs.Math.Nat.{mul-le-mul_left, mul-le-mul_right}
 use Rattle.staat_vec.specs.declared.vector.V3.{V3}
 use Rattle.staat_vec.specs.Vectors.{origin, vector}
 use Rattle.staat_explode.specs.declared.axis.Axis.{Axis}
@@ -15,7 +15,20 @@ use Rattle.staat_explode.specs.declared.boxes.Bounds.{Bounds}
 use Rattle.staat_explode.specs.declared.shifted.Shifted.{Shifted}
 use Rattle.staat_explode.specs.Boxes.{component}
 use Rattle.staat_explode.specs.Shifts.{ArePast, axis_of, axis_or_next, highest, lowest, rounds, steps_apart}
-use Rattle.staat_explode.proofs.Products.{times_up, times_down, size_some}
+
+times_up : (m : ℕ) (z : ℤ) → pos 0 <ℤ z → pos m *ℤ z ≡ pos (m * unsigned_abs z)
+times_up m (pos n) h = refl
+times_up m (negsuc n) h = absurd (omega (arith, ints))
+
+times_down : (m : ℕ) (z : ℤ) → z ≤ℤ pos 0 → pos m *ℤ z ≡ neg_ℤ (pos (m * unsigned_abs z))
+times_down m (pos zero) h = omega (arith, ints)
+times_down m (pos (suc n)) h = absurd (omega (arith, ints))
+times_down m (negsuc n) h = omega (arith, ints)
+
+size_some : (z : ℤ) → z ≢ pos 0 → 0 < unsigned_abs z
+size_some (pos zero) h = absurd (h refl)
+size_some (pos (suc n)) h = omega arith
+size_some (negsuc n) h = omega arith
 
 enough : (gap : ℤ) (step : ℕ) → 0 < step → gap ≤ℤ pos (rounds gap step * step)
 enough (pos g) step some = let h = div_ceil_times g step some in omega (arith, ints, h.0)
@@ -32,6 +45,11 @@ fewest (pos g) step k some h = by_order (div_ceil g step) (div_ceil_times g step
       where
         by_lt : (a b : ℕ) → (b + 1 ≤ a → a ≤ b) → a ≤ b
         by_lt a b f = grind arith
+
+-- no more than the gap is wide
+pub few_rounds : (gap : ℤ) (step : ℕ) → 1 ≤ step → rounds gap step ≤ unsigned_abs gap
+few_rounds (negsuc g) step some = omega arith
+few_rounds (pos g) step some = fewest (pos g) step g some (omega (arith, ints, mul-le-mul_left g some))
 
 pub axis_some : (d : V3) → d ≢ origin → component (axis_of d) d ≢ pos 0
 axis_some d = go d.x d.y d.z

@@ -1,5 +1,5 @@
 -- Digits, one by one, and the number that they write.
-use Rattle.std.proofs.Common.{◌≡◌, ◌<◌, ◌≤◌, ◌+◌, ◌*◌, ◌^◌, ◌++◌, ℕ, zero, suc, Bool, true, false, List, [], ◌∷◌, length, take, get_or, refl, arith, rules, tests, lit<}
+use Rattle.std.proofs.Common.{◌≡◌, ◌<◌, ◌≤◌, ◌+◌, ◌*◌, ◌^◌, ◌++◌, ℕ, zero, suc, Bool, true, false, List, [], ◌∷◌, length, take, get_or, get_or-take, ap, ◌∙◌, refl, arith, rules, tests, lit<}
 use Rattle.std.specs.Char.{digit_value, is_ascii_digit}
 use Rattle.std.specs.Int.{IsInRange}
 use Rattle.std.specs.List.{list_all, prefix_len}
@@ -7,6 +7,8 @@ use Rattle.std.specs.Str.Parse.{AllDigits, digits_value, digits_value_after}
 use Rattle.std.proofs.Math.Nat.{pow-le-pow_right}
 use Rattle.std.proofs.lemmas.Int.Digits.{digits_value-lt}
 use Rattle.std.proofs.lemmas.Str.{digit_value_digit}
+use Rattle.std.proofs.lemmas.List.Folds.{length-prefix_len}
+use Rattle.std.proofs.lemmas.List.Sums.{list_all-from_AllPass, prefix_len_passes}
 use Rattle.staat_vec.proofs.Truth.{and_split}
 
 -- the first element, and the others, where all pass
@@ -50,13 +52,16 @@ short_value ds all few =
     let power : 10 ^ length ds ≤ 10 ^ 7 = pow-le-pow_right {n = 10} (lit< tt) few in
     omega (arith, digits_value-lt 10 ds (below_ten ds all), power)
 
-front_by : {A : Type 0} (p : A → Bool) (x : A) (xs : List A) (b : Bool) → p x ≡ b → list_all p (take (prefix_len p xs) xs) ≡ true → list_all p (take (prefix_len p (x ∷ xs)) (x ∷ xs)) ≡ true
-front_by p x xs false e rest = rw e refl
-front_by p x xs true e rest =
-    let more : 1 + prefix_len p xs ≡ suc (prefix_len p xs) = omega arith in
-    rw (e, more, e) rest
-
 -- what the count of a front counts passes
 pub all_in_front : {A : Type 0} (p : A → Bool) (xs : List A) → list_all p (take (prefix_len p xs) xs) ≡ true
-all_in_front p [] = refl
-all_in_front p (x ∷ xs) = front_by p x xs (p x) refl (all_in_front p xs)
+all_in_front p xs = list_all-from_AllPass p (take (prefix_len p xs) xs) (λ k d lt.
+    let within : k < prefix_len p xs = omega (arith, length-prefix_len p xs) in
+    ap p (get_or-take (prefix_len p xs) xs k d within) ∙ prefix_len_passes p xs k d within)
+
+-- and where all of a text passes, and nothing in front of what follows it, the count of the whole counts the text
+pub prefix_all : {A : Type 0} (p : A → Bool) (xs ys : List A) → list_all p xs ≡ true → prefix_len p ys ≡ 0 → prefix_len p (xs ++ ys) ≡ length xs
+prefix_all p [] ys all none = none
+prefix_all p (x ∷ xs) ys all none =
+    let parts = and_split (p x) (list_all p xs) all in
+    let first : p x ≡ true = parts.0 in
+    rw first (omega (arith, prefix_all p xs ys parts.1 none))
