@@ -6,7 +6,7 @@ use Rattle.std.proofs.Common.{flat_map}
 use Rattle.std.specs.Int.{int_max, int_min}
 use Rattle.std.specs.List.{fold}
 use Rattle.std.specs.Prelude.{int_lt, All, slice_get, option_map, option_and_then, unwrap_or}
-use Rattle.std.proofs.lemmas.List.{drop_more, take_more, take_all, map-append}
+use Rattle.std.proofs.lemmas.List.{drop_more, take_more, take_all, map_more}
 use Rattle.std.proofs.lemmas.Option.{slice_get_within, get_or_from_slice_get}
 use Rattle.staat_model.proofs.Places.{some_at}
 use Rattle.staat_model.specs.declared.assembly.Part.{Part}
@@ -99,9 +99,6 @@ points_more parts a i b p is = go (slice_get parts a) is
         ap (λ ps. fold covering b (flat_map (λ q. q) ps)) (take_more part.pieces i p (slice_get_within part.pieces i p e) ∙ ap (λ x. take i part.pieces ++ x ∷ []) (get_or_from_slice_get part.pieces i p p e))
         ∙ fold_pieces b (take i part.pieces) p
 
-pub pieces_counted : (parts : List Part) (a : ℕ) → piece_count parts a ≡ length (pieces_of_part parts a)
-pieces_counted parts a = pieces_count (slice_get parts a)
-
 -- the first point of a part
 pub first_point : (parts : List Part) (a : ℕ) (p : List V3) (d : V3) → piece_at parts a 0 ≡ Some p
     → 1 ≤ length p → (get_or p 0 d ≡ get_or (points_at parts a) 0 d) × (1 ≤ length (points_at parts a))
@@ -131,7 +128,7 @@ pub part_box : (parts : List Part) (a n : ℕ) (p : List V3) (d : V3) → piece_
     ≡ box_of (points_at parts a)
 part_box parts a n p d is some all =
     let first = first_point parts a p d is some in
-    ap (λ ps. fold covering (around (get_or p 0 d)) (flat_map (λ q. q) ps)) (take_all n (pieces_of_part parts a) (omega (arith, pieces_counted parts a)))
+    ap (λ ps. fold covering (around (get_or p 0 d)) (flat_map (λ q. q) ps)) (take_all n (pieces_of_part parts a) (omega (arith, pieces_count (slice_get parts a))))
     ∙ ap (λ v. fold covering (around v) (points_at parts a)) first.0
     ∙ box_is (points_at parts a) d first.1
 
@@ -171,6 +168,5 @@ boxes_more parts a boxes lt e = go (some_at parts a lt)
         ≡ map (λ part. box_of (points_of part)) (take (a + 1) parts)
     go (part, is) =
         (λ i. e i ++ box_of (flat_map (λ piece. piece) (unwrap_or (option_map (λ part. part.pieces) (is i)) [])) ∷ [])
-        ∙ sym (map-append (λ part. box_of (points_of part)) (take a parts) (part ∷ []))
-        ∙ ap (map (λ part. box_of (points_of part))) (ap (λ x. take a parts
-        ++ x ∷ []) (sym (get_or_from_slice_get parts a part part is)) ∙ sym (take_more parts a part lt))
+        ∙ ap (λ x. map (λ part. box_of (points_of part)) (take a parts) ++ box_of (points_of x) ∷ []) (sym (get_or_from_slice_get parts a part part is))
+        ∙ sym (map_more (λ part. box_of (points_of part)) parts a part lt)

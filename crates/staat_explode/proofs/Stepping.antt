@@ -62,23 +62,6 @@ axis_some d = go d.x d.y d.z
     go (pos (suc n)) y z h e = cc
     go (negsuc n) y z h e = cc
 
-up_past : (l g s : ℤ) (m : ℕ) → pos 0 <ℤ s → ((g +ℤ pos 1) -ℤ l) ≤ℤ pos (m * unsigned_abs s)
-    → (g +ℤ pos 1) ≤ℤ (l +ℤ (pos m *ℤ s))
-up_past l g s m up h = rw (times_up m s up) (omega (arith, ints))
-
-past_up : (l g s : ℤ) (m : ℕ) → pos 0 <ℤ s → (g +ℤ pos 1) ≤ℤ (l +ℤ (pos m *ℤ s))
-    → ((g +ℤ pos 1) -ℤ l) ≤ℤ pos (m * unsigned_abs s)
-past_up l g s m up h =
-    let k : (g +ℤ pos 1) ≤ℤ (l +ℤ pos (m * unsigned_abs s)) = rw (times_up m s up) at h in omega (arith, ints)
-
-down_past : (h l s : ℤ) (m : ℕ) → s ≤ℤ pos 0 → ((h +ℤ pos 1) -ℤ l) ≤ℤ pos (m * unsigned_abs s)
-    → (h +ℤ (pos m *ℤ s)) ≤ℤ (l -ℤ pos 1)
-down_past h l s m down e = rw (times_down m s down) (omega (arith, ints))
-
-past_down : (h l s : ℤ) (m : ℕ) → s ≤ℤ pos 0 → (h +ℤ (pos m *ℤ s)) ≤ℤ (l -ℤ pos 1)
-    → ((h +ℤ pos 1) -ℤ l) ≤ℤ pos (m * unsigned_abs s)
-past_down h l s m down e = let t = times_down m s down in let k = rw t at e in omega (arith, ints)
-
 module _ (boxes : List Bounds) (d : V3) (moved rest : List Shifted) (some : d ≢ origin) where
   abbrev axis : Axis
   axis = axis_of d
@@ -101,11 +84,13 @@ module _ (boxes : List Bounds) (d : V3) (moved rest : List Shifted) (some : d �
       go : (b : Bool) → int_lt (pos 0) step ≡ b → 0 < size → ArePast boxes d moved rest (rounds (gap b) size)
       go true e far =
           let up : pos 0 <ℤ step = grind (arith, ints) in
-          inl (up, up_past (lowest boxes axis moved) (highest boxes axis rest) step _ up (enough (gap true) size far))
+          let most = enough (gap true) size far in
+          inl (up, rw (times_up (rounds (gap true) size) step up) (omega (arith, ints)))
       go false e far =
           let low : step ≤ℤ pos 0 = grind (arith, ints) in
           let down : step <ℤ pos 0 = omega (arith, ints) in
-          inr (down, down_past (highest boxes axis moved) (lowest boxes axis rest) step _ low (enough (gap false) size far))
+          let most = enough (gap false) size far in
+          inr (down, rw (times_down (rounds (gap false) size) step low) (omega (arith, ints)))
 
   -- and no fewer are
   pub least_past : (k : ℕ) → ArePast boxes d moved rest k → steps_apart boxes d moved rest ≤ k
@@ -114,11 +99,15 @@ module _ (boxes : List Bounds) (d : V3) (moved rest : List Shifted) (some : d �
     where
       go : (b : Bool) → int_lt (pos 0) step ≡ b → 0 < size → ArePast boxes d moved rest k → rounds (gap b) size ≤ k
       go true e far (inl a) =
-          fewest _ size k far (past_up (lowest boxes axis moved) (highest boxes axis rest) step k a.0 a.1)
+          let product = times_up k step a.0 in
+          let past_all = a.1 in
+          fewest (gap true) size k far (omega (arith, ints))
       go true e far (inr a) = let wrong = a.0 in absurd (grind (arith, ints))
       go false e far (inl a) = let wrong = a.0 in absurd (grind (arith, ints))
       go false e far (inr a) =
           let down = a.0 in
-          fewest _ size k far (past_down (highest boxes axis moved) (lowest boxes axis rest) step k (omega (arith, ints)) a.1)
+          let product = times_down k step (omega (arith, ints)) in
+          let past_all = a.1 in
+          fewest (gap false) size k far (omega (arith, ints))
 
 pub ruleset stepping = (past, least_past)

@@ -26,6 +26,7 @@ use Rattle.staat_off.proofs.Decisions.{spelled_decides}
 use Rattle.std.proofs.lemmas.List.Sums.{list_all-from_AllPass}
 use Rattle.staat_vec.proofs.Decimals.{decimal_value}
 use Rattle.staat_vec.proofs.ListLaws.{any_default}
+use Rattle.staat_vec.proofs.Naturals.{eq_test_false}
 use Rattle.staat_off.proofs.DigitLemmas.{prefix_all}
 
 -- ---- numbers
@@ -149,24 +150,17 @@ pub word_front : (w s : List ℕ) (at : ℕ) → list_all is_plain w ≡ true �
     ≡ (Some (record { text = w; at = at }), record { bytes = s; at = at + length w })
 unfolding next_word
 word_front w s at all some none =
-    let here : at + 0 ≡ at = omega arith in
     ap (λ (k : ℕ). word_in_front (record { bytes = drop k (w ++ s); at = at + k })) (no_gap w s all some)
-    ∙ ap (λ (k : ℕ). word_in_front (record { bytes = w ++ s; at = k })) here
-    ∙ ap (front (w ++ s)) (prefix_all is_plain w s all none)
-    ∙ ap (λ (x : Bool). if x then nothing_found (w ++ s) else found (w ++ s) (length w)) (not_zero (length w) some)
+    ∙ (λ i. read (here i) (prefix_all is_plain w s all none i) (prefix_all is_plain w s all none i == 0))
+    ∙ ap (read at (length w)) (eq_test_false (length w) 0 (λ e. omega arith))
     ∙ (λ i. (Some (record { text = take-append_seam w s i; at = at }), record { bytes = drop-append_seam w s i; at = at + length w }))
   where
-    nothing_found : List ℕ → Option Word × Rest
-    nothing_found bs = (None, record { bytes = bs; at = at })
+    here : at + 0 ≡ at
+    here = omega arith
 
-    found : List ℕ → ℕ → Option Word × Rest
-    found bs n = (Some (record { text = take n bs; at = at }), record { bytes = drop n bs; at = at + n })
-
-    front : List ℕ → ℕ → Option Word × Rest
-    front bs n = if n == 0 then nothing_found bs else found bs n
-
-    not_zero : (k : ℕ) → 0 < k → (k == 0) ≡ false
-    not_zero k h = grind (arith, nat_tests)
+    read : ℕ → ℕ → Bool → Option Word × Rest
+    read place n none = if none then (None, record { bytes = w ++ s; at = place })
+        else (Some (record { text = take n (w ++ s); at = place }), record { bytes = drop n (w ++ s); at = place + n })
 
 -- no word is left where nothing but blanks is
 pub no_word_left : (at : ℕ) → next_word (record { bytes = []; at = at }) ≡ (None, record { bytes = []; at = at })
