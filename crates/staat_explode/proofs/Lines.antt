@@ -61,7 +61,8 @@ corners_below before m (s ∷ ss) le h =
     let n = length s.raw.points in
     let raise : ℕ → ℕ = λ corner. before + corner in
     All-append (AreBelow m) (map (map raise) s.raw.faces) (faces_behind (before + n) ss)
-    (All-map (map raise) (AreBelow m) s.raw.faces (All-weaker (AreBelow n) (λ ks. AreBelow m (map raise ks)) (λ ks a. raised before n m ks (omega arith) a) s.raw.faces (All-head (λ (t : Solid). IsIndexed t.raw) s ss h).corners))
+    (All-map (map raise) (AreBelow m) s.raw.faces
+    (All-weaker (AreBelow n) (λ ks. AreBelow m (map raise ks)) (λ ks a. raised before n m ks (omega arith) a) s.raw.faces (All-head (λ (t : Solid). IsIndexed t.raw) s ss h).corners))
     (corners_below (before + n) m ss (omega arith) (All-tail (λ (t : Solid). IsIndexed t.raw) s ss h))
 
 pub scene_again : (solids : List Solid) (shifts : List V3) → All (λ s. IsIndexed s.raw) solids

@@ -78,7 +78,8 @@ power_of (b ∷ bs) d h =
     let sign = sign_of bs in
     let down : is_minus_first bs ≡ d.0 = ap (λ p. p.0) (from_some passed.1) in
     let exponent : after_sign bs ≡ d.1 = ap (λ p. p.1) (from_some passed.1) in
-    let text : (b ∷ bs ≡ codes "e" ++ (sign.sign ++ d.1)) ⊎ (b ∷ bs ≡ codes "E" ++ (sign.sign ++ d.1)) = subst (λ xs. (b ∷ bs ≡ codes "e" ++ xs) ⊎ (b ∷ bs ≡ codes "E" ++ xs)) (sign.whole ∙ ap (λ xs. sign.sign ++ xs) exponent) (letter_of b bs outer.0) in (
+    let text : (b ∷ bs ≡ codes "e" ++ (sign.sign ++ d.1)) ⊎ (b ∷ bs ≡ codes "E" ++ (sign.sign ++ d.1)) =
+    subst (λ xs. (b ∷ bs ≡ codes "e" ++ xs) ⊎ (b ∷ bs ≡ codes "E" ++ xs)) (sign.whole ∙ ap (λ xs. sign.sign ++ xs) exponent) (letter_of b bs outer.0) in (
       inr (
         sign.sign,
         subst (λ x. IsSign x sign.sign) down sign.is,

@@ -12,7 +12,8 @@ pub loop-i-preserved : goal.loop-i-preserved
 loop-i-preserved c =
     let value = c.covering_all-bounds.ensures ∙ ap (fold covering c.loop-i.bounds) c.points-in-loop-i.ensures.points in
     record {
-      so_far = value ∙ ap (λ b. fold covering b c.piece-in-loop-i.result.now) c.loop-i.invariant.so_far ∙ sym (points_more c.args.assembly.now c.args.a c.loop-i.i (around (get_or c.points.result.now 0 origin)) c.piece-in-loop-i.result.now c.piece-in-loop-i.ensures);
+      so_far = value ∙ ap (λ b. fold covering b c.piece-in-loop-i.result.now) c.loop-i.invariant.so_far
+          ∙ sym (points_more c.args.assembly.now c.args.a c.loop-i.i (around (get_or c.points.result.now 0 origin)) c.piece-in-loop-i.result.now c.piece-in-loop-i.ensures);
       size = subst AreBounds (sym value) (fold_small c.loop-i.bounds c.piece-in-loop-i.result.now c.loop-i.invariant.size c.points-in-loop-i.ensures.piece.within);
     }
 

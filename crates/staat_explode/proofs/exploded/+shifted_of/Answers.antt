@@ -23,7 +23,8 @@ pub returns-in_err-rest-in-Split : goal.returns-in_err-rest-in-Split
 returns-in_err-rest-in-Split t c =
     let moved = plan_of c.deref.result.now in
     let rest = plan_of c.deref-in-Split.result.now in
-    let whole : plan_of c.args.tree.now ≡ split c.in-Split.d moved rest = ap plan_of c.in-Split.is ∙ (λ i. split c.in-Split.d (plan_of (sym c.deref.ensures i)) (plan_of (sym c.deref-in-Split.ensures i))) in
+    let whole : plan_of c.args.tree.now ≡ split c.in-Split.d moved rest =
+    ap plan_of c.in-Split.is ∙ (λ i. split c.in-Split.d (plan_of (sym c.deref.ensures i)) (plan_of (sym c.deref-in-Split.ensures i))) in
     let ok = c.in_ok-moved-in-Split.ensures in
     let count : c.args.node + 2 * c.len.result ≡ c.args.node + 1 + node_count moved = omega (arith, ok.3, c.len.ensures) in
     let p = err_from_is_err_and c.from_residual-in_err-rest-in-Split.result c.from_residual-in_err-rest-in-Split.ensures.1 in
@@ -37,7 +38,8 @@ returns-in_ok-rest-in-Split t c =
     let moved = plan_of c.deref.result.now in
     let rest = plan_of c.deref-in-Split.result.now in
     let boxes = c.args.boxes.now in
-    let whole : plan_of c.args.tree.now ≡ split c.in-Split.d moved rest = ap plan_of c.in-Split.is ∙ (λ i. split c.in-Split.d (plan_of (sym c.deref.ensures i)) (plan_of (sym c.deref-in-Split.ensures i))) in
+    let whole : plan_of c.args.tree.now ≡ split c.in-Split.d moved rest =
+    ap plan_of c.in-Split.is ∙ (λ i. split c.in-Split.d (plan_of (sym c.deref.ensures i)) (plan_of (sym c.deref-in-Split.ensures i))) in
     let ok = c.in_ok-moved-in-Split.ensures in
     let count : c.args.node + 2 * c.len.result ≡ c.args.node + 1 + node_count moved = omega (arith, ok.3, c.len.ensures) in
     let others = c.in_ok-rest-in-Split.ensures in
