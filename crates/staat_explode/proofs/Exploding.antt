@@ -1,7 +1,8 @@
 -- The splits of a plan, one side after the other.
-use Rattle.std.proofs.Common.{◌≡◌, ℕ, zero, suc, ◌+◌, ◌*◌, ◌<◌, ◌≤◌, List, [], ◌∷◌}
-use Rattle.std.proofs.Common.{map, length, get_or, All, refl, arith, inl, length-append}
-use Rattle.std.proofs.lemmas.List.Elements.{All-append, All-cons, All-contains, All-nil}
+use Rattle.std.proofs.Common.{◌≡◌, ℕ, ◌+◌, ◌*◌, ◌<◌, List, [], ◌∷◌, ◌++◌, map, length, get_or, All, refl, arith}
+use Rattle.std.proofs.Common.{inl, length-append}
+use Rattle.std.proofs.lemmas.List.{length-map}
+use Rattle.std.proofs.lemmas.List.Elements.{All-append, All-cons, All-contains, All-nil, Contains-append_left, Contains-get_or}
 use Rattle.staat_vec.specs.declared.vector.V3.{V3}
 use Rattle.staat_vec.specs.Vectors.{IsWithin}
 use Rattle.staat_model.proofs.Members.{both}
@@ -14,8 +15,7 @@ use Rattle.staat_explode.specs.declared.refusal.ExplodeRefusal.TheVariants.{TooF
 use Rattle.staat_explode.specs.Shifts.{moved_on, parted, shifted_of, steps_apart}
 use Rattle.staat_explode.specs.Sizes.{IsShiftable, IsShifted}
 use Rattle.staat_explode.specs.Splits.{AllNear, HasFar, IsFar, IsRefused, IsTooFarAt, SplitAt, node_count, splits_from}
-use Rattle.staat_vec.proofs.ListLaws.{first_left, first_right, All-map, Contains-there}
-use Rattle.staat_vec.proofs.Unique.{Contains-front}
+use Rattle.staat_vec.proofs.ListLaws.{first_left, first_right, All-map, Contains-map}
 
 pub refused_on : (P Q : ℕ → Type 0) (e : ExplodeRefusal) → ((k : ℕ) → P k → Q k) → IsRefused P e
     → IsRefused Q e
@@ -60,12 +60,11 @@ module _ (boxes : List Bounds) (node : ℕ) (d : V3) (moved rest : Plan) where
 
 -- ---- counts
 
-pub some_placed : (boxes : List Bounds) (plan : Plan) → 1 ≤ length (shifted_of boxes plan)
-some_placed boxes (leaf p) = omega arith
-some_placed boxes (split d moved rest) =
-    let m = steps_apart boxes d (shifted_of boxes moved) (shifted_of boxes rest) in
-    let both = length-append (map (moved_on m d) (shifted_of boxes moved)) (shifted_of boxes rest) in
-    omega (arith, some_placed boxes rest, both)
+pub nodes_placed : (boxes : List Bounds) (plan : Plan) → 2 * length (shifted_of boxes plan) ≡ node_count plan + 1
+nodes_placed boxes (leaf p) = refl
+nodes_placed boxes (split d moved rest) =
+    let on = moved_on (steps_apart boxes d (shifted_of boxes moved) (shifted_of boxes rest)) d in
+    omega (arith, nodes_placed boxes moved, nodes_placed boxes rest, length-append (map on (shifted_of boxes moved)) (shifted_of boxes rest), length-map (shifted_of boxes moved) on)
 
 -- ---- parts
 
@@ -86,9 +85,7 @@ all_placed boxes n plan h near =
 
 -- ---- parts that are moved
 
-pub far_in_map : (f : Shifted → Shifted) (ps : List Shifted) (k : ℕ) (d : Shifted) → k < length ps
-    → (IsWithin FARTHEST (f (get_or ps k d)).by → ⊥) → HasFar (map f ps)
-far_in_map f [] k d lt far = absurd (omega arith)
-far_in_map f (p ∷ ps) zero d lt far = (f p, Contains-front (f p) (map f ps), far)
-far_in_map f (p ∷ ps) (suc k) d lt far =
-    let rest = far_in_map f ps k d (omega arith) far in (rest.0, Contains-there (f p) rest.0 (map f ps) rest.1, rest.2)
+pub far_in_map : (f : Shifted → Shifted) (ps rest : List Shifted) (k : ℕ) (d : Shifted) → k < length ps
+    → (IsWithin FARTHEST (f (get_or ps k d)).by → ⊥) → HasFar (map f ps ++ rest)
+far_in_map f ps rest k d lt far =
+    (f (get_or ps k d), Contains-append_left (map f ps) rest _ (Contains-map f ps _ (Contains-get_or ps k d lt)), far)

@@ -1,26 +1,22 @@
 -- The least and the greatest of numbers, found from the first on.
 use Rattle.std.proofs.Common.{◌≡◌, ℕ, ◌+◌, ◌<◌, ◌≤◌, subst}
-use Rattle.std.proofs.Common.{append-nil, Option, Some, None, FitsSigned, to_z, of_z, List, [], ◌∷◌, ◌++◌}
-use Rattle.std.proofs.Common.{map, length, get_or, take, ap, sym, refl, ◌∙◌, arith, ℤ, Bool, true, false, cond}
+use Rattle.std.proofs.Common.{append-nil, Option, Some, None, List, [], ◌∷◌, ◌++◌}
+use Rattle.std.proofs.Common.{map, length, get_or, drop, take, ap, sym, refl, ◌∙◌, arith, ℤ, Bool, true, false, cond}
 use Rattle.std.proofs.Common.{flat_map}
 use Rattle.std.specs.Int.{int_max, int_min}
 use Rattle.std.specs.List.{fold}
-use Rattle.std.specs.Prelude.{int_lt, unsigned_abs, All, slice_get, option_map, option_and_then, unwrap_or}
-use Rattle.std.proofs.lemmas.List.{take_more, take_all, map-append}
+use Rattle.std.specs.Prelude.{int_lt, All, slice_get, option_map, option_and_then, unwrap_or}
+use Rattle.std.proofs.lemmas.List.{drop_more, take_more, take_all, map_more}
 use Rattle.std.proofs.lemmas.Option.{slice_get_within, get_or_from_slice_get}
 use Rattle.staat_model.proofs.Places.{some_at}
 use Rattle.staat_model.specs.declared.assembly.Part.{Part}
 use Rattle.staat_model.specs.Assemblies.{piece_at, piece_count}
-use Rattle.std.specs.Int.{w128}
-use Rattle.std.proofs.lemmas.Int.{to_z-of_z, clamps, ints}
+use Rattle.std.proofs.lemmas.Int.{clamps, ints}
 use Rattle.std.proofs.lemmas.Grind.{flat_map-append}
-use Rattle.std.proofs.lemmas.List.Folds.{fold-map}
-use Rattle.std.proofs.lemmas.List.Sums.{fold_more, fold-append}
+use Rattle.std.proofs.lemmas.List.Sums.{fold-append}
 use Rattle.staat_vec.specs.declared.vector.V3.{V3}
 use Rattle.staat_vec.specs.declared.vector.TheConstants.{POINT}
 use Rattle.staat_vec.specs.Vectors.{vector, IsWithin}
-use Rattle.staat_vec.proofs.Bounds.{reads}
-use Rattle.staat_explode.specs.declared.grow.TheConstants.{FARTHEST}
 use Rattle.staat_explode.specs.Sizes.{AreBounds}
 use Rattle.std.proofs.lemmas.List.Elements.{All-head, All-tail}
 use Rattle.staat_explode.specs.declared.axis.Axis.{Axis}
@@ -42,39 +38,24 @@ same_further : (end : End) (z : ℤ) → further end z z ≡ z
 same_further Low z = same_either (int_lt z z) z
 same_further High z = same_either (int_lt z z) z
 
-abbrev pub onward : List Bounds → Axis → End → ℤ → Shifted → ℤ
-onward boxes axis end z p = further end z (end_along boxes axis end p)
-
-pub extreme_is : (boxes : List Bounds) (axis : Axis) (end : End) (ps : List Shifted) (d : Shifted) → 1 ≤ length ps
-    → fold (onward boxes axis end) (end_along boxes axis end (get_or ps 0 d)) ps ≡ extreme boxes axis end ps
+pub extreme_is : (boxes : List Bounds) (axis : Axis) (end : End) (ps : List Shifted) (d : Shifted) (z : ℤ)
+    → 1 ≤ length ps → z ≡ end_along boxes axis end (get_or ps 0 d)
+    → fold (further end) z (map (end_along boxes axis end) ps) ≡ extreme boxes axis end ps
 unfolding extreme
-extreme_is boxes axis end [] d h = absurd (omega arith)
-extreme_is boxes axis end (p ∷ ps) d h =
-    let z = end_along boxes axis end p in
-    ap (λ a. fold (onward boxes axis end) a ps) (same_further end z)
-    ∙ sym (fold-map (further end) (end_along boxes axis end) z ps)
+extreme_is boxes axis end [] d z h e = absurd (omega arith)
+extreme_is boxes axis end (p ∷ ps) d z h e =
+    let y = end_along boxes axis end p in
+    ap (λ a. fold (further end) a (map (end_along boxes axis end) ps)) (ap (λ x. further end x y) e ∙ same_further end y)
 
-further_small : (end : End) (n : ℕ) (x y : ℤ) → unsigned_abs x ≤ n → unsigned_abs y ≤ n
-    → unsigned_abs (further end x y) ≤ n
-further_small Low n x y h k = omega (arith, ints, clamps, h, k)
-further_small High n x y h k = omega (arith, ints, clamps, h, k)
-
--- one more box, as the machine's type holds the numbers
-pub extreme_more : (boxes : List Bounds) (axis : Axis) (end : End) (ps : List Shifted) (k : ℕ) (z d : Shifted)
-    (x y r : ℤ) → k < length ps → unsigned_abs x ≤ POINT + FARTHEST → unsigned_abs y ≤ POINT + FARTHEST
-    → x ≡ fold (onward boxes axis end) (end_along boxes axis end z) (take k ps) → y ≡ end_along boxes axis end (get_or ps k d)
-    → r ≡ further end x (to_z w128 (of_z w128 y))
-    → (to_z w128 (of_z w128 r) ≡ fold (onward boxes axis end) (end_along boxes axis end z) (take (k + 1) ps))
-    × (unsigned_abs (to_z w128 (of_z w128 r)) ≤ POINT + FARTHEST)
-extreme_more boxes axis end ps k z d x y r lt x_small y_small x_is y_is e =
-    let is : r ≡ further end x y = e ∙ ap (further end x) (reads y (omega (arith, y_small))) in
-    let small : unsigned_abs r ≤ POINT + FARTHEST = subst (λ q. unsigned_abs q ≤ POINT + FARTHEST) (sym is)
-    (further_small end (POINT + FARTHEST) x y x_small y_small) in
-    let held : to_z w128 (of_z w128 r) ≡ r = reads r (omega (arith, small)) in (
-      held ∙ is ∙ (λ i. further end (x_is i) (y_is i))
-          ∙ sym (fold_more (onward boxes axis end) (end_along boxes axis end z) ps k d lt),
-      subst (λ q. unsigned_abs q ≤ POINT + FARTHEST) (sym held) small,
-    )
+-- one more box
+pub extreme_more : (boxes : List Bounds) (axis : Axis) (end : End) (ps : List Shifted) (k : ℕ) (d : Shifted)
+    (x y r : ℤ) → k < length ps → y ≡ end_along boxes axis end (get_or ps k d) → r ≡ further end x y
+    → fold (further end) r (map (end_along boxes axis end) (drop (k + 1) ps))
+    ≡ fold (further end) x (map (end_along boxes axis end) (drop k ps))
+extreme_more boxes axis end ps k d x y r lt at e =
+    let along = end_along boxes axis end in
+    ap (λ z. fold (further end) z (map along (drop (k + 1) ps))) (e ∙ ap (further end x) at)
+    ∙ sym (ap (λ l. fold (further end) x (map along l)) (drop_more ps k d lt))
 
 -- the box that covers a box and points, by its numbers
 covered : (b : Bounds) (ps : List V3) → fold covering b ps ≡ record {
@@ -94,12 +75,6 @@ box_is (p ∷ ps) d h = ap (λ b. fold covering b ps) once ∙ covered (around p
       low = vector (same_further Low p.x i) (same_further Low p.y i) (same_further Low p.z i);
       high = vector (same_further High p.x i) (same_further High p.y i) (same_further High p.z i);
     }
-
--- what the machine's type holds of a function of two numbers
-pub read_by : (f : ℤ → ℤ → ℤ) (x y r : ℤ) → FitsSigned w128 x → FitsSigned w128 y → FitsSigned w128 r
-    → r ≡ f (to_z w128 (of_z w128 x)) (to_z w128 (of_z w128 y)) → to_z w128 (of_z w128 r) ≡ f x y
-read_by f x y r fits_x fits_y small e =
-    to_z-of_z w128 r small ∙ e ∙ (λ i. f (to_z-of_z w128 x fits_x i) (to_z-of_z w128 y fits_y i))
 
 -- ---- pieces
 
@@ -123,9 +98,6 @@ points_more parts a i b p is = go (slice_get parts a) is
     go (Some part) e =
         ap (λ ps. fold covering b (flat_map (λ q. q) ps)) (take_more part.pieces i p (slice_get_within part.pieces i p e) ∙ ap (λ x. take i part.pieces ++ x ∷ []) (get_or_from_slice_get part.pieces i p p e))
         ∙ fold_pieces b (take i part.pieces) p
-
-pub pieces_counted : (parts : List Part) (a : ℕ) → piece_count parts a ≡ length (pieces_of_part parts a)
-pieces_counted parts a = pieces_count (slice_get parts a)
 
 -- the first point of a part
 pub first_point : (parts : List Part) (a : ℕ) (p : List V3) (d : V3) → piece_at parts a 0 ≡ Some p
@@ -156,7 +128,7 @@ pub part_box : (parts : List Part) (a n : ℕ) (p : List V3) (d : V3) → piece_
     ≡ box_of (points_at parts a)
 part_box parts a n p d is some all =
     let first = first_point parts a p d is some in
-    ap (λ ps. fold covering (around (get_or p 0 d)) (flat_map (λ q. q) ps)) (take_all n (pieces_of_part parts a) (omega (arith, pieces_counted parts a)))
+    ap (λ ps. fold covering (around (get_or p 0 d)) (flat_map (λ q. q) ps)) (take_all n (pieces_of_part parts a) (omega (arith, pieces_count (slice_get parts a))))
     ∙ ap (λ v. fold covering (around v) (points_at parts a)) first.0
     ∙ box_is (points_at parts a) d first.1
 
@@ -196,6 +168,5 @@ boxes_more parts a boxes lt e = go (some_at parts a lt)
         ≡ map (λ part. box_of (points_of part)) (take (a + 1) parts)
     go (part, is) =
         (λ i. e i ++ box_of (flat_map (λ piece. piece) (unwrap_or (option_map (λ part. part.pieces) (is i)) [])) ∷ [])
-        ∙ sym (map-append (λ part. box_of (points_of part)) (take a parts) (part ∷ []))
-        ∙ ap (map (λ part. box_of (points_of part))) (ap (λ x. take a parts
-        ++ x ∷ []) (sym (get_or_from_slice_get parts a part part is)) ∙ sym (take_more parts a part lt))
+        ∙ ap (λ x. map (λ part. box_of (points_of part)) (take a parts) ++ box_of (points_of x) ∷ []) (sym (get_or_from_slice_get parts a part part is))
+        ∙ sym (map_more (λ part. box_of (points_of part)) parts a part lt)

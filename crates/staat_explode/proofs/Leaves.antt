@@ -1,17 +1,18 @@
 -- The parts of a good plan, one at each leaf.
 use Rattle.std.proofs.Common.{◌≡◌, ℕ, ◌+◌, ◌*◌, ◌<◌, ◌≤◌, List, ap, sym, subst, refl}
-use Rattle.std.proofs.Common.{◌∙◌, arith, inl, inr}
+use Rattle.std.proofs.Common.{arith, inl, inr, rules}
 use Rattle.std.specs.FinSet as set
+use Rattle.std.specs.FinSet.{members}
+use Rattle.std.specs.Cmp.{nat_cmp_total}
 use Rattle.staat_model.specs.declared.assembly.Part.{Part}
 use Rattle.staat_model.specs.declared.set.PartSet.{PartSet}
 use Rattle.staat_model.specs.Plans.{Plan, leaf, split, parts_of, IsGood}
 use Rattle.staat_model.specs.Sets.{AreApart, Has, single, below}
 use Rattle.staat_model.proofs.SetBits.{has-below}
-use Rattle.staat_model.proofs.SetMembers.{has-union, has-single, has-insert, has-empty}
+use Rattle.staat_model.proofs.SetMembers.{has-union, has-single, has-empty}
 use Rattle.staat_model.proofs.SetSizes.{len_below, len_more}
-use Rattle.staat_model.proofs.SetWords.{same_members}
 use Rattle.staat_explode.specs.Sizes.{IsShiftable}
-use Rattle.staat_explode.specs.Splits.{leaf_count, node_count}
+use Rattle.staat_explode.specs.Splits.{node_count}
 use Rattle.staat_model.proofs.LeavingLemmas.{good_parts}
 
 pub placeable : (parts : List Part) (n : ℕ) (w : PartSet) (plan : Plan) → IsGood parts w plan
@@ -25,36 +26,19 @@ placeable parts n w (split d moved rest) h small =
       placeable parts n (parts_of rest) rest h.4 (λ p k. up p ((has-union (parts_of moved) (parts_of rest) p).1 (inr k))),
     )
 
--- joined with others, a good plan's parts are as many more as it has leaves
+-- joined with others, a good plan's parts are as many more as it has leaves, which are as many as half its nodes
 joined : (parts : List Part) (w : PartSet) (plan : Plan) (s : PartSet) → IsGood parts w plan
-    → AreApart (parts_of plan) s → set.len (set.union (parts_of plan) s) ≡ leaf_count plan + set.len s
+    → AreApart (parts_of plan) s → 2 * set.len (set.union (parts_of plan) s) ≡ node_count plan + 1 + 2 * set.len s
 joined parts w (leaf p) s h apart =
-    let same : set.union (single p) s ≡ set.insert s p = same_members _ _
-    (λ q k. (has-insert s p q).1 (elim ((has-union (single p) s q).0 k) [ inl a ↦ inl ((has-single p q).0 a) | inr b ↦ inr b ]))
-    (λ q k. (has-union (single p) s q).1 (elim ((has-insert s p q).0 k) [ inl a ↦ inl ((has-single p q).1 a) | inr b ↦ inr b ])) in
-    ap (λ (t : PartSet). set.len t) same ∙ len_more s p (apart p ((has-single p p).1 refl)) ∙ (omega arith)
+    let same : set.union (single p) s ≡ set.insert s p = set.same_set nat_cmp_total set.nat_cmp-IsAntisymmetric _ _ (λ q. grind (members, rules)) in
+    omega (arith, ap (λ (t : PartSet). set.len t) same, len_more s p (apart p ((has-single p p).1 refl)))
 joined parts w (split d moved rest) s h apart =
     let m = parts_of moved in
     let r = parts_of rest in
-    let first : set.len (set.union (parts_of rest) s) ≡ leaf_count rest + set.len s =
-    joined parts r rest s h.4 (λ q a b. apart q ((has-union m r q).1 (inr a)) b) in
-    let second : set.len (set.union (parts_of moved) (set.union (parts_of rest) s))
-    ≡ leaf_count moved + set.len (set.union (parts_of rest) s) =
-    joined parts m moved (set.union r s) h.3 (λ q a b. elim ((has-union r s q).0 b) [ inl c ↦ h.1 q a c | inr c ↦ apart q ((has-union m r q).1 (inl a)) c ]) in
-    let same : set.union (set.union m r) s ≡ set.union m (set.union r s) = same_members _ _
-    (λ q k. (has-union m (set.union r s) q).1 (elim ((has-union (set.union m r) s q).0 k) [
-      | inl a ↦ elim ((has-union m r q).0 a) [ inl b ↦ inl b | inr b ↦ inr ((has-union r s q).1 (inl b)) ]
-      | inr a ↦ inr ((has-union r s q).1 (inr a))
-    ]))
-    (λ q k. (has-union (set.union m r) s q).1 (elim ((has-union m (set.union r s) q).0 k) [
-      | inl a ↦ inl ((has-union m r q).1 (inl a))
-      | inr a ↦ elim ((has-union r s q).0 a) [ inl b ↦ inl ((has-union m r q).1 (inr b)) | inr b ↦ inr b ]
-    ])) in
+    let first = joined parts r rest s h.4 (λ q a b. apart q ((has-union m r q).1 (inr a)) b) in
+    let second = joined parts m moved (set.union r s) h.3 (λ q a b. elim ((has-union r s q).0 b) [ inl c ↦ h.1 q a c | inr c ↦ apart q ((has-union m r q).1 (inl a)) c ]) in
+    let same : set.union (set.union m r) s ≡ set.union m (set.union r s) = set.same_set nat_cmp_total set.nat_cmp-IsAntisymmetric _ _ (λ q. grind (members, rules)) in
     omega (arith, ap (λ (t : PartSet). set.len t) same, first, second)
-
-nodes : (plan : Plan) → node_count plan + 1 ≡ 2 * leaf_count plan
-nodes (leaf p) = refl
-nodes (split d moved rest) = omega (arith, nodes moved, nodes rest)
 
 -- there are fewer nodes than twice the parts
 pub few_nodes : (parts : List Part) (n : ℕ) (plan : Plan) → IsGood parts (below n) plan
@@ -66,7 +50,7 @@ few_nodes parts n plan h =
       | inl a ↦ (has-below n q).0 (subst (λ (s : PartSet). Has s q) (sym (good_parts parts (below n) plan h)) a)
       | inr b ↦ absurd (has-empty q b)
     ]) in
-    omega (arith, all, most, nodes plan)
+    omega (arith, all, most)
 
 pub placeable_below : (parts : List Part) (n : ℕ) (plan : Plan) → IsGood parts (below n) plan
     → IsShiftable n plan

@@ -48,34 +48,31 @@ raised : (before n m : ℕ) (ks : List ℕ) → before + n ≤ m → AreBelow n 
 raised before n m ks le h =
     All-map (λ k. before + k) (λ k. k < m) ks (All-weaker (λ k. k < n) (λ k. before + k < m) (λ k lt. omega arith) ks h)
 
-wider : (m n : ℕ) (fs : List (List ℕ)) → m ≤ n → All (AreBelow m) fs → All (AreBelow n) fs
-wider m n fs le h =
-    All-weaker (AreBelow m) (AreBelow n) (λ ks a. All-weaker (λ k. k < m) (λ k. k < n) (λ k lt. omega arith) ks a) fs h
+pub points_counted : (solids : List Solid) (shifts : List V3) → length (points_of_scene solids shifts)
+    ≡ count_of_points solids
+points_counted [] shifts = refl
+points_counted (s ∷ ss) shifts =
+    omega (arith, length-append (placed_points shifts s) (points_of_scene ss shifts), length-map s.raw.points (λ p. plus (plus p s.at) (shift_at shifts s.part)), points_counted ss shifts)
 
-corners_below : (before : ℕ) (solids : List Solid) (shifts : List V3) → All (λ s. IsIndexed s.raw) solids
-    → All (AreBelow (before + length (points_of_scene solids shifts))) (faces_behind before solids)
-corners_below before [] shifts h = All-nil (AreBelow (before + 0))
-corners_below before (s ∷ ss) shifts h =
+corners_below : (before m : ℕ) (solids : List Solid) → before + count_of_points solids ≤ m → All (λ s. IsIndexed s.raw) solids
+    → All (AreBelow m) (faces_behind before solids)
+corners_below before m [] le h = All-nil (AreBelow m)
+corners_below before m (s ∷ ss) le h =
     let n = length s.raw.points in
-    let rest = length (points_of_scene ss shifts) in
-    let count : length (points_of_scene (s ∷ ss) shifts) ≡ n + rest =
-    omega (arith, length-append (placed_points shifts s) (points_of_scene ss shifts), length-map s.raw.points (λ p. plus (plus p s.at) (shift_at shifts s.part))) in
-    let indexed = All-head (λ (t : Solid). IsIndexed t.raw) s ss h in
-    let whole = before + length (points_of_scene (s ∷ ss) shifts) in
-    All-append (AreBelow whole) (map (map (λ corner. before + corner)) s.raw.faces) (faces_behind (before + n) ss)
-    (All-map (map (λ corner. before + corner)) (AreBelow whole) s.raw.faces (All-weaker (AreBelow n) (λ ks. AreBelow whole (map (λ corner. before + corner) ks)) (λ ks a. raised before n whole ks (omega arith) a) s.raw.faces indexed.corners))
-    (wider (before + n + rest) whole (faces_behind (before + n) ss) (omega arith) (corners_below (before + n) ss shifts (All-tail (λ (t : Solid). IsIndexed t.raw) s ss h)))
+    let raise : ℕ → ℕ = λ corner. before + corner in
+    All-append (AreBelow m) (map (map raise) s.raw.faces) (faces_behind (before + n) ss)
+    (All-map (map raise) (AreBelow m) s.raw.faces
+    (All-weaker (AreBelow n) (λ ks. AreBelow m (map raise ks)) (λ ks a. raised before n m ks (omega arith) a) s.raw.faces (All-head (λ (t : Solid). IsIndexed t.raw) s ss h).corners))
+    (corners_below (before + n) m ss (omega arith) (All-tail (λ (t : Solid). IsIndexed t.raw) s ss h))
 
 pub scene_again : (solids : List Solid) (shifts : List V3) → All (λ s. IsIndexed s.raw) solids
     → All (IsWithin POINT) (points_of_scene solids shifts) → IsCounted (scene_of solids shifts)
     → HasCorners (scene_of solids shifts) → reading 0 (off_text (scene_of solids shifts))
     ≡ Ok (scene_of solids shifts)
 scene_again solids shifts indexed small counted corners =
-    let below = corners_below 0 solids shifts indexed in
     reading_again (scene_of solids shifts) (record {
       within = small;
-      corners =
-          wider (0 + length (points_of_scene solids shifts)) (length (points_of_scene solids shifts)) (faces_behind 0 solids) (omega arith) below;
+      corners = corners_below 0 (length (points_of_scene solids shifts)) solids (omega (arith, points_counted solids shifts)) indexed;
     }) counted corners
 
 -- ---- a face's line
@@ -159,9 +156,3 @@ faces_then before solids i s e lt at =
     ap (λ l. l ++ flat_map face_line rest) (sym (flat_map-map face_line (map (λ corner. before + corner)) s.raw.faces))
     ∙ sym (flat_map-append face_line (map (map (λ corner. before + corner)) s.raw.faces) rest)
     ∙ ap (λ (l : List Solid). flat_map face_line (faces_behind before l)) (left solids i s e lt at)
-
-pub points_counted : (solids : List Solid) (shifts : List V3) → length (points_of_scene solids shifts)
-    ≡ count_of_points solids
-points_counted [] shifts = refl
-points_counted (s ∷ ss) shifts =
-    omega (arith, length-append (placed_points shifts s) (points_of_scene ss shifts), length-map s.raw.points (λ p. plus (plus p s.at) (shift_at shifts s.part)), points_counted ss shifts)

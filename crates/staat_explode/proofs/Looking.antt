@@ -2,10 +2,11 @@
 use Rattle.std.proofs.Common.{◌≡◌, ℕ, ◌+◌, ◌<◌, Bool, true, false, List, [], ◌∷◌, ◌++◌, map}
 use Rattle.std.proofs.Common.{Contains, ap, sym, subst, refl, ◌∙◌, arith, Some}
 use Rattle.std.specs.Prelude.{◌==◌, ◌||◌, slice_get, if◌then◌else◌}
-use Rattle.std.specs.List.{range_with_len}
+use Rattle.std.specs.List.{list_any, range_with_len}
 use Rattle.std.specs.FinSet as set
 use Rattle.std.specs.Cmp.{nat_cmp_total}
 use Rattle.std.proofs.lemmas.Bool.{false≢true}
+use Rattle.std.proofs.lemmas.List.Folds.{list_any-append}
 use Rattle.std.proofs.lemmas.List.FromFn.{get_or-map-range_with_len, length-map-range_with_len}
 use Rattle.std.proofs.lemmas.List.FromFn.{map-range_with_len_more}
 use Rattle.std.proofs.lemmas.Option.{slice_get_within, get_or_from_slice_get}
@@ -40,17 +41,7 @@ shift_is placed n part v e =
 -- ---- whether a list has the part
 
 abbrev pub has_part : List Shifted → ℕ → Bool
-has_part [] q = false
-has_part (p ∷ ps) q = (p.part == q) || has_part ps q
-
-or_assoc : (a b c : Bool) → ((a || b) || c) ≡ (a || (b || c))
-or_assoc true b c = refl
-or_assoc false b c = refl
-
-has_part-append : (xs ys : List Shifted) (q : ℕ) → has_part (xs ++ ys) q ≡ (has_part xs q || has_part ys q)
-has_part-append [] ys q = refl
-has_part-append (x ∷ xs) ys q =
-    ap (λ b. (x.part == q) || b) (has_part-append xs ys q) ∙ sym (or_assoc (x.part == q) (has_part xs q) (has_part ys q))
+has_part ps q = list_any (λ (p : Shifted). p.part == q) ps
 
 has_part-moved : (m : ℕ) (d : V3) (xs : List Shifted) (q : ℕ) → has_part (map (moved_on m d) xs) q
     ≡ has_part xs q
@@ -71,7 +62,7 @@ pub has_part-plan : (boxes : List Bounds) (plan : Plan) (q : ℕ) → has_part (
 has_part-plan boxes (leaf p) q = or_false (p == q) ∙ sym (same_test p q)
 has_part-plan boxes (split d moved rest) q =
     let m = steps_apart boxes d (shifted_of boxes moved) (shifted_of boxes rest) in
-    has_part-append (map (moved_on m d) (shifted_of boxes moved)) (shifted_of boxes rest) q
+    list_any-append (λ (p : Shifted). p.part == q) (map (moved_on m d) (shifted_of boxes moved)) (shifted_of boxes rest)
     ∙ (λ i. has_part-moved m d (shifted_of boxes moved) q i || has_part (shifted_of boxes rest) q)
     ∙ (λ i. has_part-plan boxes moved q i || has_part-plan boxes rest q i)
     ∙ sym (set.contains-union nat_cmp_total (parts_of moved) (parts_of rest) q)

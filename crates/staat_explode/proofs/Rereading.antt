@@ -23,12 +23,11 @@ use Rattle.staat_off.specs.Coordinates.{coordinate_of}
 use Rattle.staat_off.specs.Reading.{accepted, coordinate, corner_count, count, end, end_or_trailing, face, file}
 use Rattle.staat_off.specs.Reading.{is_header, header, index, line_passed, point, reading, short_number, word}
 use Rattle.staat_off.specs.Reading.{word_or_short}
-use Rattle.staat_off.specs.Scan.{Rest, after_line, line_len, next_word}
+use Rattle.staat_off.specs.Scan.{after_line, line_len, next_word}
 use Rattle.staat_off.specs.Words.{Word, is_plain}
 use Rattle.staat_explode.specs.Scenes.{face_line, numbers_line, off_text, point_line}
-use Rattle.staat_explode.proofs.WordTexts.{coordinate_read, decimal_digits, decimal_some, digits_plain}
-use Rattle.staat_explode.proofs.WordTexts.{digits_tested, no_word_left, signed_plain, signed_some, word_behind_blank}
-use Rattle.staat_explode.proofs.WordTexts.{word_front}
+use Rattle.staat_explode.proofs.WordTexts.{IsPlainWord, coordinate_read, decimal_some, decimal_tested, no_word_left}
+use Rattle.staat_explode.proofs.WordTexts.{plain_word, word_behind_blank, word_front}
 use Rattle.std.proofs.lemmas.Bool.{and_from}
 use Rattle.staat_vec.proofs.Naturals.{lt_test, le_test}
 use Rattle.staat_vec.proofs.Decimals.{decimal_value}
@@ -68,10 +67,6 @@ many_gets r text P each (x ∷ xs) all =
 abbrev IsParted : List ℕ → Type 0
 IsParted s = prefix_len is_plain s ≡ 0
 
--- a word, after a blank
-abbrev IsPlainWord : List ℕ → Type 0
-IsPlainWord w = (list_all is_plain w ≡ true) × (0 < length w)
-
 -- bytes that stand before a word and are passed over
 abbrev IsPassed : List ℕ → Type 0
 IsPassed g = (t : List ℕ) (at : ℕ) → next_word (record { bytes = g ++ t; at = at }) ≡ next_word (record { bytes = t; at = at + length g })
@@ -85,18 +80,17 @@ space t at = word_behind_blank 32 t at refl refl
 feed : IsPassed (10 ∷ [])
 feed t at = word_behind_blank 10 t at refl refl
 
-word_gets : (g w s : List ℕ) → IsPassed g → IsPlainWord w → IsParted s → (at : ℕ)
-    → word (record { bytes = g ++ (w ++ s); at = at })
-    ≡ Ok (record { text = w; at = at + length g }, record { bytes = s; at = at + length g + length w })
+-- a word that is decided is read
+field_gets : {A : Type 0} (f : Word → Reader A) (x : A) (g w s : List ℕ) → IsPassed g → IsPlainWord w → IsParted s
+    → ((at : ℕ) → f (record { text = w; at = at }) ≡ return x) → Gets (word >>= f) (g ++ (w ++ s)) x s
 unfolding word
-word_gets g w s passed h parted at =
-    ap (λ found. word_or_short found.0 found.1) (passed (w ++ s) at ∙ word_front w s (at + length g) h.0 h.1 parted)
+field_gets {A = A} f x g w s passed h parted is at = (
+  at + length g + length w,
+  ap (λ found. resumed (word_or_short found.0 found.1) f) (passed (w ++ s) at ∙ word_front w s (at + length g) h.0 h.1 parted)
+      ∙ ap (λ (r : Reader A). r (record { bytes = s; at = at + length g + length w })) (is (at + length g)),
+)
 
 -- ---- counts and indices
-
-natural_word : (n : ℕ) → n ≤ MOST_COUNT → IsPlainWord (decimal n)
-natural_word n small =
-    let wide : n < 10 ^ 64 = omega arith in (digits_plain (decimal n) (decimal_digits n wide), decimal_some n wide)
 
 short_is : (n : ℕ) → n ≤ MOST_COUNT → short_number (decimal n) ≡ Some n
 unfolding short_number
@@ -105,60 +99,33 @@ short_is n small =
     let few = length-decimal-le_wide 7 n (omega arith) (omega arith) wide in
     let some = decimal_some n wide in
     tests (nat_lt 0 (length (decimal n))) (nat_le (length (decimal n)) 7) (list_all is_ascii_digit (decimal n)) (digits_value 10 (decimal n))
-    (lt_test 0 (length (decimal n)) some) (le_test (length (decimal n)) 7 few) (digits_tested (decimal n) (decimal_digits n wide)) (decimal_value n wide)
+    (lt_test 0 (length (decimal n)) some) (le_test (length (decimal n)) 7 few) (decimal_tested n wide) (decimal_value n wide)
   where
     tests : (a b c : Bool) (v : ℕ) → a ≡ true → b ≡ true → c ≡ true → v ≡ n
         → (if a && (b && c) then Some v else None) ≡ Some n
     tests a b c v e f g h = grind arith
 
 -- a number that passes a test is read
-accepted_gets : (r : Reader ℕ) (test : ℕ → Bool) (refusal : Word → OffRefusal) (g : List ℕ) (n : ℕ) (s : List ℕ)
+number_gets : (test : ℕ → Bool) (refusal : Word → OffRefusal) (g : List ℕ) (n : ℕ) (s : List ℕ)
     → IsPassed g → n ≤ MOST_COUNT → IsParted s → test n ≡ true
-    → ((at : ℕ)
-    → (word >>= (λ w. accepted test (short_number w.text) (refusal w))) (record { bytes = g ++ (decimal n ++ s); at = at })
-    ≡ r (record { bytes = g ++ (decimal n ++ s); at = at }))
-    → Gets r (g ++ (decimal n ++ s)) n s
-accepted_gets r test refusal g n s passed small parted passes same at =
-    let w : Word = record { text = decimal n; at = at + length g } in
-    let rest : Rest = record { bytes = s; at = at + length g + length (decimal n) } in (
-      at + length g + length (decimal n),
-      sym (same at)
-          ∙ ap (λ z. resumed z (λ w. accepted test (short_number w.text) (refusal w))) (word_gets g (decimal n) s passed (natural_word n small) parted at)
-          ∙ ap (λ o. accepted test o (refusal w) rest) (short_is n small)
-          ∙ ap (λ (b : Bool). (if b then return n else refuse (refusal w)) rest) passes,
-    )
+    → Gets (word >>= (λ w. accepted test (short_number w.text) (refusal w))) (g ++ (decimal n ++ s)) n s
+number_gets test refusal g n s passed small parted passes =
+    field_gets (λ w. accepted test (short_number w.text) (refusal w)) n g (decimal n) s passed (plain_word (pos n) (omega arith)) parted
+    (λ at. ap (λ o. accepted test o (refusal (record { text = decimal n; at = at }))) (short_is n small)
+    ∙ ap (λ (b : Bool). if b then return n else refuse (refusal (record { text = decimal n; at = at }))) passes)
 
 count_gets : (g : List ℕ) (n : ℕ) (s : List ℕ) → IsPassed g → n ≤ MOST_COUNT → IsParted s
     → Gets count (g ++ (decimal n ++ s)) n s
 unfolding count
-count_gets g n s passed small parted =
-    accepted_gets count (λ n. nat_le n MOST_COUNT) (λ w. BadCount w.at) g n s passed small parted (le_test n MOST_COUNT small) (λ at. refl)
-
-corner_count_gets : (g : List ℕ) (n : ℕ) (s : List ℕ) → IsPassed g → 1 ≤ n → n ≤ MOST_COUNT → IsParted s
-    → Gets corner_count (g ++ (decimal n ++ s)) n s
-unfolding corner_count
-corner_count_gets g n s passed some small parted =
-    accepted_gets corner_count (λ n. nat_le 1 n && nat_le n MOST_COUNT) (λ w. BadCount w.at) g n s passed small parted
-    (and_from (nat_le 1 n) (nat_le n MOST_COUNT) (le_test 1 n some) (le_test n MOST_COUNT small)) (λ at. refl)
-
-index_gets : (vertices : ℕ) (g : List ℕ) (n : ℕ) (s : List ℕ) → IsPassed g → n < vertices → vertices ≤ MOST_COUNT
-    → IsParted s → Gets (index vertices) (g ++ (decimal n ++ s)) n s
-unfolding index
-index_gets vertices g n s passed lt small parted =
-    accepted_gets (index vertices) (λ n. nat_lt n vertices) (λ w. BadIndex w.at) g n s passed (omega arith) parted (lt_test n vertices lt) (λ at. refl)
+count_gets g n s passed small parted = number_gets (λ n. nat_le n MOST_COUNT) (λ w. BadCount w.at) g n s passed small parted (le_test n MOST_COUNT small)
 
 -- ---- coordinates
 
 coordinate_gets : (g : List ℕ) (z : ℤ) (s : List ℕ) → IsPassed g → unsigned_abs z ≤ POINT → IsParted s
     → Gets (coordinate 0) (g ++ (signed_decimal z ++ s)) z s
 unfolding coordinate
-coordinate_gets g z s passed small parted at =
-    let wide : unsigned_abs z < 10 ^ 64 = omega arith in
-    let rest : Rest = record { bytes = s; at = at + length g + length (signed_decimal z) } in (
-      at + length g + length (signed_decimal z),
-      ap (λ t. resumed t (λ w. decided (coordinate_of 0 w))) (word_gets g (signed_decimal z) s passed (signed_plain z wide, signed_some z wide) parted at)
-          ∙ ap (λ d. decided d rest) (coordinate_read z (at + length g) small),
-    )
+coordinate_gets g z s passed small parted =
+    field_gets (λ w. decided (coordinate_of 0 w)) z g (signed_decimal z) s passed (plain_word z (omega arith)) parted (λ at. ap decided (coordinate_read z at small))
 
 parted_spaced : (zs : List ℤ) (t : List ℕ) → IsParted (spaced zs ++ t)
 parted_spaced [] t = refl
@@ -196,10 +163,11 @@ points_get ps t small = many_gets (point 0) (λ ps. 10 ∷ (flat_map point_line 
 indices_get : (vertices : ℕ) (ks : List ℕ) (t : List ℕ) → vertices ≤ MOST_COUNT
     → All (λ k. k < vertices) ks
     → Gets (many (length ks) (index vertices)) (spaced (map pos ks) ++ t) ks (10 ∷ t)
+unfolding index
 indices_get vertices ks t small all = many_gets (index vertices) (λ ks. spaced (map pos ks) ++ t) (λ k. k < vertices)
     (λ k ks lt. subst (λ l. Gets (index vertices) (32 ∷ l) k (spaced (map pos ks) ++ t))
     (sym (append_assoc (decimal k) (spaced (map pos ks)) t))
-    (index_gets vertices (32 ∷ []) k (spaced (map pos ks) ++ t) space lt small (parted_spaced (map pos ks) t))) ks all
+    (number_gets (λ n. nat_lt n vertices) (λ w. BadIndex w.at) (32 ∷ []) k (spaced (map pos ks) ++ t) space (omega arith) (parted_spaced (map pos ks) t) (lt_test k vertices lt))) ks all
 
 line_gets : (t : List ℕ) → Gets line_passed (10 ∷ t) tt t
 unfolding after_line line_len
@@ -213,13 +181,14 @@ pub record IsFaceOf (vertices : ℕ) (ks : List ℕ) : Type 0 where
 
 face_gets : (vertices : ℕ) (g ks t : List ℕ) → IsPassed g → vertices ≤ MOST_COUNT → IsFaceOf vertices ks
     → Gets (face vertices) (g ++ (face_line ks ++ t)) ks t
-unfolding face
+unfolding face corner_count
 face_gets vertices g ks t passed small h =
     let bytes : decimal (length ks) ++ (spaced (map pos ks) ++ t) ≡ face_line ks ++ t =
     sym (append_assoc (decimal (length ks)) (spaced (map pos ks)) t) in
     subst (λ l. Gets (face vertices) (g ++ l) ks t) bytes
     (then_gets corner_count _ _ (spaced (map pos ks) ++ t) t (length ks) ks
-    (corner_count_gets g (length ks) (spaced (map pos ks) ++ t) passed h.some h.few (parted_spaced (map pos ks) t))
+    (number_gets (λ n. nat_le 1 n && nat_le n MOST_COUNT) (λ w. BadCount w.at) g (length ks) (spaced (map pos ks) ++ t) passed h.few (parted_spaced (map pos ks) t)
+    (and_from (nat_le 1 (length ks)) (nat_le (length ks) MOST_COUNT) (le_test 1 (length ks) h.some) (le_test (length ks) MOST_COUNT h.few)))
     (then_gets (many (length ks) (index vertices)) _ _ (10 ∷ t) t ks ks
     (indices_get vertices ks t small h.corners)
     (passed_gets line_passed (return ks) _ t t ks (line_gets t) (returned ks t))))

@@ -1,12 +1,12 @@
 -- The least number of steps that takes the moved parts past the resting ones.
 use Rattle.std.proofs.Common.{◌≡◌, ◌≢◌, ℕ, zero, suc, ◌+◌, ◌*◌, ◌<◌, ◌≤◌, ℤ, pos}
-use Rattle.std.proofs.Common.{negsuc, ◌+ℤ◌, ◌-ℤ◌, ◌*ℤ◌, ◌<ℤ◌, ◌≤ℤ◌, unsigned_abs, Bool}
+use Rattle.std.proofs.Common.{negsuc, neg_ℤ, ◌+ℤ◌, ◌-ℤ◌, ◌*ℤ◌, ◌<ℤ◌, ◌≤ℤ◌, unsigned_abs, Bool}
 use Rattle.std.proofs.Common.{true, false, List, ap, refl, arith, inl, inr}
 use Rattle.std.specs.Prelude.{int_lt, if◌then◌else◌}
 use Rattle.std.specs.Int.{div_ceil}
 use Rattle.std.proofs.lemmas.Int.{ints}
 use Rattle.std.proofs.lemmas.Grind.{div_ceil_times}
-use Rattle.std.proofs.Math.Nat.{mul-le-mul_right}
+use Rattle.std.proofs.Math.Nat.{mul-le-mul_left, mul-le-mul_right}
 use Rattle.staat_vec.specs.declared.vector.V3.{V3}
 use Rattle.staat_vec.specs.Vectors.{origin, vector}
 use Rattle.staat_explode.specs.declared.axis.Axis.{Axis}
@@ -15,7 +15,20 @@ use Rattle.staat_explode.specs.declared.boxes.Bounds.{Bounds}
 use Rattle.staat_explode.specs.declared.shifted.Shifted.{Shifted}
 use Rattle.staat_explode.specs.Boxes.{component}
 use Rattle.staat_explode.specs.Shifts.{ArePast, axis_of, axis_or_next, highest, lowest, rounds, steps_apart}
-use Rattle.staat_explode.proofs.Products.{times_up, times_down, size_some}
+
+times_up : (m : ℕ) (z : ℤ) → pos 0 <ℤ z → pos m *ℤ z ≡ pos (m * unsigned_abs z)
+times_up m (pos n) h = refl
+times_up m (negsuc n) h = absurd (omega (arith, ints))
+
+times_down : (m : ℕ) (z : ℤ) → z ≤ℤ pos 0 → pos m *ℤ z ≡ neg_ℤ (pos (m * unsigned_abs z))
+times_down m (pos zero) h = omega (arith, ints)
+times_down m (pos (suc n)) h = absurd (omega (arith, ints))
+times_down m (negsuc n) h = omega (arith, ints)
+
+size_some : (z : ℤ) → z ≢ pos 0 → 0 < unsigned_abs z
+size_some (pos zero) h = absurd (h refl)
+size_some (pos (suc n)) h = omega arith
+size_some (negsuc n) h = omega arith
 
 enough : (gap : ℤ) (step : ℕ) → 0 < step → gap ≤ℤ pos (rounds gap step * step)
 enough (pos g) step some = let h = div_ceil_times g step some in omega (arith, ints, h.0)
@@ -33,6 +46,11 @@ fewest (pos g) step k some h = by_order (div_ceil g step) (div_ceil_times g step
         by_lt : (a b : ℕ) → (b + 1 ≤ a → a ≤ b) → a ≤ b
         by_lt a b f = grind arith
 
+-- no more than the gap is wide
+pub few_rounds : (gap : ℤ) (step : ℕ) → 1 ≤ step → rounds gap step ≤ unsigned_abs gap
+few_rounds (negsuc g) step some = omega arith
+few_rounds (pos g) step some = fewest (pos g) step g some (omega (arith, ints, mul-le-mul_left g some))
+
 pub axis_some : (d : V3) → d ≢ origin → component (axis_of d) d ≢ pos 0
 axis_some d = go d.x d.y d.z
   where
@@ -43,23 +61,6 @@ axis_some d = go d.x d.y d.z
     go (pos zero) (negsuc n) z h e = cc
     go (pos (suc n)) y z h e = cc
     go (negsuc n) y z h e = cc
-
-up_past : (l g s : ℤ) (m : ℕ) → pos 0 <ℤ s → ((g +ℤ pos 1) -ℤ l) ≤ℤ pos (m * unsigned_abs s)
-    → (g +ℤ pos 1) ≤ℤ (l +ℤ (pos m *ℤ s))
-up_past l g s m up h = rw (times_up m s up) (omega (arith, ints))
-
-past_up : (l g s : ℤ) (m : ℕ) → pos 0 <ℤ s → (g +ℤ pos 1) ≤ℤ (l +ℤ (pos m *ℤ s))
-    → ((g +ℤ pos 1) -ℤ l) ≤ℤ pos (m * unsigned_abs s)
-past_up l g s m up h =
-    let k : (g +ℤ pos 1) ≤ℤ (l +ℤ pos (m * unsigned_abs s)) = rw (times_up m s up) at h in omega (arith, ints)
-
-down_past : (h l s : ℤ) (m : ℕ) → s ≤ℤ pos 0 → ((h +ℤ pos 1) -ℤ l) ≤ℤ pos (m * unsigned_abs s)
-    → (h +ℤ (pos m *ℤ s)) ≤ℤ (l -ℤ pos 1)
-down_past h l s m down e = rw (times_down m s down) (omega (arith, ints))
-
-past_down : (h l s : ℤ) (m : ℕ) → s ≤ℤ pos 0 → (h +ℤ (pos m *ℤ s)) ≤ℤ (l -ℤ pos 1)
-    → ((h +ℤ pos 1) -ℤ l) ≤ℤ pos (m * unsigned_abs s)
-past_down h l s m down e = let t = times_down m s down in let k = rw t at e in omega (arith, ints)
 
 module _ (boxes : List Bounds) (d : V3) (moved rest : List Shifted) (some : d ≢ origin) where
   abbrev axis : Axis
@@ -83,11 +84,13 @@ module _ (boxes : List Bounds) (d : V3) (moved rest : List Shifted) (some : d �
       go : (b : Bool) → int_lt (pos 0) step ≡ b → 0 < size → ArePast boxes d moved rest (rounds (gap b) size)
       go true e far =
           let up : pos 0 <ℤ step = grind (arith, ints) in
-          inl (up, up_past (lowest boxes axis moved) (highest boxes axis rest) step _ up (enough (gap true) size far))
+          let most = enough (gap true) size far in
+          inl (up, rw (times_up (rounds (gap true) size) step up) (omega (arith, ints)))
       go false e far =
           let low : step ≤ℤ pos 0 = grind (arith, ints) in
           let down : step <ℤ pos 0 = omega (arith, ints) in
-          inr (down, down_past (highest boxes axis moved) (lowest boxes axis rest) step _ low (enough (gap false) size far))
+          let most = enough (gap false) size far in
+          inr (down, rw (times_down (rounds (gap false) size) step low) (omega (arith, ints)))
 
   -- and no fewer are
   pub least_past : (k : ℕ) → ArePast boxes d moved rest k → steps_apart boxes d moved rest ≤ k
@@ -96,11 +99,15 @@ module _ (boxes : List Bounds) (d : V3) (moved rest : List Shifted) (some : d �
     where
       go : (b : Bool) → int_lt (pos 0) step ≡ b → 0 < size → ArePast boxes d moved rest k → rounds (gap b) size ≤ k
       go true e far (inl a) =
-          fewest _ size k far (past_up (lowest boxes axis moved) (highest boxes axis rest) step k a.0 a.1)
+          let product = times_up k step a.0 in
+          let past_all = a.1 in
+          fewest (gap true) size k far (omega (arith, ints))
       go true e far (inr a) = let wrong = a.0 in absurd (grind (arith, ints))
       go false e far (inl a) = let wrong = a.0 in absurd (grind (arith, ints))
       go false e far (inr a) =
           let down = a.0 in
-          fewest _ size k far (past_down (highest boxes axis moved) (lowest boxes axis rest) step k (omega (arith, ints)) a.1)
+          let product = times_down k step (omega (arith, ints)) in
+          let past_all = a.1 in
+          fewest (gap false) size k far (omega (arith, ints))
 
 pub ruleset stepping = (past, least_past)

@@ -1,14 +1,14 @@
 -- Words of decimal digits, as the reader of files finds them.
 use Rattle.std.proofs.Common.{◌≡◌, ℕ, suc, ◌+◌, ◌^◌, ◌<◌, ◌≤◌, Bool, true, false, List, []}
-use Rattle.std.proofs.Common.{◌∷◌, ◌++◌, take, drop, length, ap, sym, refl, ◌∙◌, arith, add-one}
+use Rattle.std.proofs.Common.{◌∷◌, ◌++◌, take, drop, length, get_or, subst, ap, sym, refl, ◌∙◌, arith, add-one}
 use Rattle.std.proofs.Common.{decimal, ℤ, pos, negsuc, unsigned_abs, inl, inr, Some, None, Result, Ok, Err}
 use Rattle.std.proofs.Common.{append-nil, Option}
-use Rattle.std.specs.Prelude.{◌==◌, ◌||◌, ◌&&◌, not, nat_le, codes, if◌then◌else◌}
+use Rattle.std.specs.Prelude.{◌==◌, ◌&&◌, codes, if◌then◌else◌}
 use Rattle.std.specs.Char.{is_ascii_digit}
 use Rattle.std.specs.List.{list_all, prefix_len}
 use Rattle.std.specs.Fmt.{signed_decimal}
-use Rattle.std.specs.Str.Parse.{AllDigits, digits_value}
-use Rattle.std.proofs.lemmas.Bool.{false≢true, and_from}
+use Rattle.std.specs.Str.Parse.{digits_value}
+use Rattle.std.proofs.lemmas.Bool.{false≢true}
 use Rattle.std.proofs.lemmas.Bool.Decides.{nat_tests}
 use Rattle.std.proofs.lemmas.Fmt.{decimal_is_IsNumeral_wide, length-decimal-le_wide}
 use Rattle.std.proofs.lemmas.Str.Parse.{digit_at}
@@ -23,53 +23,37 @@ use Rattle.staat_off.specs.Values.{IsValueOf, IsMagnitude, signed}
 use Rattle.staat_off.specs.Scan.{Rest, gap, next_word, word_in_front}
 use Rattle.staat_off.specs.Words.{Word, is_plain}
 use Rattle.staat_off.proofs.Decisions.{spelled_decides}
+use Rattle.std.proofs.lemmas.List.Sums.{list_all-from_AllPass}
 use Rattle.staat_vec.proofs.Decimals.{decimal_value}
-
--- ---- bytes
-
-pub high_plain : (b : ℕ) → 36 ≤ b → is_plain b ≡ true
-high_plain b h =
-    tests (b == 32) (nat_le 9 b) (nat_le b 13) (b == 35) (off b 32 (omega arith)) (over b 13 (omega arith)) (off b 35 (omega arith))
-  where
-    tests : (p q r s : Bool) → p ≡ false → r ≡ false → s ≡ false → not ((p || (q && r)) || s) ≡ true
-    tests p q r s e f g = grind arith
-
-    off : (x y : ℕ) → y < x → (x == y) ≡ false
-    off x y lt = grind (arith, nat_tests)
-
-    over : (x y : ℕ) → y < x → nat_le x y ≡ false
-    over x y lt = grind (arith, nat_tests)
-
-digit_test : (c : ℕ) → 48 ≤ c → c ≤ 57 → is_ascii_digit c ≡ true
-digit_test c low high = grind (arith, nat_tests)
-
-pub digits_tested : (ds : List ℕ) → AllDigits 10 ds → list_all is_ascii_digit ds ≡ true
-digits_tested [] h = refl
-digits_tested (c ∷ cs) h =
-    let range = digit_at (c ∷ cs) 0 h (omega arith) in
-    and_from (is_ascii_digit c) (list_all is_ascii_digit cs) (digit_test c range.0 range.1) (digits_tested cs h.1)
-
-pub digits_plain : (ds : List ℕ) → AllDigits 10 ds → list_all is_plain ds ≡ true
-digits_plain [] h = refl
-digits_plain (c ∷ cs) h =
-    let range = digit_at (c ∷ cs) 0 h (omega arith) in
-    and_from (is_plain c) (list_all is_plain cs) (high_plain c (omega (arith, range.0))) (digits_plain cs h.1)
+use Rattle.staat_vec.proofs.ListLaws.{any_default}
+use Rattle.staat_vec.proofs.Naturals.{eq_test_false}
+use Rattle.staat_off.proofs.DigitLemmas.{prefix_all}
 
 -- ---- numbers
 
-pub decimal_digits : (n : ℕ) → n < 10 ^ 64 → AllDigits 10 (decimal n)
-decimal_digits n small = (decimal_is_IsNumeral_wide n small).0.1
+-- what all digits pass, a number's text passes
+decimal_all : (p : ℕ → Bool) → ((c : ℕ) → 48 ≤ c → c ≤ 57 → p c ≡ true) → (n : ℕ) → n < 10 ^ 64
+    → list_all p (decimal n) ≡ true
+decimal_all p each n small = list_all-from_AllPass p (decimal n) (λ k d lt.
+    let range = digit_at (decimal n) k (decimal_is_IsNumeral_wide n small).0.1 lt in
+    subst (λ c. p c ≡ true) (any_default (decimal n) k 0 d lt) (each (get_or (decimal n) k 0) range.0 range.1))
+
+pub decimal_tested : (n : ℕ) → n < 10 ^ 64 → list_all is_ascii_digit (decimal n) ≡ true
+decimal_tested = decimal_all is_ascii_digit (λ c low high. grind (arith, nat_tests))
 
 pub decimal_some : (n : ℕ) → n < 10 ^ 64 → 0 < length (decimal n)
 decimal_some n small = omega (arith, (decimal_is_IsNumeral_wide n small).0.0)
 
-pub signed_plain : (z : ℤ) → unsigned_abs z < 10 ^ 64 → list_all is_plain (signed_decimal z) ≡ true
-signed_plain (pos n) small = digits_plain (decimal n) (decimal_digits n small)
-signed_plain (negsuc n) small = digits_plain (decimal (suc n)) (decimal_digits (suc n) small)
+-- a word, after a blank
+abbrev pub IsPlainWord : List ℕ → Type 0
+IsPlainWord w = (list_all is_plain w ≡ true) × (0 < length w)
 
-pub signed_some : (z : ℤ) → unsigned_abs z < 10 ^ 64 → 0 < length (signed_decimal z)
-signed_some (pos n) small = decimal_some n small
-signed_some (negsuc n) small = omega arith
+plain_digit : (c : ℕ) → 48 ≤ c → c ≤ 57 → is_plain c ≡ true
+plain_digit c low high = grind (arith, nat_tests)
+
+pub plain_word : (z : ℤ) → unsigned_abs z < 10 ^ 64 → IsPlainWord (signed_decimal z)
+plain_word (pos n) small = (decimal_all is_plain plain_digit n small, decimal_some n small)
+plain_word (negsuc n) small = (decimal_all is_plain plain_digit (suc n) small, omega arith)
 
 -- ---- a coordinate is read as the number that was written
 
@@ -93,7 +77,7 @@ number_spells b n small sign =
       point = [];
       power = [];
       digits = record {
-        whole = digits_tested (decimal n) (decimal_digits n s.0);
+        whole = decimal_tested n s.0;
         fraction = refl;
         exponent = refl;
         short = omega (arith, s.1);
@@ -137,17 +121,6 @@ coordinate_read (negsuc n) at small =
 
 -- ---- the next word
 
-prefix_all : (p : ℕ → Bool) (w s : List ℕ) → list_all p w ≡ true → prefix_len p s ≡ 0
-    → prefix_len p (w ++ s) ≡ length w
-prefix_all p [] s all none = none
-prefix_all p (b ∷ w) s all none = go (p b) all (prefix_all p w s)
-  where
-    go : (t : Bool) → (t && list_all p w) ≡ true
-        → (list_all p w ≡ true → prefix_len p s ≡ 0 → prefix_len p (w ++ s) ≡ length w)
-        → (if t then 1 + prefix_len p (w ++ s) else 0) ≡ suc (length w)
-    go true e f = omega (arith, f e none)
-    go false e f = absurd (false≢true e)
-
 -- a blank is passed over
 pub word_behind_blank : (b : ℕ) (t : List ℕ) (at : ℕ) → is_plain b ≡ false → (b == 35) ≡ false
     → next_word (record { bytes = b ∷ t; at = at }) ≡ next_word (record { bytes = t; at = at + 1 })
@@ -177,24 +150,17 @@ pub word_front : (w s : List ℕ) (at : ℕ) → list_all is_plain w ≡ true �
     ≡ (Some (record { text = w; at = at }), record { bytes = s; at = at + length w })
 unfolding next_word
 word_front w s at all some none =
-    let here : at + 0 ≡ at = omega arith in
     ap (λ (k : ℕ). word_in_front (record { bytes = drop k (w ++ s); at = at + k })) (no_gap w s all some)
-    ∙ ap (λ (k : ℕ). word_in_front (record { bytes = w ++ s; at = k })) here
-    ∙ ap (front (w ++ s)) (prefix_all is_plain w s all none)
-    ∙ ap (λ (x : Bool). if x then nothing_found (w ++ s) else found (w ++ s) (length w)) (not_zero (length w) some)
+    ∙ (λ i. read (here i) (prefix_all is_plain w s all none i) (prefix_all is_plain w s all none i == 0))
+    ∙ ap (read at (length w)) (eq_test_false (length w) 0 (λ e. omega arith))
     ∙ (λ i. (Some (record { text = take-append_seam w s i; at = at }), record { bytes = drop-append_seam w s i; at = at + length w }))
   where
-    nothing_found : List ℕ → Option Word × Rest
-    nothing_found bs = (None, record { bytes = bs; at = at })
+    here : at + 0 ≡ at
+    here = omega arith
 
-    found : List ℕ → ℕ → Option Word × Rest
-    found bs n = (Some (record { text = take n bs; at = at }), record { bytes = drop n bs; at = at + n })
-
-    front : List ℕ → ℕ → Option Word × Rest
-    front bs n = if n == 0 then nothing_found bs else found bs n
-
-    not_zero : (k : ℕ) → 0 < k → (k == 0) ≡ false
-    not_zero k h = grind (arith, nat_tests)
+    read : ℕ → ℕ → Bool → Option Word × Rest
+    read place n none = if none then (None, record { bytes = w ++ s; at = place })
+        else (Some (record { text = take n (w ++ s); at = place }), record { bytes = drop n (w ++ s); at = place + n })
 
 -- no word is left where nothing but blanks is
 pub no_word_left : (at : ℕ) → next_word (record { bytes = []; at = at }) ≡ (None, record { bytes = []; at = at })

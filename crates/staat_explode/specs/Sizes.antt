@@ -1,6 +1,6 @@
 -- How great the numbers are with which the vectors are found.
 use Rattle.std.specs.Prelude.{◌<◌, ◌≢◌, ℕ}
-use Rattle.staat_vec.specs.declared.vector.TheConstants.{DIRECTION, POINT}
+use Rattle.staat_vec.specs.declared.vector.TheConstants.{POINT}
 use Rattle.staat_vec.specs.Vectors.{IsWithin, origin}
 use Rattle.staat_model.specs.Plans.{Plan, leaf, split}
 use Rattle.staat_explode.specs.declared.boxes.Bounds.{Bounds}
@@ -18,11 +18,6 @@ pub record AreBounds (b : Bounds) : Type 0 where
 pub record IsShifted (boxes : ℕ) (p : Shifted) : Type 0 where
   pub part : p.part < boxes
   pub near : IsWithin FARTHEST p.by
-
--- each direction is within its bound
-abbrev pub HasDirections : Plan → Type 0
-HasDirections (leaf p) = Unit {0}
-HasDirections (split d moved rest) = IsWithin DIRECTION d × HasDirections moved × HasDirections rest
 
 -- each part has a box, and no direction is zero
 abbrev pub IsShiftable : ℕ → Plan → Type 0

@@ -27,11 +27,6 @@ abbrev pub node_count : Plan → ℕ
 node_count (leaf p) = 1
 node_count (split d moved rest) = 1 + node_count moved + node_count rest
 
--- how many leaves
-abbrev pub leaf_count : Plan → ℕ
-leaf_count (leaf p) = 1
-leaf_count (split d moved rest) = leaf_count moved + leaf_count rest
-
 -- the splits in the order in which they are done, where the plan's first node has this number: a split is done after
 -- its moved subtree and then its resting subtree are
 abbrev pub splits_from : ℕ → Plan → List SplitAt

@@ -1,8 +1,7 @@
 // The boxes round parts.
-ghost use Rattle.std.specs.Prelude.{◌≡◌, ◌<◌, ◌≤◌, All, IfOk, length};
+ghost use Rattle.std.specs.Prelude.{◌≡◌, ◌<◌, ◌≤◌, ℕ, All, IfOk, length, unsigned_abs};
 ghost use Rattle.std.specs.List.{fold};
-ghost use Rattle.staat_vec.specs.Vectors.{IsWithin};
-ghost use Rattle.staat_explode.specs.Boxes.{around, box_of, boxes_of, corner, covering, further, points_at};
+ghost use Rattle.staat_explode.specs.Boxes.{box_of, boxes_of, corner, covering, further, points_at};
 ghost use Rattle.staat_explode.specs.Sizes.{AreBounds};
 
 use staat_model::Assembly;
@@ -16,13 +15,6 @@ pub struct Bounds {
     pub high: V3,
 }
 
-// The box of one point.
-fn around(p: V3) -> Bounds
-    ensures { result ≡ around p }
-{
-    Bounds { low: p, high: p }
-}
-
 /// An end of a box: the least numbers of its points, or the greatest.
 #[derive(Clone, Copy)]
 pub enum End {
@@ -32,7 +24,8 @@ pub enum End {
 
 // The number that lies further to the end.
 pub(crate) fn further(end: End, a: i128, b: i128) -> i128
-    ensures { result ≡ further end a b }
+    ensures value { result ≡ further end a b }
+    ensures size { (bound : ℕ) → unsigned_abs a ≤ bound → unsigned_abs b ≤ bound → unsigned_abs result ≤ bound }
 {
     match end {
         End::Low => a.min(b),
@@ -79,7 +72,11 @@ fn box_of(assembly: &Assembly, a: u32) -> Bounds
     ensures size { AreBounds result }
 {
     let _parts = assembly.parts();
-    let mut bounds = around(assembly.piece(a, 0).points()[0]);
+    let first = assembly.piece(a, 0).points()[0];
+    let mut bounds = Bounds {
+        low: first,
+        high: first,
+    };
     for i in 0..assembly.pieces(a) {
         bounds = covering_all(bounds, assembly.piece(a, i).points());
     }

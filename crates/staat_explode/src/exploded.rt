@@ -1,14 +1,12 @@
 // The exploded view of a plan.
-ghost use Rattle.std.specs.Prelude.{◌≡◌, ◌≢◌, ◌<◌, ◌≤◌, ◌+◌, ◌*◌, ◌-◌, ℕ, All};
-ghost use Rattle.std.specs.Prelude.{IfOk, List, MatchResult, length, map};
+ghost use Rattle.std.specs.Prelude.{◌≡◌, ◌≢◌, ◌≤◌, ◌+◌, ◌*◌, All, IfOk, MatchResult, length, map};
 ghost use Rattle.std.specs.List.{range_with_len};
 ghost use Rattle.staat_vec.specs.Vectors.{IsWithin, origin};
-ghost use Rattle.staat_model.specs.Plans.{IsGood, parts_of, plan_of};
+ghost use Rattle.staat_model.specs.Plans.{IsGood, plan_of};
 ghost use Rattle.staat_model.specs.Sets.{below};
 ghost use Rattle.staat_explode.specs.Apart.{StandApart};
-ghost use Rattle.staat_explode.specs.Boxes.{boxes_of};
-ghost use Rattle.staat_explode.specs.Shifts.{moved_on, parted, shifted_of, vector_of_part};
-ghost use Rattle.staat_explode.specs.Sizes.{HasDirections, AreBounds, IsShiftable, IsShifted};
+ghost use Rattle.staat_explode.specs.Shifts.{parted, shifted_of, vector_of_part};
+ghost use Rattle.staat_explode.specs.Sizes.{AreBounds, IsShiftable, IsShifted};
 ghost use Rattle.staat_explode.specs.Splits.{AllNear, AreSums, Explodes, HasFar, IsRefused, IsTooFarAt};
 ghost use Rattle.staat_explode.specs.Splits.{node_count};
 
@@ -19,46 +17,10 @@ use crate::shifted::{Shifted, steps_apart, vector_of_part};
 use crate::shifts::Shifts;
 use staat_limits::MOST_PARTS;
 use staat_model::{Assembly, Sound, Tree};
-use staat_vec::{DIRECTION, V3};
+use staat_vec::V3;
 use std::alloc::{AllocError, Global};
 
-// The part, moved on by m * d, unless that is too far.
-fn moved_on(m: u128, d: V3, node: u32, p: Shifted) -> Result<Shifted, ExplodeRefusal>
-    requires near { IsWithin FARTHEST p.by }
-    requires size { IsWithin DIRECTION d }
-    ensures { MatchResult result
-        (λ q. (q ≡ moved_on m d p) × IsWithin FARTHEST q.by)
-        (λ e. IsRefused (λ k. (k ≡ node) × (IsWithin FARTHEST (moved_on m d p).by → ⊥)) e) }
-{
-    match grown_vector(p.by, m, d) {
-        Some(by) => Ok(Shifted { part: p.part, by }),
-        None => Err(ExplodeRefusal::TooFar(node)),
-    }
-}
-
-// The parts, each moved on by m * d, unless one is too far.
-fn all_moved_on(
-    alloc: Global,
-    m: u128,
-    d: V3,
-    node: u32,
-    placed: &[Shifted],
-) -> Result<Vec<Shifted>, ExplodeRefusal>
-    requires near { All (λ p. IsWithin FARTHEST p.by) placed.now }
-    requires size { IsWithin DIRECTION d }
-    ensures { MatchResult result
-        (λ ps. (ps.items ≡ map (moved_on m d) placed.now) × All (λ p. IsWithin FARTHEST p.by) ps.items)
-        (λ e. IsRefused (λ k. (k ≡ node) × HasFar (map (moved_on m d) placed.now)) e) }
-{
-    let mut moved = Vec::new(alloc);
-    for p in placed {
-        let next = moved_on(m, d, node, *p)?;
-        moved.push(next)?;
-    }
-    Ok(moved)
-}
-
-// The parts of both sides of a split, once it is done.
+// The parts of both sides of a split, once it is done, unless one is too far.
 fn parted(
     alloc: Global,
     boxes: &[Bounds],
@@ -69,7 +31,6 @@ fn parted(
 ) -> Result<Vec<Shifted>, ExplodeRefusal>
     requires boxes { All AreBounds boxes.now }
     requires direction { d ≢ origin }
-    requires size { IsWithin DIRECTION d }
     requires moved { All (IsShifted (length boxes.now)) moved.now }
     requires rest { All (IsShifted (length boxes.now)) rest.now }
     requires some { 1 ≤ length moved.now }
@@ -79,20 +40,15 @@ fn parted(
         (λ e. IsRefused (λ k. (k ≡ node) × HasFar (parted boxes.now d moved.now rest.now)) e) }
 {
     let m = steps_apart(boxes, d, moved, rest);
-    let mut placed = all_moved_on(alloc, m, d, node, moved)?;
+    let mut placed = Vec::new(alloc);
+    for p in moved {
+        match grown_vector(p.by, m, d) {
+            Some(by) => placed.push(Shifted { part: p.part, by })?,
+            None => return Err(ExplodeRefusal::TooFar(node)),
+        }
+    }
     placed.extend_from_slice(rest)?;
     Ok(placed)
-}
-
-// How many nodes a plan has, leaves too.
-fn node_count(tree: &Tree) -> u32
-    requires { node_count (plan_of tree.now) ≤ 2 * MOST_PARTS }
-    ensures { result ≡ node_count (plan_of tree.now) }
-{
-    match tree {
-        Tree::Leaf(_) => 1,
-        Tree::Split { moved, rest, .. } => 1 + node_count(moved) + node_count(rest),
-    }
 }
 
 // The parts of a plan with their vectors, unless one is too far after some split. The plan's first node has this
@@ -105,12 +61,12 @@ pub(crate) fn shifted_of(
 ) -> Result<Vec<Shifted>, ExplodeRefusal>
     requires boxes { All AreBounds boxes.now }
     requires plan { IsShiftable (length boxes.now) (plan_of tree.now) }
-    requires directions { HasDirections (plan_of tree.now) }
     requires nodes { node + node_count (plan_of tree.now) ≤ 2 * MOST_PARTS }
     ensures { MatchResult result
         (λ ps. (ps.items ≡ shifted_of boxes.now (plan_of tree.now))
         × All (IsShifted (length boxes.now)) ps.items
-        × AllNear boxes.now node (plan_of tree.now))
+        × AllNear boxes.now node (plan_of tree.now)
+        × (2 * length ps.items ≡ node_count (plan_of tree.now) + 1))
         (λ e. IsRefused (IsTooFarAt boxes.now node (plan_of tree.now)) e) }
 {
     match tree {
@@ -121,31 +77,13 @@ pub(crate) fn shifted_of(
             Ok(placed)
         }
         Tree::Split { d, moved, rest } => {
-            let behind = node + 1 + node_count(moved);
             let moved = shifted_of(alloc, boxes, moved, node + 1)?;
+            // a plan has a leaf for each part, and a split less
+            let behind = node + 2 * moved.len() as u32;
             let rest = shifted_of(alloc, boxes, rest, behind)?;
             parted(alloc, boxes, *d, node, moved.as_slice(), rest.as_slice())
         }
     }
-}
-
-// The parts of a plan for an assembly with their vectors, unless one is too far after some split.
-fn placed_of(
-    alloc: Global,
-    assembly: &Assembly,
-    tree: &Tree,
-) -> Result<Vec<Shifted>, ExplodeRefusal>
-    requires plan { IsShiftable (length (boxes_of assembly.now)) (plan_of tree.now) }
-    requires directions { HasDirections (plan_of tree.now) }
-    requires nodes { node_count (plan_of tree.now) ≤ 2 * MOST_PARTS }
-    ensures { MatchResult result
-        (λ ps. (ps.items ≡ shifted_of (boxes_of assembly.now) (plan_of tree.now))
-        × All (IsShifted (length (boxes_of assembly.now))) ps.items
-        × AllNear (boxes_of assembly.now) 0 (plan_of tree.now))
-        (λ e. IsRefused (IsTooFarAt (boxes_of assembly.now) 0 (plan_of tree.now)) e) }
-{
-    let boxes = boxes_of(alloc, assembly)?;
-    shifted_of(alloc, boxes.as_slice(), tree, 0)
 }
 
 // The vector of each part, in the order of the parts.
@@ -173,7 +111,6 @@ pub(crate) fn shifts_of(
 /// its resting side.
 pub fn explode(alloc: Global, sound: &Sound, tree: &Tree) -> Result<Shifts, ExplodeRefusal>
     requires good { IsGood sound.now (below (length sound.now)) (plan_of tree.now) }
-    requires directions { HasDirections (plan_of tree.now) }
     ensures exact { Explodes sound.now (plan_of tree.now) result }
     ensures sums { IfOk result (AreSums (plan_of tree.now)) }
     ensures apart { IfOk result (StandApart sound.now) }
@@ -181,7 +118,8 @@ pub fn explode(alloc: Global, sound: &Sound, tree: &Tree) -> Result<Shifts, Expl
 {
     let assembly = sound.assembly();
     let parts = assembly.parts();
-    let placed = placed_of(alloc, assembly, tree)?;
+    let boxes = boxes_of(alloc, assembly)?;
+    let placed = shifted_of(alloc, boxes.as_slice(), tree, 0)?;
     let shifts = shifts_of(alloc, parts, placed.as_slice())?;
     Ok(Shifts::from_vec(shifts))
 }

@@ -1,6 +1,6 @@
 // A text that is kept while it is short, and counted on.
 ghost use Rattle.std.specs.Prelude.{◌≡◌, ◌<◌, ◌+◌, ◌^◌, [], ℕ, List};
-ghost use Rattle.std.specs.Prelude.{IfOk, OnOk, length};
+ghost use Rattle.std.specs.Prelude.{OnOk, length};
 ghost use Rattle.staat_explode.specs.Sheets.{AddsText, Keeps, Written};
 
 use crate::refusal::SceneRefusal;

@@ -1,31 +1,20 @@
 // Parts and how far they are moved.
-ghost use Rattle.std.specs.Prelude.{◌≡◌, ◌≢◌, ◌<◌, ◌≤◌, ◌+◌, ◌*◌, ◌+ℤ◌, All};
-ghost use Rattle.std.specs.Prelude.{length, unsigned_abs, pos};
+ghost use Rattle.std.specs.Prelude.{◌≡◌, ◌≢◌, ◌<◌, ◌≤◌, ◌+◌, ◌*◌, ◌^◌, ◌+ℤ◌, All, length, unsigned_abs};
 ghost use Rattle.staat_vec.specs.Vectors.{IsWithin, origin};
 ghost use Rattle.staat_explode.specs.Boxes.{component};
-ghost use Rattle.staat_explode.specs.Shifts.{end_along, box_at, extreme, gap_along, rounds, steps_apart};
-ghost use Rattle.staat_explode.specs.Shifts.{vector_of_part};
+ghost use Rattle.staat_explode.specs.Shifts.{end_along, extreme, gap_along, rounds, steps_apart, vector_of_part};
 ghost use Rattle.staat_explode.specs.Sizes.{AreBounds, IsShifted};
 
 use crate::axis::{Axis, axis_of, component};
 use crate::boxes::{Bounds, End, further};
 use crate::grow::FARTHEST;
-use staat_vec::{DIRECTION, POINT, V3};
+use staat_vec::{POINT, V3};
 
 /// A part, and the vector by which it is moved.
 #[derive(Clone, Copy)]
 pub struct Shifted {
     pub part: u32,
     pub by: V3,
-}
-
-fn box_at(boxes: &[Bounds], part: u32) -> Bounds
-    requires boxes { All AreBounds boxes.now }
-    requires part { part < length boxes.now }
-    ensures value { result ≡ box_at boxes.now part }
-    ensures size { AreBounds result }
-{
-    boxes[part as usize]
 }
 
 // A number of a corner, moved by a vector.
@@ -49,7 +38,7 @@ fn end_along(boxes: &[Bounds], axis: Axis, end: End, p: Shifted) -> i128
     ensures value { result ≡ end_along boxes.now axis end p }
     ensures size { unsigned_abs result ≤ POINT + FARTHEST }
 {
-    let bounds = box_at(boxes, p.part);
+    let bounds = boxes[p.part as usize];
     match end {
         End::Low => moved(axis, bounds.low, p.by),
         End::High => moved(axis, bounds.high, p.by),
@@ -91,7 +80,8 @@ fn gap_along(boxes: &[Bounds], axis: Axis, step: i128, moved: &[Shifted], rest: 
 // How many steps of a size make up a gap.
 fn rounds(gap: i128, step: u128) -> u128
     requires { 1 ≤ step }
-    ensures { result ≡ rounds gap step }
+    ensures value { result ≡ rounds gap step }
+    ensures size { result < 2 ^ 127 }
 {
     if gap < 0 {
         0
@@ -105,12 +95,12 @@ fn rounds(gap: i128, step: u128) -> u128
 pub(crate) fn steps_apart(boxes: &[Bounds], d: V3, moved: &[Shifted], rest: &[Shifted]) -> u128
     requires boxes { All AreBounds boxes.now }
     requires direction { d ≢ origin }
-    requires size { IsWithin DIRECTION d }
     requires moved { All (IsShifted (length boxes.now)) moved.now }
     requires rest { All (IsShifted (length boxes.now)) rest.now }
     requires some { 1 ≤ length moved.now }
     requires others { 1 ≤ length rest.now }
-    ensures { result ≡ steps_apart boxes.now d moved.now rest.now }
+    ensures value { result ≡ steps_apart boxes.now d moved.now rest.now }
+    ensures size { result < 2 ^ 127 }
 {
     let axis = axis_of(d);
     let step = component(axis, d);

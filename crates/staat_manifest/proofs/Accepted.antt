@@ -12,15 +12,14 @@ use Rattle.std.proofs.lemmas.Slice.Eq.{bytes_eq-Decides}
 use Rattle.serde_json.specs.Data.{Data}
 use Rattle.staat_manifest.specs.declared.refusal.ManifestRefusal.{ManifestRefusal}
 use Rattle.staat_manifest.specs.declared.refusal.ManifestRefusal.TheVariants as refusal
-use Rattle.staat_limits.specs.declared.limits.TheConstants.{MOST_PARTS, MOST_PIECES}
 use Rattle.staat_manifest.specs.declared.listing.ListedPart.{ListedPart}
 use Rattle.staat_manifest.specs.Values.{Text, json_of, name_of, parts_value, pieces_in, text_in}
 use Rattle.staat_manifest.specs.Answers.{AnswersList}
-use Rattle.staat_manifest.specs.Listings.{IsListing, IsListingWithin, listed}
+use Rattle.staat_manifest.specs.Listings.{IsListingWithin, listed}
 use Rattle.staat_vec.specs.declared.vector.TheConstants.{POINT}
 use Rattle.staat_vec.specs.Vectors.{IsWithin}
 use Rattle.staat_manifest.proofs.PlacementLemmas.{at_within}
-use Rattle.staat_manifest.specs.Rules.{part_path, unless_broken, answer_of, first_refusal, form_rules, joint_rules, part_list, part_list_within, rule, rules_from, whole_rules}
+use Rattle.staat_manifest.specs.Rules.{part_path, unless_broken, answer_of, first_refusal, form_rules, joint_rules, part_list_within, rule, rules_from, whole_rules}
 
 -- all of some rules hold, so these and those do
 split : (rules others : List (Option ManifestRefusal)) → first_refusal (rules ++ others) ≡ None → (first_refusal rules ≡ None) × (first_refusal others ≡ None)

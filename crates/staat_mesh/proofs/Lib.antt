@@ -1,7 +1,6 @@
 pub mod LineLemmas
 pub mod StanceLemmas
 pub mod MarkLemmas
-pub mod SameLemmas
 pub mod UsedPoints
 pub mod PolygonLemmas
 pub mod NumberLemmas

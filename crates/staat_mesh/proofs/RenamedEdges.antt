@@ -3,15 +3,18 @@ use Rattle.std.proofs.Common.{◌≡◌, ◌≢◌, ◌<◌, ◌+◌, ◌&&◌, 
 use Rattle.std.specs.Prelude.{All, Contains, count_by}
 use Rattle.std.specs.List.{cons_option, filter_map, flat_map, zip}
 use Rattle.std.specs.Bool.{Decides}
+use Rattle.std.specs.Ordering.{is_eq}
 use Rattle.std.proofs.lemmas.Bool.Decides.{Decides-eqb, same_from_decides}
 use Rattle.std.proofs.lemmas.List.{map-append}
 use Rattle.std.proofs.lemmas.List.Elements.{All-head, All-tail}
 use Rattle.std.proofs.lemmas.List.Sums.{sum_by-cons}
 use Rattle.staat_vec.specs.declared.vector.V3.{V3}
+use Rattle.staat_vec.specs.Vectors.{vector_cmp}
+use Rattle.staat_vec.proofs.Comparisons.{from_is_eq}
+use Rattle.staat_vec.proofs.VectorOrder.{vector_cmp-same, vector_exact}
 use Rattle.staat_vec.proofs.Unique.{Contains-front, Contains-later}
 use Rattle.staat_mesh.specs.Counts.{leads}
 use Rattle.staat_mesh.specs.Edges.{edges, is_same, joins, rotated}
-use Rattle.staat_mesh.proofs.SameLemmas.{is_same-Decides}
 
 -- a pair renamed
 abbrev pub both : {X Y : Type 0} → (X → Y) → X × X → Y × Y
@@ -42,6 +45,10 @@ flat_map-renamed g h f (x ∷ xs) each =
     (λ i. each x (Contains-front x xs) i ++ flat_map-renamed g h f xs (λ y k. each y (Contains-later x xs y k)) i) ∙ sym (map-append f (h x) (flat_map h xs))
 
 -- ---- counts
+
+-- when two positions are one
+pub is_same-Decides : (p q : V3) → Decides (is_same p q) (p ≡ q)
+is_same-Decides p q = (λ e. vector_exact p q (from_is_eq (vector_cmp p q) e), λ e. ap is_eq (ap (vector_cmp p) (sym e) ∙ vector_cmp-same p))
 
 -- the names below a bound differ
 abbrev pub IsInjective : ℕ → (ℕ → V3) → Type 0

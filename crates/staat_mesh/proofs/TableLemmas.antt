@@ -20,8 +20,7 @@ use Rattle.staat_mesh.specs.Counts.{Counts, IsFirstUnpaired, IsPaired, Numbers, 
 use Rattle.staat_mesh.specs.Edges.{IsClosed, edge_count, edges, joins}
 use Rattle.staat_mesh.specs.Judging.{HasClosedEdges, IsFirstOpen}
 use Rattle.staat_mesh.specs.Polygons.{IsUsed, mesh, polygon}
-use Rattle.staat_mesh.proofs.RenamedEdges.{IsInjective, both, count_by-joins, edges-map, filter_map-all, flat_map-renamed}
-use Rattle.staat_mesh.proofs.SameLemmas.{is_same-Decides}
+use Rattle.staat_mesh.proofs.RenamedEdges.{IsInjective, both, count_by-joins, edges-map, filter_map-all, flat_map-renamed, is_same-Decides}
 use Rattle.staat_mesh.proofs.UsedPoints.{to_used}
 use Rattle.staat_mesh.proofs.EdgeLemmas.{All-edges}
 use Rattle.staat_vec.proofs.ListLaws.{All-flat_map}

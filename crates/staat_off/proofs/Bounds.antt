@@ -29,17 +29,17 @@ abbrev pub Kept : {A : Type 0} → (Rest → Type 0) → (OffRefusal → Type 0)
 Kept S N P (Ok read) = P read.0 × S read.1
 Kept S N P (Err refusal) = N refusal
 
+-- the refusals that name an offset are of N
+abbrev pub AreRefused : (OffRefusal → Type 0) → ℕ → Type 0
+AreRefused N at = N (BadNumber at) × N (NotWhole at) × N (TooBig at) × N (BadCount at) × N (BadIndex at)
+
 -- from the places S on, the words that are found are of W, what is left is a place of S again, and refusals are of N
 pub record Scans (S : Rest → Type 0) (N : OffRefusal → Type 0) (W : Word → Type 0) : Type 0 where
   pub finds : (rest : Rest) → S rest → Kept S N W (word rest)
   pub begins : (rest : Rest) → S rest → Kept {A = Unit {0}} S N Any (header rest)
   pub ends : (rest : Rest) → S rest → Kept {A = Unit {0}} Any N Any (end rest)
   pub passes : (rest : Rest) → S rest → S (after_line rest)
-  pub bad_number : (w : Word) → W w → N (BadNumber w.at)
-  pub not_whole : (w : Word) → W w → N (NotWhole w.at)
-  pub too_big : (w : Word) → W w → N (TooBig w.at)
-  pub bad_count : (w : Word) → W w → N (BadCount w.at)
-  pub bad_index : (w : Word) → W w → N (BadIndex w.at)
+  pub refuses : (w : Word) → W w → AreRefused N w.at
 
 pub record IsFace (vertices : ℕ) (corners : List ℕ) : Type 0 where
   pub below : All (λ corner. corner < vertices) corners
@@ -82,20 +82,20 @@ module _ (S : Rest → Type 0) (N : OffRefusal → Type 0) (W : Word → Type 0)
   unfolding count
   count_keeps =
       then S W _ word _ scans.finds
-      (λ w is. accepted_keeps (λ n. nat_le n MOST_COUNT) _ (λ n. leb-true n MOST_COUNT) (short_number w.text) _ (scans.bad_count w is))
+      (λ w is. accepted_keeps (λ n. nat_le n MOST_COUNT) _ (λ n. leb-true n MOST_COUNT) (short_number w.text) _ (scans.refuses w is).3)
 
   corner_count_keeps : Keeps (λ n. (1 ≤ n) × (n ≤ MOST_COUNT)) corner_count
   unfolding corner_count
   corner_count_keeps =
       then S W _ word _ scans.finds
       (λ w is. accepted_keeps (λ n. nat_le 1 n && nat_le n MOST_COUNT) _
-      (λ n e. let both = and_split (nat_le 1 n) (nat_le n MOST_COUNT) e in (leb-true 1 n both.0, leb-true n MOST_COUNT both.1)) (short_number w.text) _ (scans.bad_count w is))
+      (λ n e. let both = and_split (nat_le 1 n) (nat_le n MOST_COUNT) e in (leb-true 1 n both.0, leb-true n MOST_COUNT both.1)) (short_number w.text) _ (scans.refuses w is).3)
 
   index_keeps : (vertices : ℕ) → Keeps (λ n. n < vertices) (index vertices)
   unfolding index
   index_keeps vertices =
       then S W _ word _ scans.finds
-      (λ w is. accepted_keeps (λ n. nat_lt n vertices) _ (λ n. ltb-true n vertices) (short_number w.text) _ (scans.bad_index w is))
+      (λ w is. accepted_keeps (λ n. nat_lt n vertices) _ (λ n. ltb-true n vertices) (short_number w.text) _ (scans.refuses w is).4)
 
   -- ---- coordinates
 
@@ -112,15 +112,15 @@ module _ (S : Rest → Type 0) (N : OffRefusal → Type 0) (W : Word → Type 0)
 
       go : (t : Bool) → nat_le v POINT ≡ t → Kept S N IsSmall (decided (cond t (Ok (signed negative v)) (Err (TooBig w.at))) rest)
       go true e = (rw (size negative v) (leb-true v POINT e), s)
-      go false e = scans.too_big w is
+      go false e = (scans.refuses w is).2
 
   decision_keeps : (k : ℕ) (o : Option Numeral) (w : Word) → W w → Keeps IsSmall (decided (decision_of k o w.at))
-  decision_keeps k None w is rest s = scans.bad_number w is
+  decision_keeps k None w is rest s = (scans.refuses w is).0
   decision_keeps k (Some n) w is rest s = go (numerator n k % denominator n k == 0)
     where
       go : (t : Bool) → Kept S N IsSmall (decided (cond t (within_limit n.is_negative (numerator n k / denominator n k) w.at) (Err (NotWhole w.at))) rest)
       go true = limit_keeps n.is_negative (numerator n k / denominator n k) w is rest s
-      go false = scans.not_whole w is
+      go false = (scans.refuses w is).1
 
   coordinate_keeps : (digits : ℕ) → Keeps IsSmall (coordinate digits)
   unfolding coordinate coordinate_of
@@ -196,11 +196,7 @@ scans_anything = record {
   begins = λ rest s. anything (header rest);
   ends = λ rest s. anything (end rest);
   passes = λ rest s. tt;
-  bad_number = λ w is. tt;
-  not_whole = λ w is. tt;
-  too_big = λ w is. tt;
-  bad_count = λ w is. tt;
-  bad_index = λ w is. tt;
+  refuses = λ w is. (tt, tt, tt, tt, tt);
 }
 
 pub point_bound : (digits : ℕ) (rest : Rest) (v : V3 × Rest) → point digits rest ≡ Ok v → IsWithin POINT v.0

@@ -136,3 +136,5 @@ unspelled_is_bad k w none = go (numeral_of w.text) refl
     go : (o : Option Numeral) → numeral_of w.text ≡ o → decision_of k (numeral_of w.text) w.at ≡ Err (BadNumber w.at)
     go None e = ap (λ o. decision_of k o w.at) e
     go (Some n) e = absurd (none n (spelled w.text n e))
+
+pub ruleset deciding = (spelled_decides, unspelled_is_bad)

@@ -72,11 +72,7 @@ module _ (bytes : List ℕ) where
     begins = header_from;
     ends = end_from;
     passes = line_from;
-    bad_number = begins;
-    not_whole = begins;
-    too_big = begins;
-    bad_count = begins;
-    bad_index = begins;
+    refuses = λ w is. let there = begins w is in (there, there, there, there, there);
   }
 
 -- each refusal names a word of the file

@@ -32,6 +32,7 @@ pub fn next_word_is_next()
 {}
 
 /// What is passed over as a line ends behind the next LF, or at the file's end.
+#[tactic(auto, using(crate::proofs::NextWord::line_is_passed))]
 pub fn line_is_passed()
     ensures { (file : List ℕ) (p : ℕ) → IsStop file p → (q : ℕ) × IsNextLine file p q × IsStop file q
         × (after_line (rest_at file p) ≡ rest_at file q) }
@@ -44,6 +45,7 @@ pub fn numerals_are_spelled()
 {}
 
 /// A word that spells a numeral is decided by the equation of its value, and one that spells none is a bad number.
+#[tactic(auto, using(crate::proofs::Decisions::deciding))]
 pub fn coordinates_by_equation()
     ensures spelled { (digits : ℕ) (w : Word) (n : Numeral) → Spells w.text n
         → IsValueOf digits n w.at (coordinate_of digits w) }
@@ -52,6 +54,7 @@ pub fn coordinates_by_equation()
 {}
 
 /// The number with a refusal is the offset of a word of the file. No reading is want of memory.
+#[tactic(auto, using(crate::proofs::OffsetLemmas::refusal_names_word))]
 pub fn refusals_name_words()
     ensures { (digits : ℕ) (file : List ℕ) (refusal : Refusal) → reading digits file ≡ Err refusal →
         NamesWord file refusal }

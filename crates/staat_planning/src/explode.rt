@@ -9,7 +9,6 @@ ghost use Rattle.staat_model.specs.Outcomes.{finding_of};
 ghost use Rattle.staat_model.specs.Plans.{IsGood, plan_of};
 ghost use Rattle.staat_manifest.specs.declared.listing.ListedPart.{ListedPart as ListedPartValue};
 ghost use Rattle.staat_explode.specs.declared.grow.TheConstants.{FARTHEST};
-ghost use Rattle.staat_explode.specs.Sizes.{HasDirections};
 ghost use Rattle.staat_certify.specs.Certifying.{CanBeCertified};
 ghost use Rattle.staat_text.specs.PlanTexts.{CanBeShown};
 ghost use Rattle.staat_words.specs.Requests.{IsExplodeRequest};
@@ -47,7 +46,6 @@ fn explode_fault(refusal: ExplodeRefusal) -> Fault
 #[tactic(auto, using(crate::proofs::ExplodeLemmas::shifting))]
 fn shifts_of(alloc: Global, sound: &Sound, tree: &Tree) -> Result<Shifts, Fault>
     requires good { IsGood sound.now (all_parts sound.now) (plan_of tree.now) }
-    requires directions { HasDirections (plan_of tree.now) }
     ensures shifted { Follows (AreShifted sound.now (plan_of tree.now)) result }
     ensures each { IfOk result (λ shifts. length shifts ≡ length sound.now) }
     ensures near { IfOk result (All (IsWithin FARTHEST)) }
@@ -97,7 +95,6 @@ fn plan_viewed(
 ) -> Result<Bytes, Fault>
     requires small { AreSmall (length sound.now) MOST_PIECES solids.now }
     requires good { IsGood sound.now (all_parts sound.now) (plan_of tree.now) }
-    requires directions { HasDirections (plan_of tree.now) }
     ensures viewed { Follows (IsPlanViewed sound.now solids.now off (plan_of tree.now)) result }
     ensures cause { (shelf : ShelfSide) → IfErr result (HasCause shelf) }
 {
