@@ -71,14 +71,17 @@ chain_stays s i u j w a [] b ai ix jx bj h = (get_or-set_other s.next i a u 0 ai
 chain_stays s i u j w a (x ∷ xs) b ai ix jx bj h =
     (get_or-set_other s.next i a u 0 ai ∙ h.0, (get_or-set_other s.prev j x w 0 jx.0 ∙ h.1.0, chain_stays s i u j w x xs b ix.0 ix.1 jx.1 bj h.1.1))
 
-pub prev_in : (s : Links) (x a : ℕ) (l r : List ℕ) (b : ℕ) → Chain s a (l ++ x ∷ r) b → get_or s.prev x 0 ≡ last_of a l
-prev_in s x a [] r b h = h.1.0
-prev_in s x a (y ∷ l) r b h = prev_in s x y l r b h.1.1
+-- the words of x are i and j, and those between which it stands name it
+pub record IsAmid (s : Links) (x i j : ℕ) : Type 0 where
+  pub prev : get_or s.prev x 0 ≡ i
+  pub next : get_or s.next x 0 ≡ j
+  pub back : get_or s.next i 0 ≡ x
+  pub forth : get_or s.prev j 0 ≡ x
 
-pub next_in : (s : Links) (x a : ℕ) (l r : List ℕ) (b : ℕ) → Chain s a (l ++ x ∷ r) b → get_or s.next x 0 ≡ first_of r b
-next_in s x a [] [] b h = h.1.1.0
-next_in s x a [] (z ∷ r) b h = h.1.1.0
-next_in s x a (y ∷ l) r b h = next_in s x y l r b h.1.1
+pub amid : (s : Links) (x a : ℕ) (l r : List ℕ) (b : ℕ) → Chain s a (l ++ x ∷ r) b → IsAmid s x (last_of a l) (first_of r b)
+amid s x a [] [] b h = record { prev = h.1.0; next = h.1.1.0; back = h.0; forth = h.1.1.1 }
+amid s x a [] (z ∷ r) b h = record { prev = h.1.0; next = h.1.1.0; back = h.0; forth = h.1.1.1.0 }
+amid s x a (y ∷ l) r b h = amid s x y l r b h.1.1
 
 apart-last : (a y : ℕ) (l r : List ℕ) → Apart a (y ∷ l ++ r) → last_of y l ≢ a
 apart-last a y [] r h = h.0
@@ -115,35 +118,17 @@ removed s x a (y ∷ l) r b i j ei ej li lj d ab h = (
   ),
 )
 
-next_last : (s : Links) (x a : ℕ) (l r : List ℕ) (b : ℕ) → Chain s a (l ++ x ∷ r) b → get_or s.next (last_of a l) 0 ≡ x
-next_last s x a [] r b h = h.0
-next_last s x a (y ∷ l) r b h = next_last s x y l r b h.1.1
-
-prev_first : (s : Links) (x a : ℕ) (l r : List ℕ) (b : ℕ) → Chain s a (l ++ x ∷ r) b → get_or s.prev (first_of r b) 0 ≡ x
-prev_first s x a [] [] b h = h.1.1.1
-prev_first s x a [] (z ∷ r) b h = h.1.1.1.0
-prev_first s x a (y ∷ l) r b h = prev_first s x y l r b h.1.1
-
-x_last : (x a : ℕ) (l r : List ℕ) → Distinct (a ∷ l ++ x ∷ r) → x ≢ last_of a l
-x_last x a [] r d = d.0.0
-x_last x a (y ∷ l) r d = x_last x y l r d.1
-
-x_first : (x a : ℕ) (l r : List ℕ) (b : ℕ) → Distinct (a ∷ l ++ x ∷ r) → Apart b (l ++ x ∷ r) → x ≢ first_of r b
-x_first x a [] [] b d ab = ab.0
-x_first x a [] (z ∷ r) b d ab = λ e. d.1.0.0 (sym e)
-x_first x a (y ∷ l) r b d ab = x_first x y l r b d.1 ab.1
+alone : (x a : ℕ) (l r : List ℕ) (b : ℕ) → Distinct (a ∷ l ++ x ∷ r) → Apart b (l ++ x ∷ r) → (x ≢ last_of a l) × (x ≢ first_of r b)
+alone x a [] [] b d ab = (d.0.0, ab.0)
+alone x a [] (z ∷ r) b d ab = (d.0.0, λ e. d.1.0.0 (sym e))
+alone x a (y ∷ l) r b d ab = alone x y l r b d.1 ab.1
 
 -- a node of a ring stands between its neighbours
 pub between : (s : Links) (x a : ℕ) (l r : List ℕ) (b : ℕ) → Distinct (a ∷ l ++ x ∷ r) → Apart b (l ++ x ∷ r) → Chain s a (l ++ x ∷ r) b → IsBetween s x
 between s x a l r b d ab h =
-    let p = prev_in s x a l r b h in
-    let n = next_in s x a l r b h in
-    record {
-      back = ap (λ k. get_or s.next k 0) p ∙ next_last s x a l r b h;
-      forth = ap (λ k. get_or s.prev k 0) n ∙ prev_first s x a l r b h;
-      left = λ e. x_last x a l r d (e ∙ p);
-      right = λ e. x_first x a l r b d ab (e ∙ n);
-    }
+    let m = amid s x a l r b h in
+    let n = alone x a l r b d ab in
+    record { back = ap (λ k. get_or s.next k 0) m.prev ∙ m.back; forth = ap (λ k. get_or s.prev k 0) m.next ∙ m.forth; left = λ e. n.0 (e ∙ m.prev); right = λ e. n.1 (e ∙ m.next) }
 
 -- each node's links are nodes
 abbrev pub InRange : Links → ℕ → Type 0
@@ -151,4 +136,4 @@ InRange s x = (get_or s.prev x 0 < length s.next) × (get_or s.next x 0 < length
 
 -- unlink takes the node out of the list
 pub ring-unlink : (s : Links) (x h : ℕ) (l r : List ℕ) → InRange s x → Distinct (h ∷ l ++ x ∷ r) → IsLinkedRing s h (l ++ x ∷ r) → IsLinkedRing (unlink x s) h (l ++ r)
-ring-unlink s x h l r g d c = removed s x h l r h (get_or s.prev x 0) (get_or s.next x 0) (prev_in s x h l r h c) (next_in s x h l r h c) g.0 g.1 d d.0 c
+ring-unlink s x h l r g d c = removed s x h l r h (get_or s.prev x 0) (get_or s.next x 0) (amid s x h l r h c).prev (amid s x h l r h c).next g.0 g.1 d d.0 c

@@ -4,13 +4,13 @@ use Rattle.std.specs.Prelude.{Some, slice_get, map, Contains}
 use Rattle.staat_vec.specs.declared.vector.V3.{V3}
 use Rattle.staat_pairs.specs.Tables.{IsTable, Table}
 use Rattle.staat_ring.specs.declared.entry.Entry.{Entry}
-use Rattle.staat_ring.specs.StopSigns.{with_stop_signs}
+use Rattle.staat_ring.specs.SignChanges.{with_stop_signs}
 use Rattle.staat_ring.specs.Places.{HasNode, IsStopAt}
 use Rattle.staat_ring.specs.Rings.{AreRings, Ring, RingStop, crossing, linked_of, vertex_of, IsRingOf, stop_of}
 use Rattle.staat_ring.specs.CountedSigns.{Signed}
 use Rattle.staat_ring.specs.Walked.{IsEntered, Walked}
 use Rattle.staat_ring.specs.Belonging.{BelongTo, HoldSigns}
-use Rattle.staat_ring.proofs.StopSigns.{belong_same, stop_signs_same}
+use Rattle.staat_ring.proofs.SignAll.{belong_same, stop_signs_same}
 use Rattle.staat_ring.proofs.StopLemmas.{circle_small, entry_other, entry_small, few, next_at, next_signs, some, vertex_first}
 use Rattle.staat_vec.proofs.Unique.{from_place}
 use Rattle.std.proofs.lemmas.List.{length-map}

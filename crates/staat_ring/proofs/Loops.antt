@@ -2,7 +2,7 @@
 use Rattle.std.proofs.Common.{rules, ◌≡◌, ◌≢◌, ℕ, suc, ◌+◌, ◌*◌, refl, sym, ap, ◌∙◌, List, [], ◌∷◌, ◌++◌, add-one, eq-eqb}
 use Rattle.std.specs.Prelude.{if◌then◌else◌}
 use Rattle.staat_ring.specs.Links.{Arrays, take, give, take_all, give_all}
-use Rattle.staat_ring.specs.Planes.{entries_on, entries_of}
+use Rattle.staat_ring.specs.RingViews.{entries_on, entries_of}
 use Rattle.staat_vec.proofs.Naturals.{eqb_false}
 
 pub take_all-append : (xs ys : List ℕ) (a : Arrays) → take_all (xs ++ ys) a ≡ take_all ys (take_all xs a)

@@ -5,7 +5,7 @@ use Rattle.std.proofs.Math.Nat.{add-mod_left, mod-eq_of_lt, mul-le-mul}
 use Rattle.std.proofs.lemmas.Nat.{div-mul-add}
 use Rattle.staat_ring.specs.RingViews.{shape}
 use Rattle.staat_ring.specs.Numbered.{plane_of, HasEntry, head_number, node_number, entry_number, entry_numbered}
-use Rattle.staat_ring.proofs.SoundLemmas.{plane_of_entry}
+use Rattle.staat_ring.proofs.Unlinking.{plane_of_entry}
 use Rattle.std.specs.Prelude.{Some, map, slice_get}
 use Rattle.std.proofs.lemmas.List.Elements.{All-contains, All-map, All-weaker}
 use Rattle.staat_vec.specs.declared.vector.V3.{V3}

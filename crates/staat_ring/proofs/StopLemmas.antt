@@ -10,7 +10,7 @@ use Rattle.staat_vec.specs.Vectors.{origin}
 use Rattle.staat_vec.proofs.Unique.{Contains-cases, Contains-nothing, from_place}
 use Rattle.staat_pairs.specs.Tables.{AreTablePlanes}
 use Rattle.staat_ring.specs.declared.entry.Entry.{Entry}
-use Rattle.staat_ring.specs.StopSigns.{with_stop_signs}
+use Rattle.staat_ring.specs.SignChanges.{with_stop_signs}
 use Rattle.staat_ring.specs.Places.{IsStopAt}
 use Rattle.staat_ring.specs.Rings.{AreRings, IsRingOf, Ring, RingStop, crossing, linked_of, vertex_of}
 use Rattle.staat_ring.specs.CountedSigns.{Signed}

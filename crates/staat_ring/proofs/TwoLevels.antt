@@ -5,11 +5,10 @@ use Rattle.std.proofs.lemmas.Grind.{get_or-set_at}
 use Rattle.std.proofs.Math.ListN.{length-set}
 use Rattle.std.specs.Prelude.{◌==◌}
 use Rattle.staat_ring.proofs.WithoutLemmas.{filter_from, filter_in}
-use Rattle.staat_ring.specs.Links.{Links, Apart, Distinct, unlink, Arrays, is_bare, take, take_all}
+use Rattle.staat_ring.specs.Links.{Links, Apart, Distinct, unlink, Arrays, is_bare, take, take_all, InRange}
 use Rattle.staat_ring.proofs.RelinkUndoesUnlink.{CanTakeAll, CanTake}
 use Rattle.staat_ring.specs.Stands.{is_empty, IsRing, Shape, RingLists, home_of, StandFor, IsPresent, AllPresent}
-use Rattle.staat_ring.specs.Within.{InRange}
-use Rattle.staat_ring.proofs.WithoutNumber.{lists_without_all, lists_without, without, without_none, node_between, tagged_apart, tagged_in, prev_tag, next_tag, ring_stays, ring_shrinks, bare_is}
+use Rattle.staat_ring.proofs.WithoutNumber.{lists_without_all, lists_without, without, without_none, node_between, tagged_apart, tagged_in, neighbour_tags, ring_stays, ring_shrinks, bare_is}
 use Rattle.staat_vec.proofs.Naturals.{eq_test_false, same_or}
 
 pub contains_before : (x y : ℕ) (xs : List ℕ) → Contains (without x xs) y → Contains xs y
@@ -46,8 +45,7 @@ pub ring_after : (s : Links) (tag : ℕ → ℕ) (x h' : ℕ) (xs' : List ℕ) (
 ring_after s tag x h' xs' h xs lt g c r' same r = elim (same_or (tag h) (tag h')) [
   | inl e ↦ ring_shrinks s tag x h xs (node_in_range s x lt g) (subst (λ l. Contains l x) (sym (same e).1) c) r
   | inr d ↦
-      let p = prev_tag s tag x h' xs' c r' in
-      let n = next_tag s tag x h' xs' c r' in
+      let (p, n) = neighbour_tags s tag x h' xs' c r' in
       subst (λ l. IsRing (unlink x s) tag h l)
       (sym (without_none x xs (tagged_apart tag (tag h) x xs r.tagged.1 (λ e. d (sym e ∙ tag_of)))))
       (ring_stays s tag x h xs (λ e. d (sym e ∙ p)) (λ e. d (sym e ∙ n)) r)

@@ -9,7 +9,7 @@ use Rattle.staat_vec.proofs.Unique.{Contains-front, Contains-later}
 use Rattle.staat_ring.proofs.WithoutLemmas.{filter_from}
 use Rattle.staat_vec.proofs.Naturals.{eqb_false, zero_not_suc, eq_test_false}
 use Rattle.staat_ring.specs.Links.{Links, IsLinkedRing, Apart, Distinct, unlink, is_bare}
-use Rattle.staat_ring.proofs.Chains.{first_of, last_of, ring-unlink, between, chain_stays, prev_in, next_in, InRange as NodeInRange}
+use Rattle.staat_ring.proofs.Chains.{first_of, last_of, ring-unlink, between, chain_stays, amid, InRange as NodeInRange}
 use Rattle.staat_ring.proofs.RelinkUndoesUnlink.{IsBetween}
 use Rattle.staat_ring.specs.Stands.{is_empty, Tagged, IsRing, EachVertex, RingLists, Shape}
 use Rattle.std.proofs.lemmas.List.Folds.{Any-from_list_any}
@@ -151,18 +151,12 @@ tagged_first tag t [] b h e = e
 tagged_first tag t (x ∷ r) b h e = h.0
 
 -- the neighbours of a node have its tag
-pub prev_tag : (s : Links) (tag : ℕ → ℕ) (x h : ℕ) (xs : List ℕ) → Contains xs x → IsRing s tag h xs → tag (get_or s.prev x 0) ≡ tag h
-prev_tag s tag x h xs c r =
+pub neighbour_tags : (s : Links) (tag : ℕ → ℕ) (x h : ℕ) (xs : List ℕ) → Contains xs x → IsRing s tag h xs → (tag (get_or s.prev x 0) ≡ tag h) × (tag (get_or s.next x 0) ≡ tag h)
+neighbour_tags s tag x h xs c r =
     let p = split xs x c in
-    ap tag (prev_in s x h p.left p.right h (subst (λ ys. IsLinkedRing s h ys) p.is r.ring))
-    ∙ tagged_last tag (tag h) h p.left (x ∷ p.right) (subst (λ ys. Tagged tag (tag h) (h ∷ ys)) p.is r.tagged)
-
-pub next_tag : (s : Links) (tag : ℕ → ℕ) (x h : ℕ) (xs : List ℕ) → Contains xs x → IsRing s tag h xs → tag (get_or s.next x 0) ≡ tag h
-next_tag s tag x h xs c r =
-    let p = split xs x c in
-    let t : Tagged tag (tag h) (p.left ++ x ∷ p.right) = subst (λ ys. Tagged tag (tag h) ys) p.is r.tagged.1 in
-    ap tag (next_in s x h p.left p.right h (subst (λ ys. IsLinkedRing s h ys) p.is r.ring))
-    ∙ tagged_first tag (tag h) p.right h (tagged_right tag (tag h) p.left (x ∷ p.right) t).1 refl
+    let m = amid s x h p.left p.right h (subst (λ ys. IsLinkedRing s h ys) p.is r.ring) in
+    let t : Tagged tag (tag h) (h ∷ p.left ++ x ∷ p.right) = subst (λ ys. Tagged tag (tag h) (h ∷ ys)) p.is r.tagged in
+    (ap tag m.prev ∙ tagged_last tag (tag h) h p.left (x ∷ p.right) t, ap tag m.next ∙ tagged_first tag (tag h) p.right h (tagged_right tag (tag h) p.left (x ∷ p.right) t.1).1 refl)
 
 -- a ring with another tag stays
 pub ring_stays : (s : Links) (tag : ℕ → ℕ) (x h : ℕ) (xs : List ℕ) → tag (get_or s.prev x 0) ≢ tag h → tag (get_or s.next x 0) ≢ tag h → IsRing s tag h xs → IsRing (unlink x s) tag h xs

@@ -1,6 +1,5 @@
 // How many pairs of pieces block for each ordered pair of parts, and the graph that shows where there are some.
-ghost use Rattle.std.specs.Prelude.{◌≡◌, ◌+◌, ◌<◌, ◌^◌, ◌↔◌};
-ghost use Rattle.std.specs.Prelude.{IfOk, IsTrue, replicate, slice_index, slice_set, ◌-◌};
+ghost use Rattle.std.specs.Prelude.{◌≡◌, ◌+◌, ◌<◌, ◌^◌, ◌↔◌, IfOk, IsTrue, replicate, slice_index, slice_set, ◌-◌};
 ghost use Rattle.staat_model.specs.Sets.{IsNonempty};
 ghost use Rattle.staat_graph.specs.Graphs.{IsStrong};
 ghost use Rattle.staat_ring.specs.BlockCounts.{HasBlock, IsArcWritten, IsGraphOf, part_pairs};

@@ -60,6 +60,19 @@ impl PlaneState {
     {
         self.sign = sign;
     }
+
+    // one more pair has the normal as a facet, or its negative
+    fn push(&mut self, turned: bool, q: u16) -> Result<(), OutOfMemory>
+        ensures ok { OnOk result (self.new ≡ with_pair turned q self.old) }
+        ensures err { OnErr result (self.new ≡ self.old) }
+    {
+        if turned {
+            self.against.push(q)?;
+        } else {
+            self.along.push(q)?;
+        }
+        Ok(())
+    }
 }
 
 // the pairs whose facet on the plane k is positive
@@ -70,20 +83,22 @@ fn pairs_at(states: &Vec<PlaneState>, k: u32) -> &[u16]
     states[k as usize].positive_pairs()
 }
 
-// whether the plane k has the sign
-fn has_sign(states: &Vec<PlaneState>, k: u32, sign: Sign) -> bool
-    requires { k < length states.now.items }
-    ensures { IsTrue result ↔ ((state_at states.now.items k).sign ≡ sign) }
-{
-    states[k as usize].has_sign(sign)
-}
-
 // gives the plane k another sign
 fn set_sign_at(states: &mut Vec<PlaneState>, k: u32, sign: Sign)
     requires { k < length states.old.items }
     ensures { states.new.items ≡ slice_set states.old.items k (with_sign sign (state_at states.old.items k)) }
 {
     states[k as usize].set_sign(sign);
+}
+
+// one more pair has the normal of the plane k as a facet, or its negative
+fn push_at(states: &mut Vec<PlaneState>, k: u32, turned: bool, q: u16) -> Result<(), OutOfMemory>
+    requires { k < length states.old.items }
+    ensures ok { OnOk result
+        (states.new.items ≡ slice_set states.old.items k (with_pair turned q (state_at states.old.items k))) }
+    ensures err { OnErr result (states.new.items ≡ states.old.items) }
+{
+    states[k as usize].push(turned, q)
 }
 
 /// The signs of planes, with the graph in which an arc stands where all facets of some pair of pieces are positive.
@@ -123,31 +138,6 @@ fn empty_states(alloc: Global, count: u32) -> Result<Vec<PlaneState>, OutOfMemor
         })?;
     }
     Ok(states)
-}
-
-impl PlaneState {
-    // one more pair has the normal as a facet, or its negative
-    fn push(&mut self, turned: bool, q: u16) -> Result<(), OutOfMemory>
-        ensures ok { OnOk result (self.new ≡ with_pair turned q self.old) }
-        ensures err { OnErr result (self.new ≡ self.old) }
-    {
-        if turned {
-            self.against.push(q)?;
-        } else {
-            self.along.push(q)?;
-        }
-        Ok(())
-    }
-}
-
-// the same of the plane k
-fn push_at(states: &mut Vec<PlaneState>, k: u32, turned: bool, q: u16) -> Result<(), OutOfMemory>
-    requires { k < length states.old.items }
-    ensures ok { OnOk result
-        (states.new.items ≡ slice_set states.old.items k (with_pair turned q (state_at states.old.items k))) }
-    ensures err { OnErr result (states.new.items ≡ states.old.items) }
-{
-    states[k as usize].push(turned, q)
 }
 
 impl CountedSigns {
@@ -211,7 +201,7 @@ impl CountedSigns {
         ensures signs { self.new ≡ with_plane_sign k sign self.old }
         ensures same { result ≡ false → HaveSameFull self.old self.new }
     {
-        if has_sign(&self.states, k, sign) {
+        if self.states[k as usize].has_sign(sign) {
             return false;
         }
         self.change(k, sign)

@@ -23,7 +23,7 @@ impl NodeLinks {
             → IsSameAt self.old self.new y }
         ensures length { length self.new.next ≡ length self.old.next }
     {
-        self.sizes();
+        self.range();
         let head = head_of(planes, c);
         for k in 0..stops.len() {
             self.append(head, node_of(planes, c, stops.stop(k)));
@@ -56,7 +56,7 @@ fn link_entries(
     ensures homes { AreHomedAt home.old.items home.new.items v (entry_numbers planes c entries.now) }
     ensures within { All (λ x. x < length home.old.items) home.new.items }
 {
-    vertices.sizes();
+    vertices.range();
     for e in entries {
         let x = number_of_entry(planes, c, *e);
         vertices.append(v, x);

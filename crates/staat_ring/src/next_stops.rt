@@ -1,18 +1,5 @@
 // From stop to stop of a circle, and from entry to entry of a stop.
-ghost use Rattle.std.specs.Prelude.{
-  ◌≡◌,
-  ℕ,
-  ◌+◌,
-  ◌<◌,
-  ◌≤◌,
-  ◌^◌,
-  Contains,
-  MatchOption,
-  Some,
-  drop,
-  length,
-  slice_get,
-};
+ghost use Rattle.std.specs.Prelude.{◌≡◌, ℕ, ◌+◌, ◌<◌, ◌≤◌, ◌^◌, Contains, MatchOption, Some, drop, length, slice_get};
 ghost use Rattle.staat_ring.specs.Places.{AtNode, HasCursor, HasNode, IsAtEntry, IsStopAt, cursor, plane_count};
 ghost use Rattle.staat_ring.specs.Rings.{RingStop, linked_of};
 

@@ -1,6 +1,6 @@
 // How many facets of each ordered pair of pieces are positive.
-ghost use Rattle.std.specs.Prelude.{◌≡◌, ℕ, ◌+◌, ◌*◌, ◌<◌, ◌≤◌, ◌^◌, ◌↔◌};
-ghost use Rattle.std.specs.Prelude.{◌==◌, All, IfOk, IsTrue, false, if◌then◌else◌, length, not, replicate, slice_set, true};
+ghost use Rattle.std.specs.Prelude.{◌≡◌, ℕ, ◌+◌, ◌*◌, ◌<◌, ◌≤◌, ◌^◌, ◌↔◌, ◌==◌, All, IfOk, IsTrue, false};
+ghost use Rattle.std.specs.Prelude.{if◌then◌else◌, length, not, replicate, slice_set, true};
 ghost use Rattle.staat_model.specs.Sets.{IsNonempty};
 ghost use Rattle.staat_graph.specs.Graphs.{IsStrong};
 ghost use Rattle.staat_ring.specs.BlockCounts.{IsGraphOf, part_pairs};
@@ -139,7 +139,7 @@ impl PairCounts {
 
     /// One more facet of each pair in the list is positive, for a pair that stands twice two more. Tells whether some
     /// pair has come to positive facets alone.
-    #[tactic(auto, using(crate::proofs::PairLemmas::not_yet))]
+    #[tactic(auto, using(crate::proofs::SignLemmas::not_yet))]
     pub fn gain_all(&mut self, qs: &[u16]) -> bool
         requires places { All (λ q. q < length self.old) qs.now }
         requires room { (q : ℕ) → (pair_at self.old q).positive + occurs q qs.now < 2 ^ 16 }
@@ -156,7 +156,7 @@ impl PairCounts {
     }
 
     /// One less of each is positive. Tells whether some pair has positive facets alone no more.
-    #[tactic(auto, using(crate::proofs::PairLemmas::not_yet))]
+    #[tactic(auto, using(crate::proofs::SignLemmas::not_yet))]
     pub fn lose_all(&mut self, qs: &[u16]) -> bool
         requires places { All (λ q. q < length self.old) qs.now }
         requires some { (q : ℕ) → occurs q qs.now ≤ (pair_at self.old q).positive }

@@ -2,7 +2,7 @@
 ghost use Rattle.std.specs.Prelude.{◌≡◌, ◌-◌, ◌<◌, All, false, length};
 ghost use Rattle.staat_vec.specs.Vectors.{IsWithin};
 ghost use Rattle.staat_ring.specs.Belonging.{BelongTo};
-ghost use Rattle.staat_ring.specs.StopSigns.{with_stop_signs};
+ghost use Rattle.staat_ring.specs.SignChanges.{with_stop_signs};
 ghost use Rattle.staat_ring.specs.WholeCircles.{AreSignsAt, HaveSameFull, IsWholeCircle, vertex_at};
 
 use crate::circle::Circle;

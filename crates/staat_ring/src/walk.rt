@@ -1,33 +1,17 @@
 // A walk along circles, that keeps the signs of the planes at its vertex.
-ghost use Rattle.std.specs.Prelude.{◌≡◌, ◌≢◌, ◌↔◌, ◌+◌, ◌-◌, ◌%◌, ◌^◌};
-ghost use Rattle.std.specs.Prelude.{
-  All,
-  Contains,
-  IfOk,
-  IsTrue,
-  List,
-  MatchOption,
-  Some,
-  length,
-  min,
-  pos,
-  slice_get,
-  ◌<ℤ◌,
-  ◌<◌,
-  ◌≤◌,
-};
+ghost use Rattle.std.specs.Prelude.{◌≡◌, ◌≢◌, ◌↔◌, ◌+◌, ◌-◌, ◌%◌, ◌^◌, ◌<◌, ◌≤◌, min};
+ghost use Rattle.std.specs.Prelude.{All, Contains, IfOk, IsTrue, List, MatchOption, Some, length, slice_get};
 ghost use Rattle.staat_vec.specs.Lists.{IsFirst};
-ghost use Rattle.staat_vec.specs.Primitives.{IsCanon};
-ghost use Rattle.staat_vec.specs.Vectors.{IsWithin, dot};
+ghost use Rattle.staat_vec.specs.Vectors.{IsWithin};
 ghost use Rattle.staat_model.specs.declared.assembly.Part.{Part as PartValue};
 ghost use Rattle.staat_model.specs.declared.set.PartSet.{PartSet as PartSetValue};
 ghost use Rattle.staat_model.specs.Removal.{Blocks};
-ghost use Rattle.staat_model.specs.Sets.{Has, IsNonempty, IsSubset};
+ghost use Rattle.staat_model.specs.Sets.{IsNonempty, IsSubset};
 ghost use Rattle.staat_graph.specs.Blocking.{ShowsBlocking};
 ghost use Rattle.staat_graph.specs.Graphs.{IsStrong};
-ghost use Rattle.staat_pairs.specs.Tables.{IsTable, IsTableArc, Table, WasMadeFrom, facets_of};
+ghost use Rattle.staat_pairs.specs.Tables.{IsTable, Table, WasMadeFrom};
 ghost use Rattle.staat_ring.specs.Belonging.{BelongTo, HasAll, HoldSigns};
-ghost use Rattle.staat_ring.specs.StopSigns.{stop_sign, with_stop_signs};
+ghost use Rattle.staat_ring.specs.SignChanges.{stop_sign, with_stop_signs};
 ghost use Rattle.staat_ring.specs.Places.{AtNode, HasNode, IsStopAt};
 ghost use Rattle.staat_ring.specs.Rings.{Ring, RingStop, WereMadeFrom, linked_of};
 ghost use Rattle.staat_ring.specs.Walked.{AtStop, IsEntered, WalkWasMadeFrom};
@@ -36,7 +20,7 @@ use crate::counted_signs::CountedSigns;
 use crate::vertex::Vertex;
 use crate::{Entry, Rings};
 use staat_graph::Graph;
-use staat_model::{Arc, PartSet};
+use staat_model::PartSet;
 use staat_planes::{PlaneTable, Steps};
 use staat_vec::{DIRECTION, OutOfMemory, Sign, V3};
 use std::alloc::Global;

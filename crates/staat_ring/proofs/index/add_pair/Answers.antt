@@ -1,6 +1,6 @@
 use Rattle.std.proofs.Common.{◌+◌, ◌*◌, arith, ap, ◌∙◌, refl, length, rules}
 use Rattle.staat_pairs.specs.Tables.{facets_of}
-use Rattle.staat_ring.proofs.IndexLemmas.{no_positives, partly_more, partly_room, same_but, told_start}
+use Rattle.staat_ring.proofs.PairNumbers.{no_positives, partly_more, partly_room, same_but, told_start}
 use Rattle.staat_ring.proofs.index.add_pair.Goals as goal
 
 pub want-requires-clause-none : goal.want-requires-clause-none

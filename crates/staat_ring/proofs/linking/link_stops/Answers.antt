@@ -1,4 +1,4 @@
-use Rattle.staat_ring.proofs.StopSteps.{stop_alone, stop_distinct, stop_linked}
+use Rattle.staat_ring.proofs.Rows.{stop_alone, stop_distinct, stop_linked}
 use Rattle.std.proofs.Common.{◌<◌, subst, rules}
 use Rattle.staat_ring.proofs.linking.link_stops.Goals as goal
 

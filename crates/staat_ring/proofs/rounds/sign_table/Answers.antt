@@ -5,8 +5,7 @@ use Rattle.staat_vec.specs.Vectors.{dot, sign}
 use Rattle.staat_ring.specs.SignChanges.{with_plane_sign}
 use Rattle.staat_ring.specs.Belonging.{BelongTo}
 use Rattle.staat_ring.proofs.Built.{below_all}
-use Rattle.staat_ring.proofs.SignAll.{more_done}
-use Rattle.staat_ring.proofs.StopSigns.{belong_same, signed_same}
+use Rattle.staat_ring.proofs.SignAll.{more_done, belong_same, signed_same}
 use Rattle.staat_ring.proofs.WholeCircles.{all}
 use Rattle.staat_ring.proofs.rounds.sign_table.Goals as goal
 

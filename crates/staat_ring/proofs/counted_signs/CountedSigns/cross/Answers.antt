@@ -1,7 +1,7 @@
 use Rattle.std.proofs.Common.{subst, sym, true, false, rules}
-use Rattle.staat_ring.specs.StopSigns.{with_stop_signs}
+use Rattle.staat_ring.specs.SignChanges.{with_stop_signs}
 use Rattle.staat_ring.specs.Belonging.{BelongTo}
-use Rattle.staat_ring.proofs.StopSigns.{belong_same, stop_signs_same}
+use Rattle.staat_ring.proofs.SignAll.{belong_same, stop_signs_same}
 use Rattle.staat_ring.proofs.WholeCircles.{crossed, entries_small}
 use Rattle.staat_ring.proofs.counted_signs.CountedSigns.cross.Goals as goal
 

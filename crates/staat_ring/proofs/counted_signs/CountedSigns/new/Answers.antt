@@ -1,4 +1,4 @@
-use Rattle.staat_ring.proofs.PushLemmas.{start_value}
+use Rattle.staat_ring.proofs.PairNumbers.{start_value}
 use Rattle.staat_ring.proofs.counted_signs.CountedSigns.new.Goals as goal
 
 pub returns : goal.returns

@@ -1,4 +1,4 @@
-use Rattle.staat_ring.proofs.RingLength.{IsAtPlace, at_next, ends, node_within}
+use Rattle.staat_ring.proofs.StopReading.{IsAtPlace, at_next, ends, node_within}
 use Rattle.staat_ring.proofs.nodes.NodeLinks.ring_len.Goals as goal
 use Rattle.std.proofs.Common.{arith}
 use Rattle.std.proofs.lemmas.Grind.{common_steps}
