@@ -1,6 +1,6 @@
 -- The circles of all planes can be linked, one after another; arrays in which all stand are good, and show these circles.
 use Rattle.staat_ring.proofs.Rows as rules
-use Rattle.std.proofs.Common.{◌≡◌, ℕ, ◌<◌, arith, ap, sym, ◌∙◌, List, [], ◌∷◌, length, All, Contains, ◌≢◌, ⊎_elim, ◌+◌, ◌*◌, ◌≤◌, subst, get_or, inl, zero, suc, Bool, true, false, not, refl, ◌++◌, take, add-one}
+use Rattle.std.proofs.Common.{◌≡◌, ℕ, ◌<◌, arith, ap, sym, ◌∙◌, List, [], ◌∷◌, length, All, Contains, ◌≢◌, ⊎_elim, ◌+◌, ◌*◌, ◌≤◌, subst, get_or, inl, zero, suc, Bool, true, false, not, refl, take}
 use Rattle.std.specs.Prelude.{Some, map, option_map, slice_get, ◌==◌}
 use Rattle.std.specs.Ordering.{nat_cmp}
 use Rattle.std.specs.List.Sorted.{IsStrictlySortedBy}
@@ -25,10 +25,10 @@ use Rattle.staat_vec.proofs.ListLaws.{Contains-from_map, Contains-map, map_twice
 use Rattle.staat_ring.specs.RingViews.{numbers_below, shape, StandForCircles, CanBeUndone, arrangement_of, is_out, ring_of, rings_of, still_linked, entries_of, entries_on, HaveTakenOut, lists_of}
 use Rattle.staat_ring.proofs.Rows.{holds_still}
 use Rattle.staat_vec.proofs.Naturals.{same_or, lt_suc_cases}
-use Rattle.std.specs.List.{filter, range_with_len}
+use Rattle.std.specs.List.{filter}
 use Rattle.std.proofs.lemmas.List.{get_or_default}
 use Rattle.std.proofs.lemmas.List.Folds.{map_fixed}
-use Rattle.std.proofs.lemmas.List.FromFn.{get_or-map-range_with_len, length-map-range_with_len, map-range_with_len_more}
+use Rattle.std.proofs.lemmas.List.FromFn.{get_or-range_with_len, length-range_with_len}
 use Rattle.std.proofs.lemmas.Map.Keys.{sorted_from_strictly_increasing}
 use Rattle.staat_vec.specs.Vectors.{origin}
 use Rattle.staat_model.specs.Circles.{IsCircle, IsLinked}
@@ -118,18 +118,8 @@ pub take_none : (xs : List ℕ) → take 0 xs ≡ []
 take_none [] = refl
 take_none (x ∷ xs) = refl
 
-below_is : (n : ℕ) → numbers_below n ≡ map (λ k. k) (range_with_len 0 n)
-below_is zero = refl
-below_is (suc n) = ap (λ xs. xs ++ n ∷ []) (below_is n) ∙ sym (map-range_with_len_more (λ k. k) 0 n n (omega arith)) ∙ ap (λ m. map (λ k. k) (range_with_len 0 m)) (add-one n)
-
-length_below : (n : ℕ) → length (numbers_below n) ≡ n
-length_below n = ap length (below_is n) ∙ length-map-range_with_len (λ k. k) 0 n
-
-below_at : (n k : ℕ) → k < n → get_or (numbers_below n) k 0 ≡ k
-below_at n k lt = ap (λ xs. get_or xs k 0) (below_is n) ∙ get_or-map-range_with_len (λ k. k) 0 n k k 0 lt (omega arith)
-
 pub below_all : (n c : ℕ) → c < n → Contains (numbers_below n) c
-below_all n c lt = subst (Contains (numbers_below n)) (below_at n c lt) (Contains-get_or (numbers_below n) c 0 (omega (arith, lt, length_below n)))
+below_all n c lt = (c, omega (arith, lt, length-range_with_len 0 n), let g = get_or-range_with_len 0 n c c lt in omega (arith, g))
 
 -- ---- the entries of a plane
 
@@ -350,7 +340,7 @@ module _ (planes : List V3) (table : AreTablePlanes planes) (few : length planes
   }
     where
       below_sorted : (m : ℕ) → IsStrictlySortedBy nat_cmp (numbers_below m)
-      below_sorted m = sorted_from_strictly_increasing (numbers_below m) (λ k lt. let e = length_below m in let a = below_at m k (omega (arith, lt, e)) in let b = below_at m (k + 1) (omega (arith, lt, e)) in omega (arith, a, b))
+      below_sorted m = sorted_from_strictly_increasing (numbers_below m) (λ k lt. let e = length-range_with_len 0 m in let a = get_or-range_with_len 0 m k 0 (omega (arith, lt, e)) in let b = get_or-range_with_len 0 m (k + 1) 0 (omega (arith, lt, e)) in omega (arith, a, b))
 
   sound : CanBeUndone n [] a
   sound zero lt = good
@@ -368,7 +358,7 @@ module _ (planes : List V3) (table : AreTablePlanes planes) (few : length planes
   }
     where
       all : (k : ℕ) → k ≤ 0 → k + length (still_linked n (take k order)) ≡ n
-      all zero le = let e : length (still_linked n (take 0 order)) ≡ n = ap (λ (o : List ℕ). length (still_linked n o)) (take_none order) ∙ (ap length (filter_whole (λ c. not (is_out [] c)) (numbers_below n) (λ c _. refl)) ∙ length_below n) in omega (arith, e)
+      all zero le = let e : length (still_linked n (take 0 order)) ≡ n = ap (λ (o : List ℕ). length (still_linked n o)) (take_none order) ∙ (ap length (filter_whole (λ c. not (is_out [] c)) (numbers_below n) (λ c _. refl)) ∙ length-range_with_len 0 n) in omega (arith, e)
       all (suc k) le = absurd (omega (arith, le))
 
   pub made : (order : List ℕ) → WereMadeFrom planes (arrangement_of n (take 0 order) a)

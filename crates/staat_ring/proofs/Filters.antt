@@ -6,13 +6,10 @@ use Rattle.staat_ring.specs.Links.{Arrays, Distinct, take}
 use Rattle.staat_ring.specs.Stands.{is_empty, Shape, RingLists, home_of, StandFor, IsPresent, AllPresent}
 use Rattle.staat_ring.proofs.WithoutNumber.{lists_without_plane, lists_without_all, lists_without, without, AreSame, without_none, tagged_apart}
 use Rattle.staat_ring.proofs.TwoLevels.{stands-take, all-after, contains_before}
+use Rattle.std.proofs.lemmas.List.Elements.{filter_agree}
 use Rattle.staat_ring.proofs.WithoutLemmas.{filter_from}
 use Rattle.staat_vec.proofs.Naturals.{apart_from_test, eqb_false, same_or}
 use Rattle.staat_vec.proofs.ListLaws.{filter_inside, filter_twice, contains_or}
-
-abbrev dropped : List ℕ → List ℕ → List ℕ
-dropped [] xs = xs
-dropped (e ∷ es) xs = dropped es (without e xs)
 
 abbrev keeps : List ℕ → ℕ → Bool
 keeps [] y = true
@@ -28,13 +25,9 @@ pub filter_whole : (p : ℕ → Bool) (xs : List ℕ) → ((x : ℕ) → Contain
 filter_whole p [] h = refl
 filter_whole p (x ∷ xs) h = (λ i. cond (h x (zero, omega arith, refl) i) (x ∷ filter p xs) (filter p xs)) ∙ ap (λ r. x ∷ r) (filter_whole p xs (λ y c. h y (suc c.0, omega (arith, c.1), c.2)))
 
-entries_are : (home : ℕ → ℕ) (es : List ℕ) (l : RingLists) (v : ℕ) → (lists_without_all home es l).entries v ≡ dropped es (l.entries v)
-entries_are home [] l v = refl
-entries_are home (e ∷ es) l v = entries_are home es (lists_without (home e) e l) v
-
-dropped_is : (es xs : List ℕ) → dropped es xs ≡ filter (keeps es) xs
-dropped_is [] xs = sym (filter_whole (keeps []) xs (λ x c. refl))
-dropped_is (e ∷ es) xs = dropped_is es (without e xs) ∙ filter_twice (λ y. not (y == e)) (keeps es) xs
+entries_are : (home : ℕ → ℕ) (es : List ℕ) (l : RingLists) (v : ℕ) → (lists_without_all home es l).entries v ≡ filter (keeps es) (l.entries v)
+entries_are home [] l v = sym (filter_whole (keeps []) (l.entries v) (λ x c. refl))
+entries_are home (e ∷ es) l v = entries_are home es (lists_without (home e) e l) v ∙ filter_twice (λ y. not (y == e)) (keeps es) (l.entries v)
 
 -- what is kept: what is not listed
 keeps_not : (es : List ℕ) (y : ℕ) → (Contains es y → ⊥) → keeps es y ≡ true
@@ -61,10 +54,6 @@ filter_without test x (y ∷ xs) h = elim (same_or y x) [
   | inl q ↦ ap (λ b. filter test (cond (not b) (y ∷ without x xs) (without x xs))) (eq-eqb y x q) ∙ (filter_without test x xs h ∙ sym (ap (λ b. cond b (y ∷ filter test xs) (filter test xs)) (ap test q ∙ h)))
   | inr n ↦ ap (λ b. filter test (cond (not b) (y ∷ without x xs) (without x xs))) (eqb_false y x n) ∙ ap (λ r. cond (test y) (y ∷ r) r) (filter_without test x xs h)
 ]
-
-dropped_nil : (es : List ℕ) → dropped es [] ≡ []
-dropped_nil [] = refl
-dropped_nil (e ∷ es) = dropped_nil es
 
 empty_is : (xs : List ℕ) → is_empty xs ≡ true → xs ≡ []
 empty_is [] h = refl
@@ -96,15 +85,19 @@ full-after g l a e st pr full c w hc cw = go (is_empty (without e (l.entries (ho
     ]
 
 vertices_are : (g : Shape) (es : List ℕ) (l : RingLists) (a : Arrays) → StandFor g l a → Distinct es → AllPresent g l a es → AreFull g l → (c : ℕ) → c < g.count
-    → (lists_without_all (home_of a) es l).vertices c ≡ filter (λ v. not (is_empty (dropped es (l.entries v)))) (l.vertices c)
-vertices_are g [] l a st d pr full c hc = sym (filter_whole (λ v. not (is_empty (l.entries v))) (l.vertices c) (λ v cv. ap not (full c v hc cv)))
+    → (lists_without_all (home_of a) es l).vertices c ≡ filter (λ v. not (is_empty (filter (keeps es) (l.entries v)))) (l.vertices c)
+vertices_are g [] l a st d pr full c hc = sym (filter_whole (λ v. not (is_empty (filter (keeps []) (l.entries v)))) (l.vertices c)
+    (λ v cv. ap (λ xs. not (is_empty xs)) (filter_whole (keeps []) (l.entries v) (λ x c. refl)) ∙ ap not (full c v hc cv)))
 vertices_are g (e ∷ es) l a st d pr full c hc =
     vertices_are g es (lists_without (home_of a e) e l) (take e a) (stands-take g l a e st pr.0) d.1 (all-after g l a e es d.0 pr.1) (full-after g l a e st pr.0 full) c hc
-    ∙ go (is_empty (without e (l.entries (home_of a e)))) refl
+    ∙ (go (is_empty (without e (l.entries (home_of a e)))) refl
+    ∙ filter_agree left (λ v. not (is_empty (filter (keeps (e ∷ es)) (l.entries v)))) (λ v. ap (λ xs. not (is_empty xs)) (filter_twice (λ y. not (y == e)) (keeps es) (l.entries v))) (l.vertices c))
   where
-    go : (b : Bool) → is_empty (without e (l.entries (home_of a e))) ≡ b
-        → filter (λ v. not (is_empty (dropped es (without e (l.entries v))))) (if b then without (home_of a e) (l.vertices c) else l.vertices c) ≡ filter (λ v. not (is_empty (dropped es (without e (l.entries v))))) (l.vertices c)
-    go true h = filter_without (λ v. not (is_empty (dropped es (without e (l.entries v))))) (home_of a e) (l.vertices c) (ap (λ xs. not (is_empty (dropped es xs))) (empty_is (without e (l.entries (home_of a e))) h) ∙ ap (λ xs. not (is_empty xs)) (dropped_nil es))
+    left : ℕ → Bool
+    left v = not (is_empty (filter (keeps es) (without e (l.entries v))))
+
+    go : (b : Bool) → is_empty (without e (l.entries (home_of a e))) ≡ b → filter left (if b then without (home_of a e) (l.vertices c) else l.vertices c) ≡ filter left (l.vertices c)
+    go true h = filter_without left (home_of a e) (l.vertices c) (ap (λ xs. not (is_empty (filter (keeps es) xs))) (empty_is (without e (l.entries (home_of a e))) h))
     go false h = refl
 
 -- the entries listed are those of the plane
@@ -115,7 +108,7 @@ pub record AreEntriesOf (g : Shape) (l : RingLists) (plane_of : ℕ → ℕ) (p 
 pub without-plane : (g : Shape) (plane_of : ℕ → ℕ) (p : ℕ) (es : List ℕ) (l : RingLists) (a : Arrays) → StandFor g l a → Distinct es → AllPresent g l a es → AreFull g l → AreEntriesOf g l plane_of p es
     → AreSame g (lists_without_plane plane_of p l) (lists_without_all (home_of a) es l)
 without-plane g plane_of p es l a st d pr full of = record {
-  vertices = λ c hc. filter_same (λ v. not (is_empty (filter (λ e. not (plane_of e == p)) (l.entries v)))) (λ v. not (is_empty (dropped es (l.entries v)))) (l.vertices c)
+  vertices = λ c hc. filter_same (λ v. not (is_empty (filter (λ e. not (plane_of e == p)) (l.entries v)))) (λ v. not (is_empty (filter (keeps es) (l.entries v)))) (l.vertices c)
       (λ v cv. ap (λ xs. not (is_empty xs)) (at c v hc cv)) ∙ sym (vertices_are g es l a st d pr full c hc);
   entries = λ c v hc cv. at c v hc (filter_inside (λ w. not (is_empty (filter (λ e. not (plane_of e == p)) (l.entries w)))) (l.vertices c) v cv) ∙ sym (entries_are (home_of a) es l v);
 }
@@ -126,5 +119,5 @@ without-plane g plane_of p es l a st d pr full of = record {
       | inr n ↦ ap not (eqb_false (plane_of e) p (λ q. n (of.all c v e hc cv ce q))) ∙ sym (keeps_not es e n)
     ]
 
-    at : (c v : ℕ) → c < g.count → Contains (l.vertices c) v → filter (λ e. not (plane_of e == p)) (l.entries v) ≡ dropped es (l.entries v)
-    at c v hc cv = filter_same (λ e. not (plane_of e == p)) (keeps es) (l.entries v) (λ e ce. test_is c v e hc cv ce) ∙ sym (dropped_is es (l.entries v))
+    at : (c v : ℕ) → c < g.count → Contains (l.vertices c) v → filter (λ e. not (plane_of e == p)) (l.entries v) ≡ filter (keeps es) (l.entries v)
+    at c v hc cv = filter_same (λ e. not (plane_of e == p)) (keeps es) (l.entries v) (λ e ce. test_is c v e hc cv ce)

@@ -1,5 +1,5 @@
 -- The view: what it is after unlink and relink, and without a plane.
-use Rattle.std.proofs.Common.{◌≡◌, ℕ, zero, suc, ◌<◌, refl, sym, ap, subst, ◌∙◌, arith, List, [], ◌∷◌, ◌++◌, length, get_or, append-nil, append_assoc, eqb, Contains, eq-eqb, map, Bool, true, false, not, ◌||◌, ◌&&◌, cond, ⊎_elim}
+use Rattle.std.proofs.Common.{◌≡◌, ℕ, zero, suc, ◌<◌, refl, sym, ap, subst, ◌∙◌, arith, List, [], ◌∷◌, ◌++◌, length, get_or, append-nil, append_assoc, eqb, Contains, eq-eqb, map, Bool, true, false, not, ◌||◌, ◌&&◌, cond}
 use Rattle.std.specs.Prelude.{if◌then◌else◌, ◌==◌}
 use Rattle.staat_ring.specs.Links.{Links, Chain, Apart, Arrays}
 use Rattle.staat_ring.specs.Stands.{Shape, RingLists, StandFor, IsRing, is_empty}
@@ -12,7 +12,8 @@ use Rattle.staat_ring.specs.Numbered.{entry_numbered, plane_of}
 use Rattle.staat_ring.specs.declared.entry.Entry.{Entry}
 use Rattle.staat_ring.specs.Rings.{RingStop}
 use Rattle.staat_ring.specs.Without.{has_some, other_than, stays, stop_without, ring_without, rings_without}
-use Rattle.std.proofs.lemmas.List.Elements.{Contains-push_cases, filter_agree}
+use Rattle.std.proofs.lemmas.List.Elements.{filter_agree}
+use Rattle.std.proofs.lemmas.List.FromFn.{get_or-range_with_len, length-range_with_len}
 use Rattle.staat_vec.proofs.ListLaws.{filter_inside, filter_twice, map_twice}
 
 pub undo-push : {A : Type 0} (undo : ℕ → A → A) (ps : List ℕ) (q : ℕ) (a : A) → undo_all undo (ps ++ q ∷ []) a ≡ undo_all undo ps (undo q a)
@@ -149,8 +150,7 @@ rings-without n p out l =
 
 -- lists that agree give the same rings
 pub below_small : (n c : ℕ) → Contains (numbers_below n) c → c < n
-below_small zero c (k, lt, e) = absurd (omega arith)
-below_small (suc n) c h = ⊎_elim {C = c < suc n} (λ a. let r = below_small n c a in omega (arith, r)) (λ e. omega (arith, e)) (Contains-push_cases (numbers_below n) n c h)
+below_small n c (k, lt, e) = let l = length-range_with_len 0 n in let g = get_or-range_with_len 0 n k c (omega (arith, lt, l)) in omega (arith, lt, l, g, e)
 
 pub rings-same : (n : ℕ) (out : List ℕ) (l m : RingLists) → AreSame (shape n) l m → rings_of n out l ≡ rings_of n out m
 rings-same n out l m s = map_same (ring_of n l) (ring_of n m) (filter (λ c. not (is_out out c)) (numbers_below n))

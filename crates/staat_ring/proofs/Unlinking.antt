@@ -1,6 +1,7 @@
 -- The invariant of the rings is kept, and what unlink and relink do to it and to the view.
 use Rattle.std.proofs.Common.{◌≡◌, ◌≢◌, ⊎_elim, ℕ, zero, suc, ◌+◌, ◌*◌, ◌/◌, ◌%◌, ◌<◌, ◌≤◌, refl, sym, ap, subst, ◌∙◌, arith, List, [], ◌∷◌, ◌++◌, length, Bool, true, false, not, if◌then◌else◌, Contains, eq-eqb, get_or, rules, map, take, drop, inl, inr, ◌-◌, set, ◌&&◌}
-use Rattle.std.specs.List.{filter}
+use Rattle.std.specs.List.{filter, range_with_len}
+use Rattle.std.proofs.lemmas.List.FromFn.{get_or-range_with_len, length-range_with_len}
 use Rattle.std.specs.Prelude.{◌==◌}
 use Rattle.std.proofs.Math.Nat.{mul-add-mod_self_left, mul-le-mul_right, mod-eq_of_lt}
 use Rattle.std.proofs.Math.ListN.{length-set}
@@ -24,7 +25,7 @@ use Rattle.std.proofs.lemmas.Bool.Decides.{nat_tests}
 use Rattle.std.proofs.lemmas.List.Folds.{map_fixed}
 use Rattle.std.proofs.lemmas.List.{drop-append-le, length-append, take-append-le, take_all as take_whole, drop_all, length_push, get_or-set_other, same_from_push, take-set-le, take_more_set}
 use Rattle.staat_model.proofs.Members.{All-from_members}
-use Rattle.staat_vec.proofs.ListLaws.{map_twice, only_one}
+use Rattle.staat_vec.proofs.ListLaws.{map_twice}
 use Rattle.std.proofs.Math.Seq.{take-suc}
 use Rattle.staat_ring.specs.Rings.{Arrangement, UnlinkedPlane, Ring}
 use Rattle.std.proofs.lemmas.Bool.{false_from_ne_true}
@@ -246,13 +247,13 @@ linked_plane n out p c =
     let f = filter_from (λ c. not (is_out out c)) (numbers_below n) p c in
     (below_small n p f.0, from_not_true (is_out out p) f.1)
 
-below_distinct : (n : ℕ) → Distinct (numbers_below n)
-below_distinct zero = tt
-below_distinct (suc n) = distinct_append (numbers_below n) (n ∷ []) (below_distinct n) (tt, tt) (λ x y cx cy. let lt = below_small n x cx in let e = only_one n y cy in omega (arith, lt, e))
+range_distinct : (a n : ℕ) → Distinct (range_with_len a n)
+range_distinct a zero = tt
+range_distinct a (suc n) = (apart_from a (range_with_len (a + 1) n) (λ y (k, lt, e) q. let l = length-range_with_len (a + 1) n in let g = get_or-range_with_len (a + 1) n k y (omega (arith, lt, l)) in omega (arith, g, e, q)), range_distinct (a + 1) n)
 
 pub one_less : (n p : ℕ) (out : List ℕ) → Contains (still_linked n out) p → length (still_linked n (out ++ p ∷ [])) + 1 ≡ length (still_linked n out)
 one_less n p out c =
-    let d : Distinct (still_linked n out) = distinct_filter (λ c. not (is_out out c)) (numbers_below n) (below_distinct n) in
+    let d : Distinct (still_linked n out) = distinct_filter (λ c. not (is_out out c)) (numbers_below n) (range_distinct 0 n) in
     let s = split (still_linked n out) p c in
     let d' : Distinct (s.left ++ p ∷ s.right) = subst (λ xs. Distinct xs) s.is d in
     let w : still_linked n (out ++ p ∷ []) ≡ s.left ++ s.right = still_without n p out ∙ (ap (without p) s.is ∙ without_mid p s.left s.right d') in

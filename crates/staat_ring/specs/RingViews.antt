@@ -6,7 +6,7 @@ use Rattle.staat_ring.specs.Numbered.{plane_of, ring_node_count}
 use Rattle.staat_ring.specs.Links.{Links, Arrays, give_all}
 use Rattle.staat_ring.specs.Rings.{UnlinkedPlane, Arrangement, Ring}
 use Rattle.staat_ring.specs.Stands.{Shape, RingLists, AllPresent, EachEntry, EachVertex, StandFor, is_empty}
-use Rattle.std.specs.List.{filter}
+use Rattle.std.specs.List.{filter, range_with_len}
 use Rattle.staat_limits.specs.declared.limits.TheConstants.{MOST_PLANES}
 
 -- the two entries of plane p on circle c, of n circles
@@ -57,8 +57,7 @@ is_out [] p = false
 is_out (q ∷ qs) p = (q == p) || is_out qs p
 
 abbrev pub numbers_below : ℕ → List ℕ
-numbers_below zero = []
-numbers_below (suc n) = numbers_below n ++ n ∷ []
+numbers_below n = range_with_len 0 n
 
 -- the planes that are not out
 abbrev pub still_linked : ℕ → List ℕ → List ℕ

@@ -142,6 +142,7 @@ fn empty_states(alloc: Global, count: u32) -> Result<Vec<PlaneState>, OutOfMemor
 
 impl CountedSigns {
     /// So many planes of the sign Zero through no facet, and so many numbers that are no pairs.
+    #[tactic(auto, using(crate::proofs::PairNumbers::start_value))]
     pub fn new(alloc: Global, planes: u32, pairs: u32) -> Result<CountedSigns, OutOfMemory>
         requires { pairs ≤ SLOTS }
         ensures { IfOk result (λ s. s ≡ record {

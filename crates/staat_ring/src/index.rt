@@ -70,6 +70,7 @@ fn push_facet(
 }
 
 // tells the pair q, and puts down its facets
+#[tactic(auto, using(crate::proofs::PairNumbers::no_positives, crate::proofs::PairNumbers::told_start))]
 fn add_pair(
     signs: &mut CountedSigns,
     table: &PlaneTable,

@@ -65,6 +65,7 @@ fn link_entries(
 }
 
 /// Links the entries of each stop of the circle `c` to a ring, whose head is the node of the stop, their home.
+#[tactic(auto, using(crate::proofs::Rows::stop_distinct, crate::proofs::Rows::stop_alone))]
 pub fn link_stops(vertices: &mut NodeLinks, home: &mut Vec<u32>, planes: u32, c: u32, stops: &Stops)
     requires planes { planes ≤ MOST_PLANES }
     requires circle { c < planes }

@@ -102,6 +102,7 @@ impl NodeLinks {
     }
 
     /// The number of nodes on the ring of a head.
+    #[tactic(auto, using(crate::proofs::StopReading::ends, crate::proofs::StopReading::node_within))]
     pub fn ring_len(&self, head: u32) -> u32
         requires some { (nodes : List ℕ) × IsShortRing self.now head nodes }
         requires small { length self.now.next < 2 ^ 32 }

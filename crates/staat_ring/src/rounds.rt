@@ -55,6 +55,7 @@ impl CountedSigns {
     ///
     /// Where the answer is false, the same pairs of pieces have positive facets alone as before, so that the same
     /// pieces meet along both vertices.
+    #[tactic(auto, using(crate::proofs::WholeCircles::crossing_steps))]
     pub fn cross(&mut self, table: &PlaneTable, circle: &Circle, k: usize) -> bool
         requires made { BelongTo table.now self.old }
         requires circle { IsWholeCircle table.now.planes circle.now }
