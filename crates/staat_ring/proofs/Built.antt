@@ -34,7 +34,7 @@ use Rattle.staat_vec.specs.Vectors.{origin}
 use Rattle.staat_model.specs.Circles.{IsCircle, IsLinked}
 use Rattle.staat_planes.specs.PairOrder.{plane_at}
 use Rattle.staat_ring.specs.Stands.{AllPresent, EachEntry, EachVertex, IsPresent, IsRing, StandFor, home_of, is_empty}
-use Rattle.staat_ring.proofs.Filters.{filter_whole}
+use Rattle.staat_ring.proofs.TwoLevels.{filter_whole}
 use Rattle.staat_ring.proofs.RingLemmas.{below_small, map_same, nodes_of_is}
 use Rattle.staat_ring.proofs.Unlinking.{entry_in, two_cases, planes_of_rings}
 

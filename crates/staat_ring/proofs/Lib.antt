@@ -6,13 +6,10 @@ pub mod RingsWithout
 pub mod CircleFromHalf
 pub mod Divided
 pub mod CircleFromEntries
-pub mod RelinkUndoesUnlink
 pub mod Chains
 pub mod WithoutNumber
 pub mod TwoLevels
-pub mod Loops
 pub mod RingLemmas
-pub mod Filters
 pub mod Unlinking
 pub mod Rows
 pub mod Numbering
@@ -26,5 +23,4 @@ pub mod SignAll
 pub mod CircleStops
 pub mod StopLemmas
 pub mod WholeCircles
-pub mod CrossSteps
 pub mod Strength

@@ -9,8 +9,7 @@ use Rattle.staat_vec.proofs.Unique.{Contains-front, Contains-later}
 use Rattle.staat_ring.proofs.WithoutLemmas.{filter_from}
 use Rattle.staat_vec.proofs.Naturals.{eqb_false, zero_not_suc, eq_test_false}
 use Rattle.staat_ring.specs.Links.{Links, IsLinkedRing, Apart, Distinct, unlink, is_bare}
-use Rattle.staat_ring.proofs.Chains.{first_of, last_of, ring-unlink, between, chain_stays, amid, InRange as NodeInRange}
-use Rattle.staat_ring.proofs.RelinkUndoesUnlink.{IsBetween}
+use Rattle.staat_ring.proofs.Chains.{first_of, last_of, ring-unlink, between, chain_stays, amid, InRange as NodeInRange, IsBetween}
 use Rattle.staat_ring.specs.Stands.{is_empty, Tagged, IsRing, EachVertex, RingLists, Shape}
 use Rattle.std.proofs.lemmas.List.Folds.{Any-from_list_any}
 use Rattle.std.proofs.lemmas.Map.Steps.{length-le_from_distinct_below}

@@ -74,7 +74,7 @@ impl RingArrays {
     }
 
     /// Takes all entries of a plane out.
-    #[tactic(auto, using(crate::proofs::Loops::taken, crate::proofs::Loops::skipped))]
+    #[tactic(auto, using(crate::proofs::Chains::taken, crate::proofs::Chains::skipped))]
     pub fn take_plane(&mut self, planes: u32, p: u32)
         requires planes { planes ≤ MOST_PLANES }
         requires plane { p < planes }

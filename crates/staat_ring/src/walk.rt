@@ -12,8 +12,8 @@ ghost use Rattle.staat_graph.specs.Graphs.{IsStrong};
 ghost use Rattle.staat_pairs.specs.Tables.{IsTable, Table, WasMadeFrom};
 ghost use Rattle.staat_ring.specs.Belonging.{BelongTo, HasAll, HoldSigns};
 ghost use Rattle.staat_ring.specs.SignChanges.{stop_sign, with_stop_signs};
-ghost use Rattle.staat_ring.specs.Places.{AtNode, HasNode, IsStopAt};
-ghost use Rattle.staat_ring.specs.Rings.{Ring, RingStop, WereMadeFrom, linked_of};
+ghost use Rattle.staat_ring.specs.Places.{AtNode, HasNode};
+ghost use Rattle.staat_ring.specs.Rings.{Ring, WereMadeFrom, linked_of};
 ghost use Rattle.staat_ring.specs.Walked.{AtStop, IsEntered, WalkWasMadeFrom};
 
 use crate::counted_signs::CountedSigns;
@@ -97,19 +97,6 @@ fn entry_after(rings: &Rings, circle: u32, node: u32, most: u32, i: u32) -> Opti
         }
     }
     None
-}
-
-// the node of the next stop, and its place
-fn next_of(rings: &Rings, circle: u32, node: u32, place: u32) -> (u32, u32)
-    requires { (s : RingStop) × IsStopAt rings.now.rings circle place s × (s.node ≡ node) }
-    ensures { (s : RingStop) → (at : IsStopAt rings.now.rings circle place s) → s.node ≡ node → (t : RingStop)
-        × (slice_get at.ring.stops ((place + 1) % length at.ring.stops) ≡ Some t) × (t.node ≡ result.0)
-        × (result.1 ≡ (place + 1) % length at.ring.stops) }
-{
-    match rings.next(circle, node) {
-        Some(next) => (next, place + 1),
-        None => (rings.first(circle), 0),
-    }
 }
 
 // gives the linked planes their signs at a direction
@@ -245,7 +232,7 @@ impl Walk {
     {
         let most = table.len();
         sign_stop(&mut self.signs, rings, self.circle, self.node, most, true);
-        let (node, place) = next_of(rings, self.circle, self.node, self.place);
+        let (node, place) = rings.next(self.circle, self.node, self.place);
         sign_stop(&mut self.signs, rings, self.circle, node, most, false);
         self.vertex = Vertex::of(table, self.circle, entry_of(rings, self.circle, node));
         self.node = node;
