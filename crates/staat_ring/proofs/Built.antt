@@ -18,12 +18,11 @@ use Rattle.staat_ring.specs.Numbered.{HasEntry, entry_number, head_number, node_
 use Rattle.staat_ring.specs.Rings.{IsRingOf, RingStop, AreRings, NameVertex, WereMadeFrom, linked_of, stop_of}
 use Rattle.staat_ring.proofs.Stops.{none_parallel}
 use Rattle.staat_ring.proofs.CircleStops.{entries_ascend, entry_small, some, entry_other, entry_there}
-use Rattle.staat_ring.proofs.WithoutNumber.{apart_from, few_below, tagged_from}
-use Rattle.staat_ring.proofs.Numbering.{entry_once, one_entry, entry_back, head_circle, head_small}
+use Rattle.staat_ring.proofs.RingLemmas.{apart_from, few_below, tagged_from, below_small, map_same, nodes_of_is}
+use Rattle.staat_ring.proofs.Rows.{entry_once, one_entry, entry_back, head_circle, head_small, holds_still}
 use Rattle.staat_vec.proofs.Comparisons.{head_less, tail_sorted}
 use Rattle.staat_vec.proofs.ListLaws.{Contains-from_map, Contains-map, map_twice, place_in_map}
 use Rattle.staat_ring.specs.RingViews.{numbers_below, shape, StandForCircles, CanBeUndone, arrangement_of, is_out, ring_of, rings_of, still_linked, entries_of, entries_on, HaveTakenOut, lists_of}
-use Rattle.staat_ring.proofs.Rows.{holds_still}
 use Rattle.staat_vec.proofs.Naturals.{same_or, lt_suc_cases}
 use Rattle.std.specs.List.{filter}
 use Rattle.std.proofs.lemmas.List.{get_or_default}
@@ -35,7 +34,6 @@ use Rattle.staat_model.specs.Circles.{IsCircle, IsLinked}
 use Rattle.staat_planes.specs.PairOrder.{plane_at}
 use Rattle.staat_ring.specs.Stands.{AllPresent, EachEntry, EachVertex, IsPresent, IsRing, StandFor, home_of, is_empty}
 use Rattle.staat_ring.proofs.TwoLevels.{filter_whole}
-use Rattle.staat_ring.proofs.RingLemmas.{below_small, map_same, nodes_of_is}
 use Rattle.staat_ring.proofs.Unlinking.{entry_in, two_cases, planes_of_rings}
 
 -- entries of ascending planes have different numbers

@@ -7,12 +7,10 @@ pub mod CircleFromHalf
 pub mod Divided
 pub mod CircleFromEntries
 pub mod Chains
-pub mod WithoutNumber
-pub mod TwoLevels
 pub mod RingLemmas
+pub mod TwoLevels
 pub mod Unlinking
 pub mod Rows
-pub mod Numbering
 pub mod Built
 pub mod Made
 pub mod StopReading

@@ -24,32 +24,32 @@ use Rattle.staat_ring.proofs.SignAll.{belong_same, stop_signs_same}
 use Rattle.std.proofs.lemmas.List.{length-map}
 
 module _ (planes : List V3) (rings : List Ring) (out : List ℕ) (table : AreTablePlanes planes) (are : AreRings planes rings out) (c m : ℕ) (s : RingStop) (at : IsStopAt rings c m s) where
-  is : IsRingOf planes (linked_of rings) at.ring
-  is = All-contains (IsRingOf planes (linked_of rings)) rings at.ring are.each at.listed
+  ring_is : IsRingOf planes (linked_of rings) at.ring
+  ring_is = All-contains (IsRingOf planes (linked_of rings)) rings at.ring are.each at.listed
 
   listed : Contains at.ring.stops s
   listed = from_place at.ring.stops m s at.is
 
   pub entry_small : (e : Entry) → Contains s.entries e → e.plane < length planes
-  entry_small = circle.entry_small planes (linked_of rings) at.ring (none_parallel planes (linked_of rings) table) is s listed
+  entry_small = circle.entry_small planes (linked_of rings) at.ring (none_parallel planes (linked_of rings) table) ring_is s listed
 
   pub entry_other : (e : Entry) → Contains s.entries e → e.plane ≢ c
-  entry_other e ce q = circle.entry_other planes (linked_of rings) at.ring (none_parallel planes (linked_of rings) table) is s listed e ce (q ∙ sym at.plane)
+  entry_other e ce q = circle.entry_other planes (linked_of rings) at.ring (none_parallel planes (linked_of rings) table) ring_is s listed e ce (q ∙ sym at.plane)
 
   pub entries_ascend : IsStrictlySortedBy nat_cmp (map (λ e. e.plane) s.entries)
-  entries_ascend = circle.entries_ascend planes (linked_of rings) at.ring (none_parallel planes (linked_of rings) table) is s listed
+  entries_ascend = circle.entries_ascend planes (linked_of rings) at.ring (none_parallel planes (linked_of rings) table) ring_is s listed
 
   pub few : (length s.entries ≤ length planes) × All (λ e. e.plane < length planes) s.entries
-  few = circle.few planes (linked_of rings) at.ring (none_parallel planes (linked_of rings) table) is s listed
+  few = circle.few planes (linked_of rings) at.ring (none_parallel planes (linked_of rings) table) ring_is s listed
 
   pub circle_small : c < length planes
-  circle_small = subst (λ k. k < length planes) at.plane (circle.circle_small planes (linked_of rings) at.ring (none_parallel planes (linked_of rings) table) is)
+  circle_small = subst (λ k. k < length planes) at.plane (circle.circle_small planes (linked_of rings) at.ring (none_parallel planes (linked_of rings) table) ring_is)
 
   pub some : 0 < length s.entries
-  some = circle.some planes (linked_of rings) at.ring (none_parallel planes (linked_of rings) table) is s listed
+  some = circle.some planes (linked_of rings) at.ring (none_parallel planes (linked_of rings) table) ring_is s listed
 
   pub vertex_some : vertex_of planes c s.entries ≢ origin
-  vertex_some = subst (λ k. vertex_of planes k s.entries ≢ origin) at.plane (circle.vertex_some planes (linked_of rings) at.ring (none_parallel planes (linked_of rings) table) is s listed)
+  vertex_some = subst (λ k. vertex_of planes k s.entries ≢ origin) at.plane (circle.vertex_some planes (linked_of rings) at.ring (none_parallel planes (linked_of rings) table) ring_is s listed)
 
   -- the next stop, and the signs there
   module _ (t : RingStop) (there : slice_get at.ring.stops ((m + 1) % length at.ring.stops) ≡ Some t) where
@@ -59,7 +59,7 @@ module _ (planes : List V3) (rings : List Ring) (out : List ℕ) (table : AreTab
     pub next_signs : (now : Signed) → length now.states ≡ length planes → HoldSigns planes (linked_of rings) now (vertex_of planes c s.entries) → HoldSigns planes (linked_of rings) (with_stop_signs false t.entries (with_stop_signs true s.entries now)) (vertex_of planes c t.entries)
     next_signs now size holds =
         subst (λ k. HoldSigns planes (linked_of rings) (with_stop_signs false t.entries (with_stop_signs true s.entries now)) (vertex_of planes k t.entries)) at.plane
-        (circle.cross_signs planes (linked_of rings) at.ring (none_parallel planes (linked_of rings) table) is s t m at.is there now size
+        (circle.cross_signs planes (linked_of rings) at.ring (none_parallel planes (linked_of rings) table) ring_is s t m at.is there now size
         (subst (λ k. HoldSigns planes (linked_of rings) now (vertex_of planes k s.entries)) (sym at.plane) holds))
 
 -- the vertex of a stop is that of its first entry

@@ -17,9 +17,8 @@ use Rattle.staat_vec.proofs.ListLaws.{place_in_map, Contains-map, Contains-from_
 use Rattle.staat_vec.proofs.Unique.{from_place}
 use Rattle.std.proofs.lemmas.Bool.Decides.{nat_tests}
 use Rattle.std.specs.List.{filter}
-use Rattle.staat_ring.proofs.Numbering.{head_small}
-use Rattle.staat_ring.proofs.WithoutNumber.{from_apart}
-use Rattle.staat_ring.proofs.RingLemmas.{below_small}
+use Rattle.staat_ring.proofs.Rows.{head_small}
+use Rattle.staat_ring.proofs.RingLemmas.{from_apart, below_small}
 use Rattle.staat_ring.proofs.Built.{below_all}
 use Rattle.staat_ring.proofs.WithoutLemmas.{filter_from, filter_in}
 use Rattle.staat_vec.proofs.Naturals.{lt_one_more_cases}

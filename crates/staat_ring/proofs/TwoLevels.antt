@@ -8,7 +8,7 @@ use Rattle.staat_ring.proofs.WithoutLemmas.{filter_from, filter_in}
 use Rattle.staat_ring.specs.Links.{Links, Apart, Distinct, unlink, Arrays, is_bare, take, take_all, InRange}
 use Rattle.staat_ring.proofs.Chains.{CanTakeAll, CanTake}
 use Rattle.staat_ring.specs.Stands.{is_empty, IsRing, Shape, RingLists, home_of, StandFor, IsPresent, AllPresent}
-use Rattle.staat_ring.proofs.WithoutNumber.{lists_without_all, lists_without, without, without_none, node_between, tagged_apart, tagged_in, neighbour_tags, ring_stays, ring_shrinks, bare_is, lists_without_plane, AreSame}
+use Rattle.staat_ring.proofs.RingLemmas.{lists_without_all, lists_without, without, without_none, node_between, tagged_apart, tagged_in, neighbour_tags, ring_stays, ring_shrinks, bare_is, lists_without_plane, AreSame}
 use Rattle.staat_vec.proofs.Naturals.{eq_test_false, same_or, apart_from_test, eqb_false}
 use Rattle.std.specs.List.{filter}
 use Rattle.std.proofs.lemmas.List.Elements.{filter_agree}

@@ -11,12 +11,11 @@ use Rattle.staat_ring.proofs.WithoutLemmas.{filter_from}
 use Rattle.staat_ring.specs.Links.{Arrays, Apart, Distinct, unlink, is_bare, take as take_out, take_all, give_all}
 use Rattle.staat_ring.proofs.Chains.{CanTakeAll, give_all-take_all}
 use Rattle.staat_ring.specs.Stands.{Shape, RingLists, StandFor, is_empty, home_of, IsPresent, AllPresent}
-use Rattle.staat_ring.proofs.WithoutNumber.{lists_without_plane, lists_without_all, lists_without, AreSame, apart_from, without, split, without_mid, distinct_filter}
+use Rattle.staat_ring.proofs.RingLemmas.{lists_without_plane, lists_without_all, lists_without, AreSame, apart_from, without, split, without_mid, distinct_filter, AreShort, lists_of_is, stands_same, undo-push, kept-push, listed-push, rings-without, rings-same, below_small, still_without}
 use Rattle.staat_ring.specs.RingViews.{entries_of, entries_on, lists_of, undo_all, unlinked_planes, shape, is_out, undo, rings_at, StandForCircles, ring_of, rings_of, CanBeUndone, still_linked, numbers_below, arrangement_of, HaveTakenOut, AreFlags, AreFlagged}
 use Rattle.staat_ring.specs.Numbered.{plane_of}
 use Rattle.staat_ring.specs.Without.{rings_without, IsUnlinked, unlinked_plane}
 use Rattle.staat_ring.proofs.TwoLevels.{length_if, stands-take_all, present-after, without-plane}
-use Rattle.staat_ring.proofs.RingLemmas.{AreShort, lists_of_is, stands_same, undo-push, kept-push, listed-push, rings-without, rings-same, below_small, still_without}
 use Rattle.staat_vec.proofs.Truth.{and_split, false_true_clash, from_not_true, and_false, and_true}
 use Rattle.staat_vec.proofs.Naturals.{apart_from_test, le_or_past, same_or, eq_test_false}
 use Rattle.std.proofs.lemmas.Grind.{common_steps, get_or-set_at}

@@ -183,18 +183,6 @@ impl CountedSigns {
         self.counts.want(q, wanted, parts);
     }
 
-    // gives the plane another sign: a facet less of each pair in one list is positive, one more of each in the other
-    fn change(&mut self, k: u32, sign: Sign) -> bool
-        requires { k < length self.old.states }
-        ensures signs { self.new ≡ with_plane_sign k sign self.old }
-        ensures same { result ≡ false → HaveSameFull self.old self.new }
-    {
-        let lost = self.counts.lose_all(pairs_at(&self.states, k));
-        set_sign_at(&mut self.states, k, sign);
-        let gained = self.counts.gain_all(pairs_at(&self.states, k));
-        lost | gained
-    }
-
     /// Gives the plane `k` a sign. Where it has that sign, nothing is done. Tells whether some pair may have positive
     /// facets alone only before, or only now.
     pub fn set(&mut self, k: u32, sign: Sign) -> bool
@@ -205,7 +193,11 @@ impl CountedSigns {
         if self.states[k as usize].has_sign(sign) {
             return false;
         }
-        self.change(k, sign)
+        // a facet less of each pair in one list is positive, one more of each in the other
+        let lost = self.counts.lose_all(pairs_at(&self.states, k));
+        set_sign_at(&mut self.states, k, sign);
+        let gained = self.counts.gain_all(pairs_at(&self.states, k));
+        lost | gained
     }
 
     /// Whether all facets of the pair `q` are positive.
