@@ -14,7 +14,6 @@ pub mod Rows
 pub mod Built
 pub mod Made
 pub mod StopReading
-pub mod SignLemmas
 pub mod ArcLaw
 pub mod PairNumbers
 pub mod SignAll

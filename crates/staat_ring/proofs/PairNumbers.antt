@@ -12,7 +12,7 @@ use Rattle.staat_ring.specs.declared.pairs.PairCount.{PairCount}
 use Rattle.staat_ring.specs.Pairs.{fresh, no_pair, occurs, pair_at}
 use Rattle.staat_ring.specs.CountedSigns.{PlaneState, Signed, no_state, pairs_by, positives, state_at}
 use Rattle.staat_ring.specs.SignChanges.{AreSigned, uses, emptied, with_pair}
-use Rattle.staat_ring.proofs.SignLemmas.{one, at_replicate}
+use Rattle.staat_ring.proofs.ArcLaw.{one, at_replicate, is_positive, hits, sum_by-total, total-hits, total-plus, total-same, positives-none}
 use Rattle.staat_vec.proofs.Naturals.{eq_test_false, same_or, add_none, parts_by_64, lt_one_more_cases, same_parts_of_64}
 use Rattle.std.specs.List.{count_by}
 use Rattle.staat_vec.specs.declared.vector.V3.{V3}
@@ -25,7 +25,6 @@ use Rattle.staat_vec.proofs.ListLaws.{take_next}
 use Rattle.staat_ring.specs.BlockCounts.{parts_at}
 use Rattle.staat_ring.specs.Index.{AreSameBut, AreZero, IsFresh, IsPairKept, with_facet, AreToldBelow, IsTold}
 use Rattle.staat_ring.specs.Belonging.{IsPairIndexed, PlaneFacet, facet_at, BelongTo, IsPairOf, IsUnused}
-use Rattle.staat_ring.proofs.ArcLaw.{is_positive, hits, sum_by-total, total-hits, total-plus, total-same, positives-none}
 use Rattle.staat_ring.specs.Rings.{facet_by}
 use Rattle.staat_vec.proofs.Truth.{and_true}
 use Rattle.staat_pairs.specs.Tabulating.{IsPieceAt}

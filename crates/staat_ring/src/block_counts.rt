@@ -64,14 +64,6 @@ impl BlockCounts {
         })
     }
 
-    // how many pairs of pieces block for the parts whose number stands at x
-    fn count(&self, x: u16) -> u16
-        requires { x < part_pairs }
-        ensures { result ≡ slice_index self.now x }
-    {
-        self.counts[x as usize]
-    }
-
     // so many block now
     fn write(&mut self, x: u16, count: u16)
         requires { x < part_pairs }
@@ -93,7 +85,7 @@ impl BlockCounts {
         requires room { slice_index self.old x + 1 < 2 ^ 16 }
         ensures { self.new ≡ slice_set self.old x (slice_index self.old x + 1) }
     {
-        let count = self.count(x) + 1;
+        let count = self.counts[x as usize] + 1;
         self.write(x, count);
     }
 
@@ -103,7 +95,7 @@ impl BlockCounts {
         requires some { 0 < slice_index self.old x }
         ensures { self.new ≡ slice_set self.old x (slice_index self.old x - 1) }
     {
-        let count = self.count(x) - 1;
+        let count = self.counts[x as usize] - 1;
         self.write(x, count);
     }
 

@@ -1,7 +1,7 @@
 use Rattle.std.proofs.Common.{◌<◌, ◌∙◌, ap, arith, length}
 use Rattle.std.proofs.lemmas.Grind.{common_steps}
 use Rattle.staat_ring.specs.SignChanges.{with_plane_sign}
-use Rattle.staat_ring.proofs.SignLemmas.{room, set_pairs}
+use Rattle.staat_ring.proofs.ArcLaw.{room, set_pairs}
 use Rattle.staat_ring.proofs.counted_signs.CountedSigns.set.Goals as goal
 
 pub gain_all-gained-requires-clause-room : goal.gain_all-gained-requires-clause-room
