@@ -35,52 +35,17 @@ impl Model for PlaneState {
     ghost view = { λ s. record { sign = s.sign; along = s.along.items; against = s.against.items } };
 }
 
-impl PlaneState {
-    // the pairs whose facet on the plane is positive
-    fn positive_pairs(&self) -> &[u16]
-        ensures { result.now ≡ positive_pairs self.now }
-    {
-        match self.sign {
-            Sign::Neg => self.against.as_slice(),
-            Sign::Zero => &[],
-            Sign::Pos => self.along.as_slice(),
-        }
-    }
-
-    // whether the plane has the sign
-    fn has_sign(&self, sign: Sign) -> bool
-        ensures { IsTrue result ↔ (self.now.sign ≡ sign) }
-    {
-        self.sign == sign
-    }
-
-    // gives the plane another sign
-    fn set_sign(&mut self, sign: Sign)
-        ensures { self.new ≡ with_sign sign self.old }
-    {
-        self.sign = sign;
-    }
-
-    // one more pair has the normal as a facet, or its negative
-    fn push(&mut self, turned: bool, q: u16) -> Result<(), OutOfMemory>
-        ensures ok { OnOk result (self.new ≡ with_pair turned q self.old) }
-        ensures err { OnErr result (self.new ≡ self.old) }
-    {
-        if turned {
-            self.against.push(q)?;
-        } else {
-            self.along.push(q)?;
-        }
-        Ok(())
-    }
-}
-
 // the pairs whose facet on the plane k is positive
 fn pairs_at(states: &Vec<PlaneState>, k: u32) -> &[u16]
     requires { k < length states.now.items }
     ensures { result.now ≡ positive_pairs (state_at states.now.items k) }
 {
-    states[k as usize].positive_pairs()
+    let state = &states[k as usize];
+    match state.sign {
+        Sign::Neg => state.against.as_slice(),
+        Sign::Zero => &[],
+        Sign::Pos => state.along.as_slice(),
+    }
 }
 
 // gives the plane k another sign
@@ -88,7 +53,7 @@ fn set_sign_at(states: &mut Vec<PlaneState>, k: u32, sign: Sign)
     requires { k < length states.old.items }
     ensures { states.new.items ≡ slice_set states.old.items k (with_sign sign (state_at states.old.items k)) }
 {
-    states[k as usize].set_sign(sign);
+    states[k as usize].sign = sign;
 }
 
 // one more pair has the normal of the plane k as a facet, or its negative
@@ -98,7 +63,13 @@ fn push_at(states: &mut Vec<PlaneState>, k: u32, turned: bool, q: u16) -> Result
         (states.new.items ≡ slice_set states.old.items k (with_pair turned q (state_at states.old.items k))) }
     ensures err { OnErr result (states.new.items ≡ states.old.items) }
 {
-    states[k as usize].push(turned, q)
+    let state = &mut states[k as usize];
+    if turned {
+        state.against.push(q)?;
+    } else {
+        state.along.push(q)?;
+    }
+    Ok(())
 }
 
 /// The signs of planes, with the graph in which an arc stands where all facets of some pair of pieces are positive.
@@ -190,7 +161,7 @@ impl CountedSigns {
         ensures signs { self.new ≡ with_plane_sign k sign self.old }
         ensures same { result ≡ false → HaveSameFull self.old self.new }
     {
-        if self.states[k as usize].has_sign(sign) {
+        if self.states[k as usize].sign == sign {
             return false;
         }
         // a facet less of each pair in one list is positive, one more of each in the other
