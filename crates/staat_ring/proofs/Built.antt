@@ -1,46 +1,114 @@
--- Arrays in which all circles stand are good, and show the circles of the planes.
-use Rattle.std.proofs.Common.{◌≡◌, ◌≢◌, inl, ⊎_elim, ℕ, zero, suc, ◌+◌, ◌*◌, ◌<◌, ◌≤◌, Bool, true, false, not, arith, ap, refl, sym, subst, ◌∙◌, List, [], ◌∷◌, ◌++◌, length, get_or, Contains, take, add-one}
-use Rattle.std.specs.Prelude.{map, ◌==◌}
-use Rattle.std.specs.List.{filter, range_with_len}
+-- The circles of all planes can be linked, one after another; arrays in which all stand are good, and show these circles.
+use Rattle.staat_ring.proofs.Rows as rules
+use Rattle.std.proofs.Common.{◌≡◌, ℕ, ◌<◌, arith, ap, sym, ◌∙◌, List, [], ◌∷◌, length, All, Contains, ◌≢◌, ⊎_elim, ◌+◌, ◌*◌, ◌≤◌, subst, get_or, inl, zero, suc, Bool, true, false, not, refl, take}
+use Rattle.std.specs.Prelude.{Some, map, option_map, slice_get, ◌==◌}
 use Rattle.std.specs.Ordering.{nat_cmp}
 use Rattle.std.specs.List.Sorted.{IsStrictlySortedBy}
-use Rattle.std.proofs.lemmas.List.{get_or_default}
-use Rattle.std.proofs.lemmas.List.Folds.{map_fixed}
-use Rattle.std.proofs.lemmas.List.FromFn.{get_or-map-range_with_len, length-map-range_with_len, map-range_with_len_more}
-use Rattle.std.proofs.lemmas.List.Elements.{All-contains, All-map, Contains-append_left, Contains-append_right, Contains-get_or}
-use Rattle.std.proofs.lemmas.Map.Keys.{sorted_from_strictly_increasing}
-use Rattle.std.proofs.lemmas.Option.{get_or_from_slice_get, slice_get_within}
+use Rattle.std.proofs.lemmas.List.Elements.{Contains-get_or, All-contains, All-map, Contains-append_left, Contains-append_right}
+use Rattle.std.proofs.lemmas.Option.{slice_get-get_or, slice_get-map, get_or_from_slice_get, slice_get_within}
 use Rattle.staat_vec.specs.declared.vector.V3.{V3}
-use Rattle.staat_vec.specs.Vectors.{origin}
+use Rattle.staat_vec.proofs.Unique.{Contains-later, Contains-front}
 use Rattle.staat_pairs.specs.Tables.{AreTablePlanes}
 use Rattle.staat_model.proofs.Members.{All-from_members}
-use Rattle.staat_model.specs.Circles.{IsCircle, IsLinked}
 use Rattle.staat_ring.specs.declared.entry.Entry.{Entry}
 use Rattle.staat_ring.specs.Builds.{ring_by, slot_at}
-use Rattle.staat_ring.specs.Links.{Arrays}
-use Rattle.staat_ring.specs.Linking.{AreLinkedBelow, CanBeLinked, HasCircle}
-use Rattle.staat_ring.specs.Numbered.{head_number, node_number, entry_number, plane_of, entry_numbered}
-use Rattle.staat_ring.specs.Planes.{entries_of, entries_on}
-use Rattle.staat_ring.specs.Rings.{AreRings, IsRingOf, NameVertex, RingStop, WereMadeFrom, linked_of, stop_of}
-use Rattle.staat_planes.specs.PairOrder.{plane_at}
-use Rattle.staat_ring.specs.RingInvariant.{HaveTakenOut}
-use Rattle.staat_ring.specs.RingViews.{StandForCircles, CanBeUndone, arrangement_of, numbers_below, is_out, ring_of, rings_of, shape, still_linked}
-use Rattle.staat_ring.specs.Stands.{AllPresent, EachEntry, EachVertex, IsPresent, IsRing, StandFor, home_of, is_empty}
-use Rattle.staat_ring.specs.Within.{InRange}
-use Rattle.staat_ring.specs.Views.{lists_of}
-use Rattle.staat_ring.proofs.CircleStops.{entry_other, entry_there}
-use Rattle.staat_ring.proofs.CircleSteps.{can_be_linked}
-use Rattle.staat_ring.proofs.Filters.{filter_whole}
-use Rattle.staat_ring.proofs.WithoutNumber.{few_below, tagged_from}
-use Rattle.staat_ring.proofs.Numbering.{entry_back, head_circle, head_small}
-use Rattle.staat_ring.proofs.RingLemmas.{below_small, map_same}
-use Rattle.staat_ring.proofs.RowRules as rules
-use Rattle.staat_ring.proofs.SoundLemmas.{entry_in, two_cases}
+use Rattle.staat_ring.specs.Links.{Distinct, Arrays, InRange}
+use Rattle.staat_ring.specs.Linking.{CanBeLinked, AreLinkedBelow, AreSized, HasCircle, HoldsCircle, IsAlone, IsKeptAt}
+use Rattle.staat_ring.specs.Numbered.{HasEntry, entry_number, head_number, node_number, plane_of, entry_numbered}
+use Rattle.staat_ring.specs.Rings.{IsRingOf, RingStop, AreRings, NameVertex, WereMadeFrom, linked_of, stop_of}
 use Rattle.staat_ring.proofs.Stops.{none_parallel}
-use Rattle.staat_ring.proofs.Unlinking.{planes_of_rings}
-use Rattle.staat_ring.proofs.ViewLemmas.{nodes_of_is}
-use Rattle.staat_vec.proofs.Naturals.{lt_suc_cases}
+use Rattle.staat_ring.proofs.CircleStops.{entries_ascend, entry_small, some, entry_other, entry_there}
+use Rattle.staat_ring.proofs.RingLemmas.{apart_from, few_below, tagged_from, below_small, map_same, nodes_of_is}
+use Rattle.staat_ring.proofs.Rows.{entry_once, one_entry, entry_back, head_circle, head_small, holds_still}
+use Rattle.staat_vec.proofs.Comparisons.{head_less, tail_sorted}
 use Rattle.staat_vec.proofs.ListLaws.{Contains-from_map, Contains-map, map_twice, place_in_map}
+use Rattle.staat_ring.specs.RingViews.{numbers_below, shape, StandForCircles, CanBeUndone, arrangement_of, is_out, ring_of, rings_of, still_linked, entries_of, entries_on, HaveTakenOut, lists_of}
+use Rattle.staat_vec.proofs.Naturals.{same_or, lt_suc_cases}
+use Rattle.std.specs.List.{filter}
+use Rattle.std.proofs.lemmas.List.{get_or_default}
+use Rattle.std.proofs.lemmas.List.Folds.{map_fixed}
+use Rattle.std.proofs.lemmas.List.FromFn.{get_or-range_with_len, length-range_with_len}
+use Rattle.std.proofs.lemmas.Map.Keys.{sorted_from_strictly_increasing}
+use Rattle.staat_vec.specs.Vectors.{origin}
+use Rattle.staat_model.specs.Circles.{IsCircle, IsLinked}
+use Rattle.staat_planes.specs.PairOrder.{plane_at}
+use Rattle.staat_ring.specs.Stands.{AllPresent, EachEntry, EachVertex, IsPresent, IsRing, StandFor, home_of, is_empty}
+use Rattle.staat_ring.proofs.TwoLevels.{filter_whole}
+use Rattle.staat_ring.proofs.Unlinking.{entry_in, two_cases, planes_of_rings}
+
+-- entries of ascending planes have different numbers
+distinct_numbers : (n c : ℕ) (es : List Entry) → ((e : Entry) → Contains es e → e.plane < n) → IsStrictlySortedBy nat_cmp (map (λ e. e.plane) es) → Distinct (map (entry_number n c) es)
+distinct_numbers n c [] small s = tt
+distinct_numbers n c (e ∷ es) small s = (
+  apart_from (entry_number n c e) (map (entry_number n c) es) (λ y cy q.
+      let (f, cf, ef) = Contains-from_map (entry_number n c) es y cy in
+      let lt = head_less e.plane (map (λ e. e.plane) es) f.plane s (Contains-map (λ e. e.plane) es f cf) in
+      let same = ap (λ x. x.plane) (one_entry n c e f (small e (Contains-front e es)) (small f (Contains-later e es f cf)) (sym q ∙ sym ef)) in
+      absurd (omega (arith, lt, same))),
+  distinct_numbers n c es (λ f cf. small f (Contains-later e es f cf)) (tail_sorted e.plane (map (λ e. e.plane) es) s),
+)
+
+module _ (planes : List V3) (table : AreTablePlanes planes) (linked : List ℕ) (c : ℕ) (stops : List (List Entry)) (is : IsRingOf planes linked (ring_by c stops)) where
+  abbrev as_stop : List Entry → RingStop
+  as_stop es = record { node = 0; entries = es }
+
+  stop : (es : List Entry) → Contains stops es → Contains (ring_by c stops).stops (as_stop es)
+  stop es ce = Contains-map as_stop stops es ce
+
+  small_plane : (es : List Entry) → Contains stops es → (e : Entry) → Contains es e → e.plane < length planes
+  small_plane es cs = entry_small planes linked (ring_by c stops) (none_parallel planes linked table) is (as_stop es) (stop es cs)
+
+  slot_in : (k : ℕ) → k < length stops → Contains stops (slot_at stops k)
+  slot_in k lt = Contains-get_or stops k [] lt
+
+  ring_at : (k : ℕ) → k < length stops → slice_get (map as_stop stops) k ≡ Some (as_stop (slot_at stops k))
+  ring_at k lt = slice_get-map as_stop stops k ∙ ap (option_map as_stop) (slice_get-get_or stops k [] lt)
+
+  pub can_be_linked : CanBeLinked (length planes) c stops
+  can_be_linked = record {
+    some = All-from_members HasEntry stops (λ es ce. some planes linked (ring_by c stops) (none_parallel planes linked table) is (as_stop es) (stop es ce));
+    small = All-from_members (All (λ e. e.plane < length planes)) stops (λ es cs. All-from_members (λ e. e.plane < length planes) es (small_plane es cs));
+    distinct = λ k lt. distinct_numbers (length planes) c (slot_at stops k) (small_plane (slot_at stops k) (slot_in k lt)) (entries_ascend planes linked (ring_by c stops) (none_parallel planes linked table) is (as_stop (slot_at stops k)) (stop (slot_at stops k) (slot_in k lt)));
+    apart = λ k m e lk lm ck cm. entry_once planes linked (ring_by c stops) is k m (as_stop (slot_at stops k)) (as_stop (slot_at stops m)) e (ring_at k lk) (ring_at m lm) ck cm;
+  }
+
+-- ---- one after another
+
+pub none_below : (planes : List V3) (n : ℕ) (a : Arrays) → AreSized n a → ((x : ℕ) → x < 4 * (n * n) → IsAlone a x) → ((x : ℕ) → x < 4 * (n * n) → get_or a.home x 0 ≡ x) → AreLinkedBelow planes n 0 a
+none_below planes n a sizes alone home = record {
+  sizes = sizes;
+  circles = λ c lt. absurd (omega (arith, lt));
+  alone = λ x lx no. alone x lx;
+  own = λ x le lx. home x lx;
+}
+
+module _ (planes : List V3) (table : AreTablePlanes planes) (n : ℕ) (n_is : n ≡ length planes) where
+  pub can_link : (c : ℕ) (stops : List (List Entry)) → IsRingOf planes (numbers_below n) (ring_by c stops) → CanBeLinked n c stops
+  can_link c stops is = subst (λ m. CanBeLinked m c stops) (sym n_is) (can_be_linked planes table (numbers_below n) c stops is)
+
+  pub one_more : (c : ℕ) → c < n → (stops : List (List Entry)) → IsRingOf planes (numbers_below n) (ring_by c stops) → (a b : Arrays) → AreLinkedBelow planes n c a → AreSized n b → HoldsCircle n b c stops
+      → ((x : ℕ) → (shape n).circle x ≢ c → IsKeptAt a b x) → ((x : ℕ) → 2 * (n * n) ≤ x → get_or b.home x 0 ≡ get_or a.home x 0) → AreLinkedBelow planes n (c + 1) b
+  one_more c lc stops is a b so_far sizes holds others home = record {
+    sizes = sizes;
+    circles = λ d lt. ⊎_elim {C = HasCircle planes n b d} (λ e. subst (HasCircle planes n b) (sym e) (record { stops = stops; ring = is; holds = holds })) (λ ne. kept d (omega (arith, lt, ne))) (same_or d c);
+    alone = λ x lx no.
+        let k = others x (λ e. no (let q : (shape n).circle x < c + 1 = omega (arith, e) in q)) in
+        let old = so_far.alone x lx (λ lt. no (let q : (shape n).circle x < c + 1 = omega (arith, lt) in q)) in
+        record {
+          circles = (k.circles.next ∙ old.circles.0, k.circles.prev ∙ old.circles.1);
+          vertices = (k.vertices.next ∙ old.vertices.0, k.vertices.prev ∙ old.vertices.1);
+        };
+    own = λ x le lx. home x le ∙ so_far.own x le lx;
+  }
+    where
+      kept : (d : ℕ) → d < c → HasCircle planes n b d
+      kept d lt =
+          let old = so_far.circles d lt in
+          record {
+            stops = old.stops;
+            ring = old.ring;
+            holds = holds_still n d (omega (arith, lt, lc)) old.stops (can_link d old.stops old.ring) a b (λ y e. others y (λ q. let s : d ≡ c = sym e ∙ q in absurd (omega (arith, s, lt)))) old.holds;
+          }
 
 -- ---- the planes below n
 
@@ -48,18 +116,8 @@ pub take_none : (xs : List ℕ) → take 0 xs ≡ []
 take_none [] = refl
 take_none (x ∷ xs) = refl
 
-below_is : (n : ℕ) → numbers_below n ≡ map (λ k. k) (range_with_len 0 n)
-below_is zero = refl
-below_is (suc n) = ap (λ xs. xs ++ n ∷ []) (below_is n) ∙ sym (map-range_with_len_more (λ k. k) 0 n n (omega arith)) ∙ ap (λ m. map (λ k. k) (range_with_len 0 m)) (add-one n)
-
-length_below : (n : ℕ) → length (numbers_below n) ≡ n
-length_below n = ap length (below_is n) ∙ length-map-range_with_len (λ k. k) 0 n
-
-below_at : (n k : ℕ) → k < n → get_or (numbers_below n) k 0 ≡ k
-below_at n k lt = ap (λ xs. get_or xs k 0) (below_is n) ∙ get_or-map-range_with_len (λ k. k) 0 n k k 0 lt (omega arith)
-
 pub below_all : (n c : ℕ) → c < n → Contains (numbers_below n) c
-below_all n c lt = subst (Contains (numbers_below n)) (below_at n c lt) (Contains-get_or (numbers_below n) c 0 (omega (arith, lt, length_below n)))
+below_all n c lt = (c, omega (arith, lt, length-range_with_len 0 n), let g = get_or-range_with_len 0 n c c lt in omega (arith, g))
 
 -- ---- the entries of a plane
 
@@ -280,7 +338,7 @@ module _ (planes : List V3) (table : AreTablePlanes planes) (few : length planes
   }
     where
       below_sorted : (m : ℕ) → IsStrictlySortedBy nat_cmp (numbers_below m)
-      below_sorted m = sorted_from_strictly_increasing (numbers_below m) (λ k lt. let e = length_below m in let a = below_at m k (omega (arith, lt, e)) in let b = below_at m (k + 1) (omega (arith, lt, e)) in omega (arith, a, b))
+      below_sorted m = sorted_from_strictly_increasing (numbers_below m) (λ k lt. let e = length-range_with_len 0 m in let a = get_or-range_with_len 0 m k 0 (omega (arith, lt, e)) in let b = get_or-range_with_len 0 m (k + 1) 0 (omega (arith, lt, e)) in omega (arith, a, b))
 
   sound : CanBeUndone n [] a
   sound zero lt = good
@@ -298,7 +356,7 @@ module _ (planes : List V3) (table : AreTablePlanes planes) (few : length planes
   }
     where
       all : (k : ℕ) → k ≤ 0 → k + length (still_linked n (take k order)) ≡ n
-      all zero le = let e : length (still_linked n (take 0 order)) ≡ n = ap (λ (o : List ℕ). length (still_linked n o)) (take_none order) ∙ (ap length (filter_whole (λ c. not (is_out [] c)) (numbers_below n) (λ c _. refl)) ∙ length_below n) in omega (arith, e)
+      all zero le = let e : length (still_linked n (take 0 order)) ≡ n = ap (λ (o : List ℕ). length (still_linked n o)) (take_none order) ∙ (ap length (filter_whole (λ c. not (is_out [] c)) (numbers_below n) (λ c _. refl)) ∙ length-range_with_len 0 n) in omega (arith, e)
       all (suc k) le = absurd (omega (arith, le))
 
   pub made : (order : List ℕ) → WereMadeFrom planes (arrangement_of n (take 0 order) a)

@@ -1,10 +1,49 @@
--- A node comes to the end of a chain, and a node is taken out.
-use Rattle.std.proofs.Common.{◌≡◌, ◌≢◌, ℕ, ◌<◌, sym, ap, subst, ◌∙◌, List, [], ◌∷◌, ◌++◌, length, get_or, set, refl, arith}
-use Rattle.std.proofs.lemmas.List.{get_or-set_other}
+-- A node is taken out and put back, or comes to the end of a chain; and the loops over the circles.
+use Rattle.std.proofs.Common.{rules, ◌≡◌, ℕ, refl, sym, ap, ◌∙◌, List, [], ◌∷◌, Bool, true, false, get_or, set, if◌then◌else◌, ◌≢◌, ◌<◌, subst, ◌++◌, length, arith, suc, ◌+◌, ◌*◌, add-one, eq-eqb}
+use Rattle.std.proofs.lemmas.List.{set-get_or, get_or-set_other, set-set}
+use Rattle.staat_ring.specs.Links.{Links, unlink, relink, Arrays, take, give, take_all, give_all, is_bare, Chain, IsLinkedRing, Apart, Distinct, append}
+use Rattle.std.specs.Prelude.{◌≢◌, slice_index, if◌then◌else◌}
 use Rattle.std.proofs.lemmas.Grind.{get_or-set_at}
-use Rattle.staat_ring.specs.Links.{Links, Chain, IsLinkedRing, Apart, Distinct, unlink, append}
-use Rattle.staat_ring.proofs.RelinkUndoesUnlink.{IsBetween}
 use Rattle.std.proofs.Math.ListN.{length-set}
+use Rattle.staat_ring.specs.RingViews.{entries_on, entries_of}
+use Rattle.staat_vec.proofs.Naturals.{eqb_false}
+
+-- the neighbours of x are other nodes, and point back at it
+pub record IsBetween (s : Links) (x : ℕ) : Type 0 where
+  pub back : slice_index s.next (slice_index s.prev x) ≡ x
+  pub forth : slice_index s.prev (slice_index s.next x) ≡ x
+  pub left : x ≢ slice_index s.prev x
+  pub right : x ≢ slice_index s.next x
+
+-- the entry stands between two nodes, and so does its vertex where the entry is its last
+pub record CanTake (e : ℕ) (a : Arrays) : Type 0 where
+  pub entry : IsBetween a.vertices e
+  pub vertex : is_bare (unlink e a.vertices) (slice_index a.home e) ≡ true
+      → IsBetween a.circles (slice_index a.home e)
+
+abbrev pub CanTakeAll : List ℕ → Arrays → Type 0
+CanTakeAll [] a = Unit {0}
+CanTakeAll (e ∷ es) a = CanTake e a × CanTakeAll es (take e a)
+
+-- writing back what stood there
+written_back : (l : List ℕ) (i i' u x : ℕ) → i' ≡ i → get_or l i 0 ≡ x → set (set l i u) i' x ≡ l
+written_back l i i' u x e h = ap (λ k. set (set l i u) k x) e ∙ (set-set l i u x ∙ (ap (λ y. set l i y) (sym h) ∙ set-get_or l i 0))
+
+pub relink-unlink : (x : ℕ) (s : Links) → IsBetween s x → relink x (unlink x s) ≡ s
+relink-unlink x s h = search (rules, get_or-set_other, written_back)
+
+circles_back : (b : Bool) (v : ℕ) (s : Links) → (b ≡ true → IsBetween s v) → (if b then relink v (if b then unlink v s else s) else (if b then unlink v s else s)) ≡ s
+circles_back true v s h = relink-unlink v s (h refl)
+circles_back false v s h = refl
+
+pub give-take : (e : ℕ) (a : Arrays) → CanTake e a → give e (take e a) ≡ a
+give-take e a h = search (rules, relink-unlink, circles_back)
+
+pub give_all-take_all : (es : List ℕ) (a : Arrays) → CanTakeAll es a → give_all es (take_all es a) ≡ a
+give_all-take_all [] a h = refl
+give_all-take_all (e ∷ es) a h = ap (give e) (give_all-take_all es (take e a) h.1) ∙ give-take e a h.0
+
+-- ---- a node comes to the end of a chain, and a node is taken out
 
 -- the last node, or the one before the first
 abbrev pub last_of : ℕ → List ℕ → ℕ
@@ -71,14 +110,17 @@ chain_stays s i u j w a [] b ai ix jx bj h = (get_or-set_other s.next i a u 0 ai
 chain_stays s i u j w a (x ∷ xs) b ai ix jx bj h =
     (get_or-set_other s.next i a u 0 ai ∙ h.0, (get_or-set_other s.prev j x w 0 jx.0 ∙ h.1.0, chain_stays s i u j w x xs b ix.0 ix.1 jx.1 bj h.1.1))
 
-pub prev_in : (s : Links) (x a : ℕ) (l r : List ℕ) (b : ℕ) → Chain s a (l ++ x ∷ r) b → get_or s.prev x 0 ≡ last_of a l
-prev_in s x a [] r b h = h.1.0
-prev_in s x a (y ∷ l) r b h = prev_in s x y l r b h.1.1
+-- the words of x are i and j, and those between which it stands name it
+pub record IsAmid (s : Links) (x i j : ℕ) : Type 0 where
+  pub prev : get_or s.prev x 0 ≡ i
+  pub next : get_or s.next x 0 ≡ j
+  pub back : get_or s.next i 0 ≡ x
+  pub forth : get_or s.prev j 0 ≡ x
 
-pub next_in : (s : Links) (x a : ℕ) (l r : List ℕ) (b : ℕ) → Chain s a (l ++ x ∷ r) b → get_or s.next x 0 ≡ first_of r b
-next_in s x a [] [] b h = h.1.1.0
-next_in s x a [] (z ∷ r) b h = h.1.1.0
-next_in s x a (y ∷ l) r b h = next_in s x y l r b h.1.1
+pub amid : (s : Links) (x a : ℕ) (l r : List ℕ) (b : ℕ) → Chain s a (l ++ x ∷ r) b → IsAmid s x (last_of a l) (first_of r b)
+amid s x a [] [] b h = record { prev = h.1.0; next = h.1.1.0; back = h.0; forth = h.1.1.1 }
+amid s x a [] (z ∷ r) b h = record { prev = h.1.0; next = h.1.1.0; back = h.0; forth = h.1.1.1.0 }
+amid s x a (y ∷ l) r b h = amid s x y l r b h.1.1
 
 apart-last : (a y : ℕ) (l r : List ℕ) → Apart a (y ∷ l ++ r) → last_of y l ≢ a
 apart-last a y [] r h = h.0
@@ -115,35 +157,17 @@ removed s x a (y ∷ l) r b i j ei ej li lj d ab h = (
   ),
 )
 
-next_last : (s : Links) (x a : ℕ) (l r : List ℕ) (b : ℕ) → Chain s a (l ++ x ∷ r) b → get_or s.next (last_of a l) 0 ≡ x
-next_last s x a [] r b h = h.0
-next_last s x a (y ∷ l) r b h = next_last s x y l r b h.1.1
-
-prev_first : (s : Links) (x a : ℕ) (l r : List ℕ) (b : ℕ) → Chain s a (l ++ x ∷ r) b → get_or s.prev (first_of r b) 0 ≡ x
-prev_first s x a [] [] b h = h.1.1.1
-prev_first s x a [] (z ∷ r) b h = h.1.1.1.0
-prev_first s x a (y ∷ l) r b h = prev_first s x y l r b h.1.1
-
-x_last : (x a : ℕ) (l r : List ℕ) → Distinct (a ∷ l ++ x ∷ r) → x ≢ last_of a l
-x_last x a [] r d = d.0.0
-x_last x a (y ∷ l) r d = x_last x y l r d.1
-
-x_first : (x a : ℕ) (l r : List ℕ) (b : ℕ) → Distinct (a ∷ l ++ x ∷ r) → Apart b (l ++ x ∷ r) → x ≢ first_of r b
-x_first x a [] [] b d ab = ab.0
-x_first x a [] (z ∷ r) b d ab = λ e. d.1.0.0 (sym e)
-x_first x a (y ∷ l) r b d ab = x_first x y l r b d.1 ab.1
+alone : (x a : ℕ) (l r : List ℕ) (b : ℕ) → Distinct (a ∷ l ++ x ∷ r) → Apart b (l ++ x ∷ r) → (x ≢ last_of a l) × (x ≢ first_of r b)
+alone x a [] [] b d ab = (d.0.0, ab.0)
+alone x a [] (z ∷ r) b d ab = (d.0.0, λ e. d.1.0.0 (sym e))
+alone x a (y ∷ l) r b d ab = alone x y l r b d.1 ab.1
 
 -- a node of a ring stands between its neighbours
 pub between : (s : Links) (x a : ℕ) (l r : List ℕ) (b : ℕ) → Distinct (a ∷ l ++ x ∷ r) → Apart b (l ++ x ∷ r) → Chain s a (l ++ x ∷ r) b → IsBetween s x
 between s x a l r b d ab h =
-    let p = prev_in s x a l r b h in
-    let n = next_in s x a l r b h in
-    record {
-      back = ap (λ k. get_or s.next k 0) p ∙ next_last s x a l r b h;
-      forth = ap (λ k. get_or s.prev k 0) n ∙ prev_first s x a l r b h;
-      left = λ e. x_last x a l r d (e ∙ p);
-      right = λ e. x_first x a l r b d ab (e ∙ n);
-    }
+    let m = amid s x a l r b h in
+    let n = alone x a l r b d ab in
+    record { back = ap (λ k. get_or s.next k 0) m.prev ∙ m.back; forth = ap (λ k. get_or s.prev k 0) m.next ∙ m.forth; left = λ e. n.0 (e ∙ m.prev); right = λ e. n.1 (e ∙ m.next) }
 
 -- each node's links are nodes
 abbrev pub InRange : Links → ℕ → Type 0
@@ -151,4 +175,34 @@ InRange s x = (get_or s.prev x 0 < length s.next) × (get_or s.next x 0 < length
 
 -- unlink takes the node out of the list
 pub ring-unlink : (s : Links) (x h : ℕ) (l r : List ℕ) → InRange s x → Distinct (h ∷ l ++ x ∷ r) → IsLinkedRing s h (l ++ x ∷ r) → IsLinkedRing (unlink x s) h (l ++ r)
-ring-unlink s x h l r g d c = removed s x h l r h (get_or s.prev x 0) (get_or s.next x 0) (prev_in s x h l r h c) (next_in s x h l r h c) g.0 g.1 d d.0 c
+ring-unlink s x h l r g d c = removed s x h l r h (get_or s.prev x 0) (get_or s.next x 0) (amid s x h l r h c).prev (amid s x h l r h c).next g.0 g.1 d d.0 c
+
+-- ---- the loops over the circles
+
+pub take_all-append : (xs ys : List ℕ) (a : Arrays) → take_all (xs ++ ys) a ≡ take_all ys (take_all xs a)
+take_all-append [] ys a = refl
+take_all-append (x ∷ xs) ys a = take_all-append xs ys (take x a)
+
+pub give_all-append : (xs ys : List ℕ) (a : Arrays) → give_all (xs ++ ys) a ≡ give_all xs (give_all ys a)
+give_all-append [] ys a = refl
+give_all-append (x ∷ xs) ys a = ap (give x) (give_all-append xs ys a)
+
+two_entries : (n p c : ℕ) → c ≢ p → entries_on n p c ≡ (2 * (c * n + p)) ∷ (2 * (c * n + p) + 1) ∷ []
+two_entries n p c h = ap (λ b. if b then [] else (2 * (c * n + p)) ∷ (2 * (c * n + p) + 1) ∷ []) (eqb_false c p h)
+
+no_entries : (n p c : ℕ) → c ≡ p → entries_on n p c ≡ []
+no_entries n p c h = ap (λ b. if b then [] else (2 * (c * n + p)) ∷ (2 * (c * n + p) + 1) ∷ []) (eq-eqb c p h)
+
+pub taken : (n p c e : ℕ) (a b : Arrays) → c ≢ p → e ≡ 2 * (c * n + p) → b ≡ take_all (entries_of n p c) a → take (e + 1) (take e b) ≡ take_all (entries_of n p (c + 1)) a
+taken n p c e a b h ee eb = search (rules, add-one, take_all-append, two_entries)
+
+pub skipped : (n p c : ℕ) (a b : Arrays) → c ≡ p → b ≡ take_all (entries_of n p c) a → b ≡ take_all (entries_of n p (c + 1)) a
+skipped n p c a b h eb = search (rules, add-one, take_all-append, no_entries)
+
+pub given : (n p c e : ℕ) (b t : Arrays) → c ≢ p → e ≡ 2 * (c * n + p) → give_all (entries_of n p (suc c)) b ≡ t → give_all (entries_of n p c) (give e (give (e + 1) b)) ≡ t
+given n p c e b t h ee eb = search (rules, give_all-append, two_entries)
+
+pub passed : (n p c : ℕ) (b t : Arrays) → c ≡ p → give_all (entries_of n p (suc c)) b ≡ t → give_all (entries_of n p c) b ≡ t
+passed n p c b t h eb =
+    sym (ap (λ l. give_all (entries_of n p c) (give_all l b)) (no_entries n p c h))
+    ∙ (sym (give_all-append (entries_of n p c) (entries_on n p c) b) ∙ eb)

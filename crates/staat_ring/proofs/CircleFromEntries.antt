@@ -36,8 +36,7 @@ use Rattle.staat_ring.proofs.CircleFromHalf.{IsHalf, circle_from_half, whole_cir
 use Rattle.staat_ring.proofs.Divided.{length-stops, stop_at}
 use Rattle.staat_ring.proofs.HalfTurn.{IsOnHalf, Precedes, ahead_trans, axis_apart, axis_differs, axis_first, flat_facet, not_before, on_half, one_vertex, precedes, ray_negative, some_normal, on_all_axes, transitive, unit, vertex}
 use Rattle.staat_ring.proofs.RingLemmas.{map_same}
-use Rattle.staat_ring.proofs.Steps.{negative_on, not_both, primitive_on}
-use Rattle.staat_ring.proofs.TurnOrder.{turn_same, turn}
+use Rattle.staat_ring.proofs.Steps.{negative_on, not_both, primitive_on, turn_same, turn}
 
 -- ---- stops, one by one
 

@@ -12,8 +12,7 @@ use Rattle.staat_vec.specs.Primitives.{primitive}
 use Rattle.staat_vec.specs.Lists.{Lists, ListsOnce}
 use Rattle.staat_model.proofs.Members.{All-from_members}
 use Rattle.staat_model.specs.Circles.{Stop, IsLinked, IsOnCircle, IsNext, IsCircle, IsAfter, PassesThrough, axis_beside}
-use Rattle.staat_ring.proofs.Cycles.{following}
-use Rattle.staat_ring.proofs.TurnOrder.{NextIn, turn, turn_back, turn_same, turn_negative_left, turn_negative_right}
+use Rattle.staat_ring.proofs.Steps.{following, NextBy, turn, turn_back, turn_same, turn_negative_left, turn_negative_right}
 use Rattle.staat_vec.proofs.Integers.{zero_not_positive}
 use Rattle.staat_vec.proofs.Naturals.{lt_or_le, trichotomy}
 use Rattle.staat_vec.proofs.ListLaws.{Contains-from_map, Contains-map}
@@ -137,10 +136,10 @@ module _ (table : List V3) (linked : List ℕ) (c : ℕ) (g axis : V3) (hs : Lis
       (lt_or_le (i + n) k)
 
   -- each vertex and the one that follows it in the list, the list being cyclic
-  next : (k m : ℕ) → k < n + n → m < n + n → (m ≡ k + 1) ⊎ ((k + 1 ≡ n + n) × (m ≡ 0)) → NextIn g all (at all k) (at all m)
+  next : (k m : ℕ) → k < n + n → m < n + n → (m ≡ k + 1) ⊎ ((k + 1 ≡ n + n) × (m ≡ 0)) → NextBy (Contains all) g (at all k) (at all m)
   next k m lk lm e = record {
-    ahead = (turns k m lk lm).1 (let two = half.two in ⊎_elim {C = Follows k m} (λ e. inl (omega (arith, e), omega (arith, e, two))) (λ e. inr (omega (arith, e.0, e.1, two))) e);
-    nothing_between = λ u (p, lp, at_p) vu uw.
+    after = (turns k m lk lm).1 (let two = half.two in ⊎_elim {C = Follows k m} (λ e. inl (omega (arith, e), omega (arith, e, two))) (λ e. inr (omega (arith, e.0, e.1, two))) e);
+    none = λ u (p, lp, at_p) vu uw.
         let within : p < n + n = omega (arith, lp, size) in
         let is = sym (get_or_default all p origin u lp ∙ at_p) in
         let x = (turns k p lk within).0 (subst (λ y. pos 0 <ℤ turn g (at all k) y) is vu) in
@@ -168,10 +167,10 @@ module _ (table : List V3) (linked : List ℕ) (c : ℕ) (g axis : V3) (hs : Lis
         let lk = slice_get_within stops k s ks in
         let lm = slice_get_within stops m t kt in
         let step = next k m (omega (arith, lk, count)) (omega (arith, lm, count)) (subst (λ l. (m ≡ k + 1) ⊎ ((k + 1 ≡ l) × (m ≡ 0))) count (following k (length stops) lk)) in
-        let is = subst (λ v. NextIn g all v t.vertex) (vertex_at k s ks) (subst (NextIn g all (at all k)) (vertex_at m t kt) step) in
+        let is = subst (λ v. NextBy (Contains all) g v t.vertex) (vertex_at k s ks) (subst (NextBy (Contains all) g (at all k)) (vertex_at m t kt) step) in
         record {
-          after = is.ahead;
-          nothing_between = All-from_members (λ u. IsAfter g s.vertex u.vertex → IsAfter g u.vertex t.vertex → ⊥) stops (λ u cu. is.nothing_between u.vertex (subst (λ xs. Contains xs u.vertex) vs (Contains-map (λ s. s.vertex) stops u cu)));
+          after = is.after;
+          nothing_between = All-from_members (λ u. IsAfter g s.vertex u.vertex → IsAfter g u.vertex t.vertex → ⊥) stops (λ u cu. is.none u.vertex (subst (λ xs. Contains xs u.vertex) vs (Contains-map (λ s. s.vertex) stops u cu)));
         }
 
     same_place : (k m : ℕ) (x : V3) → slice_get all k ≡ Some x → slice_get all m ≡ Some x → k ≡ m

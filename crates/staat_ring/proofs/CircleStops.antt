@@ -22,17 +22,16 @@ use Rattle.staat_model.proofs.VertexLemmas.{in_vertices}
 use Rattle.staat_ring.specs.declared.entry.Entry.{Entry}
 use Rattle.staat_ring.specs.Rings.{IsRingOf, NameVertex, Ring, RingStop, crossing, facet_by, stop_of, vertex_of}
 use Rattle.staat_ring.proofs.Stops.{AreLinkedApart, stop_there}
-use Rattle.staat_ring.proofs.Steps.{primitive_on, negative_on, on_plane, side_is}
+use Rattle.staat_ring.proofs.Steps.{primitive_on, negative_on, on_plane, side_is, turn, turn_back, turn_negative_left, turn_negative_right}
 use Rattle.staat_vec.proofs.ListLaws.{place_of, Contains-map, Contains-from_map, contains_or}
 use Rattle.staat_vec.proofs.VecRing.{dot_cross_right}
 use Rattle.staat_vec.specs.declared.vector.Sign.TheVariants.{Zero}
-use Rattle.staat_ring.specs.StopSigns.{stop_sign, with_stop_signs}
+use Rattle.staat_ring.specs.SignChanges.{stop_sign, with_stop_signs}
 use Rattle.staat_ring.specs.CountedSigns.{Signed, state_at}
 use Rattle.staat_ring.proofs.HalfTurn.{some_normal}
-use Rattle.staat_ring.proofs.TurnOrder.{turn, turn_back, turn_negative_left, turn_negative_right}
 use Rattle.staat_ring.specs.Belonging.{HoldSigns}
 use Rattle.staat_planes.specs.PairOrder.{plane_at}
-use Rattle.staat_ring.proofs.StopSigns.{stop_signs_other, stop_signs_same, stop_signs_there}
+use Rattle.staat_ring.proofs.SignAll.{stop_signs_other, stop_signs_same, stop_signs_there}
 use Rattle.staat_vec.proofs.Signs.{negative_sign, positive_sign, zero_sign}
 use Rattle.staat_vec.proofs.Naturals.{same_or}
 

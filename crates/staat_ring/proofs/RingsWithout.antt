@@ -15,11 +15,8 @@ use Rattle.staat_ring.specs.Rings.{IsRingOf, Ring, RingStop, stop_of, vertex_of,
 use Rattle.staat_ring.proofs.Stops.{AreLinkedApart, none_parallel}
 use Rattle.staat_ring.proofs.CircleFromHalf.{crossing_turned}
 use Rattle.staat_ring.proofs.CircleStops as circle
-use Rattle.staat_ring.proofs.TurnOrder.{turn, turnE, turn_same}
+use Rattle.staat_ring.proofs.Steps.{turn, turnE, turn_same, Around, around_filter, whole, turn_is_side, on_plane, IsPoint, nothing_kept, still_after, NextBy}
 use Rattle.staat_ring.specs.Without.{stays, other_than, ring_without, stop_without, rings_without}
-use Rattle.staat_ring.proofs.Cycles.{Around, around_filter}
-use Rattle.staat_ring.proofs.Steps.{whole, turn_is_side, on_plane}
-use Rattle.staat_ring.proofs.NextVertexWithout.{IsPoint, nothing_kept, still_after}
 use Rattle.staat_ring.proofs.WithoutLemmas.{filter_from, filter_in, leaves_by, stays_by, stays_has, Different, agree_without, different_filter, vertex_stays}
 use Rattle.staat_vec.proofs.Truth.{false_true_clash}
 use Rattle.staat_vec.proofs.Integers.{positive_not_zero, mul-zero_ℤ, other_factor_zero, zero_or}
@@ -40,11 +37,6 @@ use Rattle.staat_pairs.specs.Tables.{AreTablePlanes}
 -- the linked planes but p
 abbrev pub planes_without : ℕ → List ℕ → List ℕ
 planes_without p linked = filter (λ k. not (k == p)) linked
-
--- w is the next after v among the vertices that have P
-record NextBy (P : V3 → Type 0) (g v w : V3) : Type 0 where
-  pub after : pos 0 <ℤ turn g v w
-  pub none : (x : V3) → P x → pos 0 <ℤ turn g v x → pos 0 <ℤ turn g x w → ⊥
 
 -- of two vectors on one line neither is turned from the other
 line_turn : (g q x y : V3) → (x ≡ q) ⊎ (x ≡ negative q) → (y ≡ q) ⊎ (y ≡ negative q) → turn g x y ≡ pos 0

@@ -16,10 +16,11 @@ use Rattle.staat_vec.specs.Vectors.{origin}
 use Rattle.staat_model.specs.Planes.{vertices}
 use Rattle.staat_planes.specs.PairOrder.{plane_at}
 use Rattle.staat_ring.specs.Rings.{IsRingOf, Ring, RingStop, crossing, vertex_of}
-use Rattle.staat_ring.specs.StopSigns.{with_stop_signs}
+use Rattle.staat_ring.specs.SignChanges.{with_stop_signs}
 use Rattle.staat_ring.specs.WholeCircles.{AreSignsAt, IsWholeCircle, no_stop, stop_at, vertex_at}
 use Rattle.staat_ring.proofs.Built.{below_all}
 use Rattle.staat_ring.proofs.CircleStops as circle
+use Rattle.staat_ring.proofs.SignAll.{stop_signs_same}
 use Rattle.staat_ring.proofs.Stops.{AreLinkedApart, none_parallel}
 
 -- the numbers of all planes
@@ -81,3 +82,6 @@ module _ (planes : List V3) (table : AreTablePlanes planes) (r : Ring) (is : IsW
       from_all planes (with_stop_signs false (stop_at r k).entries (with_stop_signs true (stop_at r (k - 1)).entries now)) (vertex_at planes r k)
       (circle.cross_signs planes (all planes) r apart ring (stop_at r (k - 1)) (stop_at r k) (k - 1) (there (k - 1) before)
       (subst (λ m. slice_get r.stops m ≡ Some (stop_at r k)) next (there k lt)) now size (to_linked planes (all planes) now (vertex_at planes r (k - 1)) signs))
+
+-- what a crossing of a whole circle cites
+pub ruleset crossing_steps = (stop_signs_same, entries_small, crossed)

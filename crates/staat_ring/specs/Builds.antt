@@ -1,7 +1,6 @@
 -- The entries of a circle while it is built, and its stops.
-use Rattle.std.specs.Prelude.{◌≡◌, ◌≢◌, ◌⊎◌, ℕ, ◌<◌, ◌≤◌, ℤ, Bool}
-use Rattle.std.specs.Prelude.{not, List, [], ◌∷◌, ◌++◌, map, Contains}
-use Rattle.std.specs.Prelude.{length, pos, ◌<ℤ◌, slice_index_or}
+use Rattle.std.specs.Prelude.{◌≡◌, ◌≢◌, ◌⊎◌, ℕ, ◌<◌, ◌≤◌, ℤ, Bool, not, List, [], ◌∷◌, ◌++◌, map, Contains, length}
+use Rattle.std.specs.Prelude.{pos, ◌<ℤ◌, slice_index_or}
 use Rattle.std.specs.List.{between}
 use Rattle.staat_vec.specs.declared.vector.V3.{V3}
 use Rattle.staat_vec.specs.Vectors.{cross, det}

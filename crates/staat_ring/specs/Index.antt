@@ -1,6 +1,5 @@
 -- While the facets of a table are put down.
-use Rattle.std.specs.Prelude.{◌≡◌, ◌≢◌, ◌⊎◌, ℕ, ◌<◌, ◌≤◌, List, length, take, sum}
-use Rattle.std.specs.Prelude.{Some, slice_get}
+use Rattle.std.specs.Prelude.{◌≡◌, ◌≢◌, ◌⊎◌, ℕ, ◌<◌, ◌≤◌, List, length, take, sum, Some, slice_get}
 use Rattle.staat_vec.specs.declared.vector.Sign.TheVariants.{Zero}
 use Rattle.staat_model.specs.declared.certificate.Arc.{Arc}
 use Rattle.staat_model.specs.Sets.{Has}

@@ -3,14 +3,9 @@ pub mod Without
 pub mod Laws
 pub mod Links
 pub mod Stands
-pub mod Within
-pub mod Planes
-pub mod Views
 pub mod RingViews
-pub mod RingInvariant
 pub mod Order
 pub mod Builds
-pub mod Rows
 pub mod Numbered
 pub mod Linking
 pub mod Places
@@ -21,6 +16,5 @@ pub mod SignChanges
 pub mod Belonging
 pub mod Index
 pub mod Stepping
-pub mod StopSigns
 pub mod Walked
 pub mod WholeCircles

@@ -1,15 +1,13 @@
 -- The circles while they are linked, one after another.
-use Rattle.std.specs.Prelude.{◌≡◌, ℕ, ◌<◌, ◌≤◌, List, [], length, map, All}
-use Rattle.std.specs.Prelude.{Contains, slice_index}
+use Rattle.std.specs.Prelude.{◌≡◌, ℕ, ◌<◌, ◌≤◌, List, [], length, map, All, Contains, slice_index}
 use Rattle.staat_vec.specs.declared.vector.V3.{V3}
 use Rattle.staat_ring.specs.declared.entry.Entry.{Entry}
 use Rattle.staat_ring.specs.Builds.{ring_by, slot_at}
 use Rattle.staat_ring.specs.Links.{Apart, Arrays, Distinct, Links, IsLinkedRing}
-use Rattle.staat_ring.specs.Numbered.{HasEntry, circle_of_node, entry_count, entry_number}
-use Rattle.staat_ring.specs.Numbered.{entry_numbers, head_number, ring_node_count, node_number, vertex_row}
+use Rattle.staat_ring.specs.Numbered.{HasEntry, circle_of_node, entry_count, entry_number, entry_numbers, head_number}
+use Rattle.staat_ring.specs.Numbered.{ring_node_count, node_number, vertex_row, Row, all_of, row_at}
 use Rattle.staat_ring.specs.Rings.{IsRingOf}
 use Rattle.staat_ring.specs.RingViews.{numbers_below}
-use Rattle.staat_ring.specs.Rows.{Row, all_of, row_at}
 
 -- the words of y are the same
 pub record IsSameAt (s t : Links) (y : ℕ) : Type 0 where

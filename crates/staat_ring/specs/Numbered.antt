@@ -1,9 +1,24 @@
--- The numbers of nodes, for n planes. First come the entries, two for each plane on each circle. A stop is numbered by
--- its first entry, beyond all entries.
-use Rattle.std.specs.Prelude.{ℕ, ◌+◌, ◌*◌, ◌/◌, ◌%◌, ◌<◌, ◌==◌, List, [], ◌∷◌, length}
-use Rattle.std.specs.Prelude.{map, if◌then◌else◌}
+-- Rings as rows of numbers, and the numbers of nodes, for n planes. First come the entries, two for each plane on each
+-- circle. A stop is numbered by its first entry, beyond all entries.
+use Rattle.std.specs.Prelude.{ℕ, List, [], ◌∷◌, slice_index_or, ◌+◌, ◌*◌, ◌/◌, ◌%◌, ◌<◌, ◌==◌, length, map}
+use Rattle.std.specs.Prelude.{if◌then◌else◌}
 use Rattle.staat_ring.specs.declared.entry.Entry.{Entry}
-use Rattle.staat_ring.specs.Rows.{Row}
+
+-- a ring by its head and its nodes
+pub record Row : Type 0 where
+  pub head : ℕ
+  pub nodes : List ℕ
+
+abbrev pub no_row : Row
+no_row = record { head = 0; nodes = [] }
+
+abbrev pub row_at : List Row → ℕ → Row
+row_at rows k = slice_index_or rows k no_row
+
+abbrev pub all_of : Row → List ℕ
+all_of r = r.head ∷ r.nodes
+
+-- ---- the numbers
 
 -- the first of the two entries of the plane p on the circle c; the other one, which is turned, follows it
 abbrev pub entry_of_plane : ℕ → ℕ → ℕ → ℕ

@@ -1,18 +1,5 @@
 -- Where one stands on rings: at a stop of a circle, and at one of its entries, by their numbers.
-use Rattle.std.specs.Prelude.{
-  ◌≡◌,
-  ℕ,
-  ◌+◌,
-  ◌≤◌,
-  List,
-  [],
-  ◌∷◌,
-  length,
-  drop,
-  Contains,
-  Some,
-  slice_get,
-}
+use Rattle.std.specs.Prelude.{◌≡◌, ℕ, ◌+◌, ◌≤◌, List, [], ◌∷◌, length, drop, Contains, Some, slice_get}
 use Rattle.staat_ring.specs.declared.entry.Entry.{Entry}
 use Rattle.staat_ring.specs.Rings.{Arrangement, Ring, RingStop}
 use Rattle.staat_ring.specs.Numbered.{entry_number}

@@ -1,13 +1,52 @@
--- The arrangement that the arrays show, and when they stand for one.
-use Rattle.std.specs.Prelude.{◌≡◌, ℕ, zero, suc, ◌<◌, ◌≤◌, List, [], ◌∷◌, ◌++◌, map}
-use Rattle.std.specs.Prelude.{length, take, drop, Bool, false, not, ◌||◌, ◌==◌, Contains}
-use Rattle.std.specs.List.{filter}
-use Rattle.staat_ring.specs.Links.{Arrays, give_all}
-use Rattle.staat_ring.specs.Numbered.{circle_of_node, entry_number, entry_numbered, head_number, plane_of}
-use Rattle.staat_ring.specs.Rings.{Arrangement, Ring}
-use Rattle.staat_ring.specs.Stands.{AllPresent, EachEntry, EachVertex, RingLists, Shape, StandFor, is_empty}
-use Rattle.staat_ring.specs.Planes.{entries_of}
-use Rattle.staat_ring.specs.Views.{lists_of, undo_all, unlinked_planes}
+-- The arrangement that the arrays show, when they stand for one, and the invariant of the rings.
+use Rattle.std.specs.Prelude.{ℕ, zero, suc, ◌+◌, List, [], ◌∷◌, ◌++◌, ◌==◌, if◌then◌else◌, length, slice_index}
+use Rattle.std.specs.Prelude.{◌≡◌, ◌<◌, ◌≤◌, map, take, drop, Bool, false, not, ◌||◌, Contains, slice_index_or}
+use Rattle.staat_ring.specs.Numbered.{entry_of_plane, circle_of_node, entry_number, entry_numbered, head_number}
+use Rattle.staat_ring.specs.Numbered.{plane_of, ring_node_count}
+use Rattle.staat_ring.specs.Links.{Links, Arrays, give_all}
+use Rattle.staat_ring.specs.Rings.{UnlinkedPlane, Arrangement, Ring}
+use Rattle.staat_ring.specs.Stands.{Shape, RingLists, AllPresent, EachEntry, EachVertex, StandFor, is_empty}
+use Rattle.std.specs.List.{filter, range_with_len}
+use Rattle.staat_limits.specs.declared.limits.TheConstants.{MOST_PLANES}
+
+-- the two entries of plane p on circle c, of n circles
+abbrev pub entries_on : ℕ → ℕ → ℕ → List ℕ
+entries_on n p c = if c == p then [] else entry_of_plane n c p ∷ (entry_of_plane n c p + 1) ∷ []
+
+-- those on the circles below c
+abbrev pub entries_of : ℕ → ℕ → ℕ → List ℕ
+entries_of n p zero = []
+entries_of n p (suc c) = entries_of n p c ++ entries_on n p c
+
+-- ---- the lists as the arrays give them, and the planes that are unlinked, each with what stood before
+
+-- the nodes from x on until the head comes, at most so many
+abbrev pub nodes_from : ℕ → List ℕ → ℕ → ℕ → List ℕ
+nodes_from zero next head x = []
+nodes_from (suc n) next head x = if x == head then [] else x ∷ nodes_from n next head (slice_index next x)
+
+-- the ring of a head
+abbrev pub ring_nodes : Links → ℕ → List ℕ
+ring_nodes s head = nodes_from (length s.next) s.next head (slice_index s.next head)
+
+-- what the arrays give
+abbrev pub lists_of : Shape → Arrays → RingLists
+lists_of g a = record { vertices = λ c. ring_nodes a.circles (g.head c); entries = ring_nodes a.vertices }
+
+-- undoing the planes, the last first
+abbrev pub undo_all : {A : Type 0} → (ℕ → A → A) → List ℕ → A → A
+undo_all undo [] a = a
+undo_all undo (p ∷ ps) a = undo p (undo_all undo ps a)
+
+-- the unlinked planes in the order of their unlinking; done are those before
+abbrev pub unlinked_planes : {A R : Type 0} → (ℕ → A → A) → (List ℕ → A → R) → List ℕ → List ℕ
+    → A → List (UnlinkedPlane R)
+unlinked_planes undo rings done [] a = []
+unlinked_planes undo rings done (p ∷ ps) a =
+    (record { plane = p; before = rings done (undo p (undo_all undo ps a)) })
+    ∷ unlinked_planes undo rings (done ++ p ∷ []) ps a
+
+-- ---- the arrangement that the arrays show, and when they stand for one
 
 -- the heads and the circles of the numbers for n planes
 abbrev pub shape : ℕ → Shape
@@ -18,8 +57,7 @@ is_out [] p = false
 is_out (q ∷ qs) p = (q == p) || is_out qs p
 
 abbrev pub numbers_below : ℕ → List ℕ
-numbers_below zero = []
-numbers_below (suc n) = numbers_below n ++ n ∷ []
+numbers_below n = range_with_len 0 n
 
 -- the planes that are not out
 abbrev pub still_linked : ℕ → List ℕ → List ℕ
@@ -67,3 +105,26 @@ StandForCircles n out a = StandForLists n out (lists_of (shape n) a) a
 abbrev pub CanBeUndone : ℕ → List ℕ → Arrays → Type 0
 CanBeUndone n out a =
     (k : ℕ) → k ≤ length out → StandForCircles n (take k out) (undo_all (undo n) (drop k out) a)
+
+-- ---- the invariant of the rings
+
+-- arrays of n planes, of which the first ones of the order were taken out
+pub record HaveTakenOut (n count : ℕ) (order : List ℕ) (a : Arrays) : Type 0 where
+  pub few : n ≤ MOST_PLANES
+  pub room : length a.home ≡ ring_node_count n
+  pub size : length order ≡ n
+  pub most : count ≤ n
+  -- each plane that was taken out was linked until then
+  pub all : (k : ℕ) → k ≤ count → k + length (still_linked n (take k order)) ≡ n
+  pub planes : (k : ℕ) → k < count → slice_index order k < n
+  pub sound : CanBeUndone n (take count order) a
+
+-- a flag for each of n planes: whether it is linked
+pub record AreFlags (n : ℕ) (out : List ℕ) (flags : List Bool) : Type 0 where
+  pub size : length flags ≡ n
+  pub each : (p : ℕ) → p < n → slice_index_or flags p false ≡ not (is_out out p)
+
+-- what rings keep
+pub record AreFlagged (n count : ℕ) (order : List ℕ) (linked : List Bool) (a : Arrays) : Type 0 where
+  pub arrays : HaveTakenOut n count order a
+  pub flags : AreFlags n (take count order) linked

@@ -1,11 +1,12 @@
 -- What changes of signs, and how the counts are kept.
-use Rattle.std.specs.Prelude.{◌≡◌, ℕ, ◌+◌, ◌<◌, List, [], ◌∷◌, ◌++◌, Bool, true, false}
-use Rattle.std.specs.Prelude.{length, All, slice_set}
+use Rattle.std.specs.Prelude.{◌≡◌, ℕ, ◌+◌, ◌<◌, List, [], ◌∷◌, ◌++◌, Bool, true, false, length, All, slice_set}
 use Rattle.std.specs.List.{sum_by}
 use Rattle.staat_vec.specs.declared.vector.Sign.{Sign}
 use Rattle.staat_ring.specs.declared.pairs.PairCount.{PairCount}
 use Rattle.staat_ring.specs.Pairs.{occurs, pair_at}
 use Rattle.staat_ring.specs.CountedSigns.{PlaneState, Signed, positives, state_at}
+use Rattle.staat_vec.specs.declared.vector.Sign.TheVariants.{Neg, Zero, Pos}
+use Rattle.staat_ring.specs.declared.entry.Entry.{Entry}
 
 -- the plane with another sign
 abbrev pub with_sign : Sign → PlaneState → PlaneState
@@ -42,3 +43,17 @@ pub record AreSigned (states : List PlaneState) (pairs : List PairCount) : Type 
   pub few : (q : ℕ) → uses q states < 65536
   pub along : All (λ s. All (λ q. q < length pairs) s.along) states
   pub against : All (λ s. All (λ q. q < length pairs) s.against) states
+
+-- ---- what a walk changes at a stop: the signs of the planes through it
+
+-- The sign of a plane just after the stop, if the walk leaves it, and at it, if not. The walk leaves a plane's
+-- crossing to the plane's negative side, and the opposite one to its positive side.
+abbrev pub stop_sign : Bool → Bool → Sign
+stop_sign false turned = Zero
+stop_sign true false = Neg
+stop_sign true true = Pos
+
+-- all planes through the stop get their signs
+abbrev pub with_stop_signs : Bool → List Entry → Signed → Signed
+with_stop_signs leaves [] s = s
+with_stop_signs leaves (e ∷ es) s = with_stop_signs leaves es (with_plane_sign e.plane (stop_sign leaves e.turned) s)

@@ -1,8 +1,6 @@
 -- What the arrays stand for: for each circle the list of its vertices, for each vertex the list of its entries.
-use Rattle.std.specs.Prelude.{◌≡◌, ℕ, ◌<◌, List, [], ◌∷◌, length, slice_index, Bool, true, false}
-use Rattle.std.specs.Prelude.{Contains, All}
-use Rattle.staat_ring.specs.Links.{Apart, Links, IsLinkedRing, Distinct, Arrays}
-use Rattle.staat_ring.specs.Within.{InRange}
+use Rattle.std.specs.Prelude.{◌≡◌, ℕ, ◌<◌, List, [], ◌∷◌, length, slice_index, Bool, true, false, Contains, All}
+use Rattle.staat_ring.specs.Links.{Apart, Links, IsLinkedRing, Distinct, Arrays, InRange}
 
 abbrev pub is_empty : List ℕ → Bool
 is_empty [] = true

@@ -1,6 +1,5 @@
 -- The circle of a plane among all planes of a table, and the signs of the planes at its vertices.
-use Rattle.std.specs.Prelude.{◌≡◌, ◌↔◌, ℕ, ◌<◌, ◌≤◌, List, [], Contains}
-use Rattle.std.specs.Prelude.{Some, length, slice_get, slice_index_or}
+use Rattle.std.specs.Prelude.{◌≡◌, ◌↔◌, ℕ, ◌<◌, ◌≤◌, List, [], Contains, Some, length, slice_get, slice_index_or}
 use Rattle.staat_vec.specs.declared.vector.V3.{V3}
 use Rattle.staat_vec.specs.Vectors.{dot, sign}
 use Rattle.staat_ring.specs.CountedSigns.{Signed, positives, state_at}

@@ -1,10 +1,8 @@
 // The arrays of all rings.
-ghost use Rattle.std.specs.Prelude.{◌≡◌, ◌≢◌, ℕ, ◌+◌, ◌<◌, ◌≤◌, ◌^◌, IfOk};
-ghost use Rattle.std.specs.Prelude.{List, length, slice_index};
-ghost use Rattle.staat_ring.specs.Links.{take, give, take_all, give_all};
+ghost use Rattle.std.specs.Prelude.{◌≡◌, ◌≢◌, ℕ, ◌+◌, ◌<◌, ◌≤◌, ◌^◌, IfOk, List, length, slice_index};
+ghost use Rattle.staat_ring.specs.Links.{take, give, take_all, give_all, InRange};
 ghost use Rattle.staat_ring.specs.Stands.{IsShortRing};
-ghost use Rattle.staat_ring.specs.Within.{InRange};
-ghost use Rattle.staat_ring.specs.Planes.{entries_of};
+ghost use Rattle.staat_ring.specs.RingViews.{entries_of};
 ghost use Rattle.staat_ring.specs.Linking.{AreSized, CanBeLinked, HoldsCircle, IsAlone, IsKeptAt};
 ghost use Rattle.staat_ring.specs.Numbered.{circle_of_node, entry_count, entry_of_plane, head_number, ring_node_count};
 
@@ -25,8 +23,7 @@ pub struct RingArrays {
 }
 
 impl Model for RingArrays {
-    ghost use Rattle.staat_ring.specs.Links.{Arrays, coded_arrays};
-    ghost use Rattle.staat_ring.specs.Within.{AreArrays};
+    ghost use Rattle.staat_ring.specs.Links.{Arrays, coded_arrays, AreArrays};
 
     ghost Value = { Arrays };
 
@@ -77,7 +74,7 @@ impl RingArrays {
     }
 
     /// Takes all entries of a plane out.
-    #[tactic(auto, using(crate::proofs::Loops::taken, crate::proofs::Loops::skipped))]
+    #[tactic(auto, using(crate::proofs::Chains::taken, crate::proofs::Chains::skipped))]
     pub fn take_plane(&mut self, planes: u32, p: u32)
         requires planes { planes ≤ MOST_PLANES }
         requires plane { p < planes }
@@ -115,21 +112,16 @@ impl RingArrays {
 }
 
 impl RingArrays {
-    // every word is a node
-    pub(crate) fn all_in_range(&self)
-        ensures circles { InRange self.now.circles }
-        ensures vertices { InRange self.now.vertices }
-    {
-        self.circles.range();
-        self.vertices.range();
-    }
-
-    // the arrays have one length
+    // the arrays have one length, and every word is a node
     pub(crate) fn sizes(&self)
         ensures circles { length self.now.circles.next ≡ length self.now.home }
         ensures vertices { length self.now.vertices.next ≡ length self.now.home }
+        ensures circle_words { InRange self.now.circles }
+        ensures vertex_words { InRange self.now.vertices }
     {
         let _count = self.home.len();
+        self.circles.range();
+        self.vertices.range();
     }
 
     /// The node that follows on a circle.

@@ -1,6 +1,5 @@
 // How many pairs of pieces block for each ordered pair of parts, and the graph that shows where there are some.
-ghost use Rattle.std.specs.Prelude.{◌≡◌, ◌+◌, ◌<◌, ◌^◌, ◌↔◌};
-ghost use Rattle.std.specs.Prelude.{IfOk, IsTrue, replicate, slice_index, slice_set, ◌-◌};
+ghost use Rattle.std.specs.Prelude.{◌≡◌, ◌+◌, ◌<◌, ◌^◌, ◌↔◌, IfOk, IsTrue, replicate, slice_index, slice_set, ◌-◌};
 ghost use Rattle.staat_model.specs.Sets.{IsNonempty};
 ghost use Rattle.staat_graph.specs.Graphs.{IsStrong};
 ghost use Rattle.staat_ring.specs.BlockCounts.{HasBlock, IsArcWritten, IsGraphOf, part_pairs};
@@ -65,14 +64,6 @@ impl BlockCounts {
         })
     }
 
-    // how many pairs of pieces block for the parts whose number stands at x
-    fn count(&self, x: u16) -> u16
-        requires { x < part_pairs }
-        ensures { result ≡ slice_index self.now x }
-    {
-        self.counts[x as usize]
-    }
-
     // so many block now
     fn write(&mut self, x: u16, count: u16)
         requires { x < part_pairs }
@@ -94,7 +85,7 @@ impl BlockCounts {
         requires room { slice_index self.old x + 1 < 2 ^ 16 }
         ensures { self.new ≡ slice_set self.old x (slice_index self.old x + 1) }
     {
-        let count = self.count(x) + 1;
+        let count = self.counts[x as usize] + 1;
         self.write(x, count);
     }
 
@@ -104,7 +95,7 @@ impl BlockCounts {
         requires some { 0 < slice_index self.old x }
         ensures { self.new ≡ slice_set self.old x (slice_index self.old x - 1) }
     {
-        let count = self.count(x) - 1;
+        let count = self.counts[x as usize] - 1;
         self.write(x, count);
     }
 

@@ -37,7 +37,7 @@ impl Rings {
         let order = counted(alloc, planes)?;
         let linked = vec![in alloc; true; planes as usize]?;
         let arrays = linked_arrays(alloc, table)?;
-        arrays.all_in_range();
+        arrays.sizes();
         Ok(Rings {
             arrays,
             planes,

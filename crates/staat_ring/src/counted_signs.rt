@@ -35,47 +35,17 @@ impl Model for PlaneState {
     ghost view = { λ s. record { sign = s.sign; along = s.along.items; against = s.against.items } };
 }
 
-impl PlaneState {
-    // the pairs whose facet on the plane is positive
-    fn positive_pairs(&self) -> &[u16]
-        ensures { result.now ≡ positive_pairs self.now }
-    {
-        match self.sign {
-            Sign::Neg => self.against.as_slice(),
-            Sign::Zero => &[],
-            Sign::Pos => self.along.as_slice(),
-        }
-    }
-
-    // whether the plane has the sign
-    fn has_sign(&self, sign: Sign) -> bool
-        ensures { IsTrue result ↔ (self.now.sign ≡ sign) }
-    {
-        self.sign == sign
-    }
-
-    // gives the plane another sign
-    fn set_sign(&mut self, sign: Sign)
-        ensures { self.new ≡ with_sign sign self.old }
-    {
-        self.sign = sign;
-    }
-}
-
 // the pairs whose facet on the plane k is positive
 fn pairs_at(states: &Vec<PlaneState>, k: u32) -> &[u16]
     requires { k < length states.now.items }
     ensures { result.now ≡ positive_pairs (state_at states.now.items k) }
 {
-    states[k as usize].positive_pairs()
-}
-
-// whether the plane k has the sign
-fn has_sign(states: &Vec<PlaneState>, k: u32, sign: Sign) -> bool
-    requires { k < length states.now.items }
-    ensures { IsTrue result ↔ ((state_at states.now.items k).sign ≡ sign) }
-{
-    states[k as usize].has_sign(sign)
+    let state = &states[k as usize];
+    match state.sign {
+        Sign::Neg => state.against.as_slice(),
+        Sign::Zero => &[],
+        Sign::Pos => state.along.as_slice(),
+    }
 }
 
 // gives the plane k another sign
@@ -83,7 +53,23 @@ fn set_sign_at(states: &mut Vec<PlaneState>, k: u32, sign: Sign)
     requires { k < length states.old.items }
     ensures { states.new.items ≡ slice_set states.old.items k (with_sign sign (state_at states.old.items k)) }
 {
-    states[k as usize].set_sign(sign);
+    states[k as usize].sign = sign;
+}
+
+// one more pair has the normal of the plane k as a facet, or its negative
+fn push_at(states: &mut Vec<PlaneState>, k: u32, turned: bool, q: u16) -> Result<(), OutOfMemory>
+    requires { k < length states.old.items }
+    ensures ok { OnOk result
+        (states.new.items ≡ slice_set states.old.items k (with_pair turned q (state_at states.old.items k))) }
+    ensures err { OnErr result (states.new.items ≡ states.old.items) }
+{
+    let state = &mut states[k as usize];
+    if turned {
+        state.against.push(q)?;
+    } else {
+        state.along.push(q)?;
+    }
+    Ok(())
 }
 
 /// The signs of planes, with the graph in which an arc stands where all facets of some pair of pieces are positive.
@@ -125,33 +111,9 @@ fn empty_states(alloc: Global, count: u32) -> Result<Vec<PlaneState>, OutOfMemor
     Ok(states)
 }
 
-impl PlaneState {
-    // one more pair has the normal as a facet, or its negative
-    fn push(&mut self, turned: bool, q: u16) -> Result<(), OutOfMemory>
-        ensures ok { OnOk result (self.new ≡ with_pair turned q self.old) }
-        ensures err { OnErr result (self.new ≡ self.old) }
-    {
-        if turned {
-            self.against.push(q)?;
-        } else {
-            self.along.push(q)?;
-        }
-        Ok(())
-    }
-}
-
-// the same of the plane k
-fn push_at(states: &mut Vec<PlaneState>, k: u32, turned: bool, q: u16) -> Result<(), OutOfMemory>
-    requires { k < length states.old.items }
-    ensures ok { OnOk result
-        (states.new.items ≡ slice_set states.old.items k (with_pair turned q (state_at states.old.items k))) }
-    ensures err { OnErr result (states.new.items ≡ states.old.items) }
-{
-    states[k as usize].push(turned, q)
-}
-
 impl CountedSigns {
     /// So many planes of the sign Zero through no facet, and so many numbers that are no pairs.
+    #[tactic(auto, using(crate::proofs::PairNumbers::start_value))]
     pub fn new(alloc: Global, planes: u32, pairs: u32) -> Result<CountedSigns, OutOfMemory>
         requires { pairs ≤ SLOTS }
         ensures { IfOk result (λ s. s ≡ record {
@@ -192,18 +154,6 @@ impl CountedSigns {
         self.counts.want(q, wanted, parts);
     }
 
-    // gives the plane another sign: a facet less of each pair in one list is positive, one more of each in the other
-    fn change(&mut self, k: u32, sign: Sign) -> bool
-        requires { k < length self.old.states }
-        ensures signs { self.new ≡ with_plane_sign k sign self.old }
-        ensures same { result ≡ false → HaveSameFull self.old self.new }
-    {
-        let lost = self.counts.lose_all(pairs_at(&self.states, k));
-        set_sign_at(&mut self.states, k, sign);
-        let gained = self.counts.gain_all(pairs_at(&self.states, k));
-        lost | gained
-    }
-
     /// Gives the plane `k` a sign. Where it has that sign, nothing is done. Tells whether some pair may have positive
     /// facets alone only before, or only now.
     pub fn set(&mut self, k: u32, sign: Sign) -> bool
@@ -211,10 +161,14 @@ impl CountedSigns {
         ensures signs { self.new ≡ with_plane_sign k sign self.old }
         ensures same { result ≡ false → HaveSameFull self.old self.new }
     {
-        if has_sign(&self.states, k, sign) {
+        if self.states[k as usize].sign == sign {
             return false;
         }
-        self.change(k, sign)
+        // a facet less of each pair in one list is positive, one more of each in the other
+        let lost = self.counts.lose_all(pairs_at(&self.states, k));
+        set_sign_at(&mut self.states, k, sign);
+        let gained = self.counts.gain_all(pairs_at(&self.states, k));
+        lost | gained
     }
 
     /// Whether all facets of the pair `q` are positive.

@@ -1,6 +1,5 @@
 // Which facets lie on which plane, made from a table.
-ghost use Rattle.std.specs.Prelude.{◌≡◌, ◌+◌, ◌<◌};
-ghost use Rattle.std.specs.Prelude.{IfOk, OnOk, Some, length, slice_get};
+ghost use Rattle.std.specs.Prelude.{◌≡◌, ◌+◌, ◌<◌, IfOk, OnOk, Some, length, slice_get};
 ghost use Rattle.staat_vec.specs.Primitives.{canon};
 ghost use Rattle.staat_pairs.specs.Tables.{IsTableArc, IsTableFacet, slot};
 ghost use Rattle.staat_ring.specs.Index.{with_facet, AreSameBut, AreToldBelow, AreZero, ArePlaces, IsFresh};
@@ -71,6 +70,7 @@ fn push_facet(
 }
 
 // tells the pair q, and puts down its facets
+#[tactic(auto, using(crate::proofs::PairNumbers::no_positives, crate::proofs::PairNumbers::told_start))]
 fn add_pair(
     signs: &mut CountedSigns,
     table: &PlaneTable,

@@ -42,25 +42,6 @@ struct Dial {
 }
 
 impl Dial {
-    // the dial of a plane and an axis
-    fn of(g: V3, axis: V3) -> Dial
-        requires g { IsWithin NORMAL g }
-        requires axis { IsWithin NORMAL axis }
-        ensures g { result.g ≡ g }
-        ensures axis { result.axis ≡ axis }
-        ensures across { result.across ≡ cross g axis }
-    {
-        Dial {
-            g,
-            axis,
-            own: Course::of(g),
-            aside: Course::of(axis),
-            across: Course::of(cross_normal(g, axis)),
-            lean: dot(g, axis),
-            size: dot(g, g),
-        }
-    }
-
     // the key of the plane j, whose normal is h
     fn key(&self, j: u32, h: V3) -> Key
         requires g { IsWithin NORMAL self.now.g }
@@ -93,7 +74,15 @@ pub fn keys_of(alloc: Global, table: &PlaneTable, c: u32) -> Result<Vec<Key>, Ou
     let _planes = table.len();
     let g = table.plane(c);
     let axis = table.plane(axis_beside(c));
-    let dial = Dial::of(g, axis);
+    let dial = Dial {
+        g,
+        axis,
+        own: Course::of(g),
+        aside: Course::of(axis),
+        across: Course::of(cross_normal(g, axis)),
+        lean: dot(g, axis),
+        size: dot(g, g),
+    };
     let mut keys = Vec::with_capacity(alloc, table.len() as usize)?;
     for j in 0..table.len() {
         if j != c {

@@ -15,6 +15,7 @@ ghost use Rattle.staat_ring.specs.CountedSigns.{HasBlockingPair};
 ghost use Rattle.staat_ring.specs.Walked.{Walked};
 
 /// Planes that were unlinked and are relinked in the reverse order leave the rings as they were.
+#[tactic(auto, using(crate::proofs::Made::undone))]
 pub fn undone()
     ensures { (ps : List ℕ) (a b c : Arrangement) → AreUnlinked ps a b → AreRelinked ps b c → c ≡ a }
 {}

@@ -23,7 +23,7 @@ impl NodeLinks {
             → IsSameAt self.old self.new y }
         ensures length { length self.new.next ≡ length self.old.next }
     {
-        self.sizes();
+        self.range();
         let head = head_of(planes, c);
         for k in 0..stops.len() {
             self.append(head, node_of(planes, c, stops.stop(k)));
@@ -56,7 +56,7 @@ fn link_entries(
     ensures homes { AreHomedAt home.old.items home.new.items v (entry_numbers planes c entries.now) }
     ensures within { All (λ x. x < length home.old.items) home.new.items }
 {
-    vertices.sizes();
+    vertices.range();
     for e in entries {
         let x = number_of_entry(planes, c, *e);
         vertices.append(v, x);
@@ -65,6 +65,7 @@ fn link_entries(
 }
 
 /// Links the entries of each stop of the circle `c` to a ring, whose head is the node of the stop, their home.
+#[tactic(auto, using(crate::proofs::Rows::stop_distinct, crate::proofs::Rows::stop_alone))]
 pub fn link_stops(vertices: &mut NodeLinks, home: &mut Vec<u32>, planes: u32, c: u32, stops: &Stops)
     requires planes { planes ≤ MOST_PLANES }
     requires circle { c < planes }

@@ -1,18 +1,5 @@
 // From stop to stop of a circle, and from entry to entry of a stop.
-ghost use Rattle.std.specs.Prelude.{
-  ◌≡◌,
-  ℕ,
-  ◌+◌,
-  ◌<◌,
-  ◌≤◌,
-  ◌^◌,
-  Contains,
-  MatchOption,
-  Some,
-  drop,
-  length,
-  slice_get,
-};
+ghost use Rattle.std.specs.Prelude.{◌≡◌, ℕ, ◌+◌, ◌%◌, ◌<◌, Contains, MatchOption, Some, drop, length, slice_get};
 ghost use Rattle.staat_ring.specs.Places.{AtNode, HasCursor, HasNode, IsAtEntry, IsStopAt, cursor, plane_count};
 ghost use Rattle.staat_ring.specs.Rings.{RingStop, linked_of};
 
@@ -29,21 +16,20 @@ impl Rings {
         self.arrays.next_vertex(head_of(self.planes, circle))
     }
 
-    /// The node of the next stop, or none where this is the last one.
-    pub(crate) fn next(&self, circle: u32, node: u32) -> Option<u32>
-        requires { HasNode self.now.rings circle node }
-        ensures next { AtNode self.now.rings circle node (λ m _ at.
-            MatchOption result (m + 1 ≡ length at.ring.stops)
-            (λ x. (t : RingStop) × (slice_get at.ring.stops (m + 1) ≡ Some t) × (t.node ≡ x))) }
-        ensures few { (m : ℕ) (s : RingStop) → (at : IsStopAt self.now.rings circle m s)
-            → length at.ring.stops ≤ 2 ^ 22 }
+    /// The node of the next stop, and its place: after the last one comes the first.
+    pub(crate) fn next(&self, circle: u32, node: u32, place: u32) -> (u32, u32)
+        requires { (s : RingStop) × IsStopAt self.now.rings circle place s × (s.node ≡ node) }
+        ensures { (s : RingStop) → (at : IsStopAt self.now.rings circle place s) → s.node ≡ node → (t : RingStop)
+            × (slice_get at.ring.stops ((place + 1) % length at.ring.stops) ≡ Some t) × (t.node ≡ result.0)
+            × (result.1 ≡ (place + 1) % length at.ring.stops) }
     {
         self.arrays.sizes();
+        let head = head_of(self.planes, circle);
         let next = self.arrays.next_vertex(node);
-        if next == head_of(self.planes, circle) {
-            None
+        if next == head {
+            (self.arrays.next_vertex(head), 0)
         } else {
-            Some(next)
+            (next, place + 1)
         }
     }
 

@@ -1,8 +1,7 @@
 // Nodes with a next and a previous one.
 ghost use Rattle.std.specs.Prelude.{◌≡◌, ℕ, ◌<◌, ◌^◌, IfOk, List, length, slice_index};
-ghost use Rattle.staat_ring.specs.Links.{unlink, relink, append};
+ghost use Rattle.staat_ring.specs.Links.{unlink, relink, append, InRange};
 ghost use Rattle.staat_ring.specs.Stands.{IsShortRing};
-ghost use Rattle.staat_ring.specs.Within.{InRange};
 
 use staat_vec::OutOfMemory;
 use std::alloc::Global;
@@ -16,8 +15,7 @@ pub struct NodeLinks {
 }
 
 impl Model for NodeLinks {
-    ghost use Rattle.staat_ring.specs.Links.{Links, coded_links};
-    ghost use Rattle.staat_ring.specs.Within.{AreLinkWords};
+    ghost use Rattle.staat_ring.specs.Links.{Links, coded_links, AreLinkWords};
 
     ghost Value = { Links };
 
@@ -63,14 +61,7 @@ impl NodeLinks {
         self.prev[head as usize] = x;
     }
 
-    // there are as many previous nodes as next ones
-    pub(crate) fn sizes(&self)
-        ensures { length self.now.prev ≡ length self.now.next }
-    {
-        let _count = self.next.len();
-    }
-
-    // every word is a node
+    // there are as many previous nodes as next ones, and every word is a node
     pub(crate) fn range(&self)
         ensures { InRange self.now }
     {
@@ -111,6 +102,7 @@ impl NodeLinks {
     }
 
     /// The number of nodes on the ring of a head.
+    #[tactic(auto, using(crate::proofs::StopReading::ends, crate::proofs::StopReading::node_within))]
     pub fn ring_len(&self, head: u32) -> u32
         requires some { (nodes : List ℕ) × IsShortRing self.now head nodes }
         requires small { length self.now.next < 2 ^ 32 }

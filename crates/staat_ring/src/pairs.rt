@@ -1,6 +1,6 @@
 // How many facets of each ordered pair of pieces are positive.
-ghost use Rattle.std.specs.Prelude.{◌≡◌, ℕ, ◌+◌, ◌*◌, ◌<◌, ◌≤◌, ◌^◌, ◌↔◌};
-ghost use Rattle.std.specs.Prelude.{◌==◌, All, IfOk, IsTrue, false, if◌then◌else◌, length, not, replicate, slice_set, true};
+ghost use Rattle.std.specs.Prelude.{◌≡◌, ℕ, ◌+◌, ◌*◌, ◌<◌, ◌≤◌, ◌^◌, ◌↔◌, ◌==◌, All, IfOk, IsTrue, false};
+ghost use Rattle.std.specs.Prelude.{if◌then◌else◌, length, not, replicate, slice_set, true};
 ghost use Rattle.staat_model.specs.Sets.{IsNonempty};
 ghost use Rattle.staat_graph.specs.Graphs.{IsStrong};
 ghost use Rattle.staat_ring.specs.BlockCounts.{IsGraphOf, part_pairs};
@@ -63,15 +63,6 @@ impl PairCounts {
         Ok(PairCounts { pairs, blocked })
     }
 
-    // the pair of the number q
-    fn pair(&self, q: u16) -> PairCount
-        requires { q < length self.now }
-        ensures is { result ≡ pair_at self.now q }
-        ensures parts { result.parts < part_pairs }
-    {
-        self.pairs[q as usize]
-    }
-
     // The pair q is this one now, of the same parts as before if all facets were positive. It is told whether all are
     // positive in one of the two alone.
     fn write(&mut self, q: u16, pair: PairCount, told: bool)
@@ -115,7 +106,7 @@ impl PairCounts {
         ensures each { (p : ℕ) → pair_at self.new p ≡ gained (if q == p then 1 else 0) (pair_at self.old p) }
         ensures full { result ≡ false → AreFullAlike self.old self.new }
     {
-        let mut pair = self.pair(q);
+        let mut pair = self.pairs[q as usize];
         pair.positive += 1;
         let told = pair.positive == pair.wanted;
         self.write(q, pair, told);
@@ -130,7 +121,7 @@ impl PairCounts {
         ensures each { (p : ℕ) → pair_at self.old p ≡ gained (if q == p then 1 else 0) (pair_at self.new p) }
         ensures full { result ≡ false → AreFullAlike self.old self.new }
     {
-        let mut pair = self.pair(q);
+        let mut pair = self.pairs[q as usize];
         let told = pair.positive == pair.wanted;
         pair.positive -= 1;
         self.write(q, pair, told);
@@ -139,7 +130,7 @@ impl PairCounts {
 
     /// One more facet of each pair in the list is positive, for a pair that stands twice two more. Tells whether some
     /// pair has come to positive facets alone.
-    #[tactic(auto, using(crate::proofs::PairLemmas::not_yet))]
+    #[tactic(auto, using(crate::proofs::ArcLaw::not_yet))]
     pub fn gain_all(&mut self, qs: &[u16]) -> bool
         requires places { All (λ q. q < length self.old) qs.now }
         requires room { (q : ℕ) → (pair_at self.old q).positive + occurs q qs.now < 2 ^ 16 }
@@ -156,7 +147,7 @@ impl PairCounts {
     }
 
     /// One less of each is positive. Tells whether some pair has positive facets alone no more.
-    #[tactic(auto, using(crate::proofs::PairLemmas::not_yet))]
+    #[tactic(auto, using(crate::proofs::ArcLaw::not_yet))]
     pub fn lose_all(&mut self, qs: &[u16]) -> bool
         requires places { All (λ q. q < length self.old) qs.now }
         requires some { (q : ℕ) → occurs q qs.now ≤ (pair_at self.old q).positive }

@@ -32,8 +32,7 @@ pub struct Rings {
 impl Model for Rings {
     ghost use Rattle.std.specs.Prelude.{take};
     ghost use Rattle.staat_ring.specs.Rings.{Arrangement};
-    ghost use Rattle.staat_ring.specs.RingViews.{arrangement_of};
-    ghost use Rattle.staat_ring.specs.RingInvariant.{AreFlagged};
+    ghost use Rattle.staat_ring.specs.RingViews.{arrangement_of, AreFlagged};
 
     ghost Value = { Arrangement };
 

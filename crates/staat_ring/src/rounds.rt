@@ -1,8 +1,7 @@
 // From vertex to vertex of a circle among all planes of a table, with their signs.
 ghost use Rattle.std.specs.Prelude.{◌≡◌, ◌-◌, ◌<◌, All, false, length};
-ghost use Rattle.staat_vec.specs.Vectors.{IsWithin};
 ghost use Rattle.staat_ring.specs.Belonging.{BelongTo};
-ghost use Rattle.staat_ring.specs.StopSigns.{with_stop_signs};
+ghost use Rattle.staat_ring.specs.SignChanges.{with_stop_signs};
 ghost use Rattle.staat_ring.specs.WholeCircles.{AreSignsAt, HaveSameFull, IsWholeCircle, vertex_at};
 
 use crate::circle::Circle;
@@ -10,7 +9,7 @@ use crate::counted_signs::CountedSigns;
 use crate::entry::Entry;
 use crate::walk::stop_sign;
 use staat_planes::PlaneTable;
-use staat_vec::{Course, DIRECTION, V3};
+use staat_vec::Course;
 
 // gives the planes through a vertex their signs, those there or those just after it
 fn sign_entries(signs: &mut CountedSigns, entries: &[Entry], leaves: bool) -> bool
@@ -26,19 +25,6 @@ fn sign_entries(signs: &mut CountedSigns, entries: &[Entry], leaves: bool) -> bo
     told
 }
 
-// gives all planes their signs at a direction
-fn sign_table(signs: &mut CountedSigns, table: &PlaneTable, d: V3)
-    requires made { BelongTo table.now signs.old }
-    requires direction { IsWithin DIRECTION d }
-    ensures made { BelongTo table.now signs.new }
-    ensures signs { AreSignsAt table.now.planes signs.new d }
-{
-    let course = Course::of(d);
-    for k in 0..table.len() {
-        signs.set(k, course.sign(table.plane(k)));
-    }
-}
-
 impl CountedSigns {
     /// Gives each plane its sign at the vertex `k` of a circle.
     pub fn enter(&mut self, table: &PlaneTable, circle: &Circle, k: usize)
@@ -48,13 +34,18 @@ impl CountedSigns {
         ensures made { BelongTo table.now self.new }
         ensures signs { AreSignsAt table.now.planes self.new (vertex_at table.now.planes circle.now k) }
     {
-        sign_table(self, table, circle.vertex(table, k).direction());
+        let d = circle.vertex(table, k).direction();
+        let course = Course::of(d);
+        for j in 0..table.len() {
+            self.set(j, course.sign(table.plane(j)));
+        }
     }
 
     /// To the vertex `k` of a circle from the one before it: only the planes through the two get new signs.
     ///
     /// Where the answer is false, the same pairs of pieces have positive facets alone as before, so that the same
     /// pieces meet along both vertices.
+    #[tactic(auto, using(crate::proofs::WholeCircles::crossing_steps))]
     pub fn cross(&mut self, table: &PlaneTable, circle: &Circle, k: usize) -> bool
         requires made { BelongTo table.now self.old }
         requires circle { IsWholeCircle table.now.planes circle.now }

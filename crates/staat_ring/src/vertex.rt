@@ -1,9 +1,8 @@
 // The vertex in which two planes cross.
 ghost use Rattle.std.specs.Prelude.{◌≡◌, ◌≢◌, ◌<◌, ◌↔◌, IsTrue, length};
-ghost use Rattle.staat_vec.specs.Primitives.{IsCanon, primitive};
-ghost use Rattle.staat_vec.specs.Vectors.{IsWithin, cross};
-ghost use Rattle.staat_ring.specs.Rings.{crossing, facet_by};
-ghost use Rattle.staat_ring.specs.Walked.{DoCross};
+ghost use Rattle.staat_vec.specs.Primitives.{IsCanon};
+ghost use Rattle.staat_vec.specs.Vectors.{IsWithin};
+ghost use Rattle.staat_ring.specs.Rings.{crossing};
 
 use crate::Entry;
 use staat_pairs::crossing;
@@ -34,14 +33,6 @@ impl Model for Vertex {
 }
 
 impl Vertex {
-    // the crossing of two planes that are not parallel, or its negative
-    fn new(own: V3, other: V3, turned: bool) -> Vertex
-        requires { DoCross own other }
-        ensures { result ≡ facet_by turned (primitive (cross own other)) }
-    {
-        Vertex { own, other, turned }
-    }
-
     /// The crossing of the plane `c` of a table and the plane of an entry.
     pub fn of(table: &PlaneTable, c: u32, entry: Entry) -> Vertex
         requires c { c < length table.now.planes }
@@ -50,7 +41,13 @@ impl Vertex {
         ensures { result ≡ crossing table.now.planes c entry }
     {
         let _set = table.set();
-        Vertex::new(table.plane(c), table.plane(entry.plane), entry.turned)
+        let own = table.plane(c);
+        let other = table.plane(entry.plane);
+        Vertex {
+            own,
+            other,
+            turned: entry.turned,
+        }
     }
 
     /// Whether the first component of the direction other than zero is positive. No more than that is computed of it.

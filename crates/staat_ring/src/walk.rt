@@ -1,42 +1,26 @@
 // A walk along circles, that keeps the signs of the planes at its vertex.
-ghost use Rattle.std.specs.Prelude.{◌≡◌, ◌≢◌, ◌↔◌, ◌+◌, ◌-◌, ◌%◌, ◌^◌};
-ghost use Rattle.std.specs.Prelude.{
-  All,
-  Contains,
-  IfOk,
-  IsTrue,
-  List,
-  MatchOption,
-  Some,
-  length,
-  min,
-  pos,
-  slice_get,
-  ◌<ℤ◌,
-  ◌<◌,
-  ◌≤◌,
-};
+ghost use Rattle.std.specs.Prelude.{◌≡◌, ◌≢◌, ◌↔◌, ◌+◌, ◌-◌, ◌%◌, ◌^◌, ◌<◌, ◌≤◌, min};
+ghost use Rattle.std.specs.Prelude.{All, Contains, IfOk, IsTrue, List, MatchOption, Some, length, slice_get};
 ghost use Rattle.staat_vec.specs.Lists.{IsFirst};
-ghost use Rattle.staat_vec.specs.Primitives.{IsCanon};
-ghost use Rattle.staat_vec.specs.Vectors.{IsWithin, dot};
+ghost use Rattle.staat_vec.specs.Vectors.{IsWithin};
 ghost use Rattle.staat_model.specs.declared.assembly.Part.{Part as PartValue};
 ghost use Rattle.staat_model.specs.declared.set.PartSet.{PartSet as PartSetValue};
 ghost use Rattle.staat_model.specs.Removal.{Blocks};
-ghost use Rattle.staat_model.specs.Sets.{Has, IsNonempty, IsSubset};
+ghost use Rattle.staat_model.specs.Sets.{IsNonempty, IsSubset};
 ghost use Rattle.staat_graph.specs.Blocking.{ShowsBlocking};
 ghost use Rattle.staat_graph.specs.Graphs.{IsStrong};
-ghost use Rattle.staat_pairs.specs.Tables.{IsTable, IsTableArc, Table, WasMadeFrom, facets_of};
+ghost use Rattle.staat_pairs.specs.Tables.{IsTable, Table, WasMadeFrom};
 ghost use Rattle.staat_ring.specs.Belonging.{BelongTo, HasAll, HoldSigns};
-ghost use Rattle.staat_ring.specs.StopSigns.{stop_sign, with_stop_signs};
-ghost use Rattle.staat_ring.specs.Places.{AtNode, HasNode, IsStopAt};
-ghost use Rattle.staat_ring.specs.Rings.{Ring, RingStop, WereMadeFrom, linked_of};
+ghost use Rattle.staat_ring.specs.SignChanges.{stop_sign, with_stop_signs};
+ghost use Rattle.staat_ring.specs.Places.{AtNode, HasNode};
+ghost use Rattle.staat_ring.specs.Rings.{Ring, WereMadeFrom, linked_of};
 ghost use Rattle.staat_ring.specs.Walked.{AtStop, IsEntered, WalkWasMadeFrom};
 
 use crate::counted_signs::CountedSigns;
 use crate::vertex::Vertex;
 use crate::{Entry, Rings};
 use staat_graph::Graph;
-use staat_model::{Arc, PartSet};
+use staat_model::PartSet;
 use staat_planes::{PlaneTable, Steps};
 use staat_vec::{DIRECTION, OutOfMemory, Sign, V3};
 use std::alloc::Global;
@@ -113,19 +97,6 @@ fn entry_after(rings: &Rings, circle: u32, node: u32, most: u32, i: u32) -> Opti
         }
     }
     None
-}
-
-// the node of the next stop, and its place
-fn next_of(rings: &Rings, circle: u32, node: u32, place: u32) -> (u32, u32)
-    requires { (s : RingStop) × IsStopAt rings.now.rings circle place s × (s.node ≡ node) }
-    ensures { (s : RingStop) → (at : IsStopAt rings.now.rings circle place s) → s.node ≡ node → (t : RingStop)
-        × (slice_get at.ring.stops ((place + 1) % length at.ring.stops) ≡ Some t) × (t.node ≡ result.0)
-        × (result.1 ≡ (place + 1) % length at.ring.stops) }
-{
-    match rings.next(circle, node) {
-        Some(next) => (next, place + 1),
-        None => (rings.first(circle), 0),
-    }
 }
 
 // gives the linked planes their signs at a direction
@@ -261,7 +232,7 @@ impl Walk {
     {
         let most = table.len();
         sign_stop(&mut self.signs, rings, self.circle, self.node, most, true);
-        let (node, place) = next_of(rings, self.circle, self.node, self.place);
+        let (node, place) = rings.next(self.circle, self.node, self.place);
         sign_stop(&mut self.signs, rings, self.circle, node, most, false);
         self.vertex = Vertex::of(table, self.circle, entry_of(rings, self.circle, node));
         self.node = node;

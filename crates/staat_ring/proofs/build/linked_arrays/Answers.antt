@@ -1,7 +1,6 @@
 use Rattle.std.proofs.Common.{subst, ◌≡◌, arith}
 use Rattle.staat_ring.specs.RingViews.{numbers_below}
-use Rattle.staat_ring.proofs.Built.{below_all}
-use Rattle.staat_ring.proofs.CircleSteps.{can, none_below, one_more}
+use Rattle.staat_ring.proofs.Built.{below_all, can_link, none_below, one_more}
 use Rattle.staat_ring.specs.Linking.{AreLinkedBelow}
 use Rattle.staat_ring.proofs.build.linked_arrays.Goals as goal
 
@@ -9,7 +8,7 @@ pub link_circle-requires-clause-stops : goal.link_circle-requires-clause-stops
 link_circle-requires-clause-stops c =
     let n = c.len-planes.result in
     let is = c.len-planes.ensures.is in
-    can c.args.table.now.planes c.len-planes.ensures.rules.planes n is c.loop-c.c c.in_ok-stops.stops (c.in_ok-stops.ensures (numbers_below n) (λ j lt. below_all n j (omega (arith, lt, is))))
+    can_link c.args.table.now.planes c.len-planes.ensures.rules.planes n is c.loop-c.c c.in_ok-stops.stops (c.in_ok-stops.ensures (numbers_below n) (λ j lt. below_all n j (omega (arith, lt, is))))
 
 pub loop-c-preserved : goal.loop-c-preserved
 loop-c-preserved c =

@@ -4,8 +4,7 @@ use Rattle.std.proofs.lemmas.Result.{IfOk-weaker}
 use Rattle.staat_ring.specs.Builds.{key_entry, ring_by}
 use Rattle.staat_ring.specs.Rings.{IsRingOf}
 use Rattle.staat_ring.proofs.CircleFromEntries.{are_stops, circle_is}
-use Rattle.staat_ring.proofs.HalfTurn.{keys_within}
-use Rattle.staat_ring.proofs.Ordering.{order_within}
+use Rattle.staat_ring.proofs.HalfTurn.{keys_within, order_within}
 use Rattle.staat_ring.proofs.circle.circle_of.Goals as goal
 
 pub in_order-requires : goal.in_order-requires

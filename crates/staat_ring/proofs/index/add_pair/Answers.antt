@@ -1,13 +1,7 @@
-use Rattle.std.proofs.Common.{◌+◌, ◌*◌, arith, ap, ◌∙◌, refl, length, rules}
+use Rattle.std.proofs.Common.{◌+◌, ◌*◌, arith, ap, ◌∙◌, refl, length}
 use Rattle.staat_pairs.specs.Tables.{facets_of}
-use Rattle.staat_ring.proofs.IndexLemmas.{no_positives, partly_more, partly_room, same_but, told_start}
+use Rattle.staat_ring.proofs.PairNumbers.{partly_more, partly_room, same_but}
 use Rattle.staat_ring.proofs.index.add_pair.Goals as goal
-
-pub want-requires-clause-none : goal.want-requires-clause-none
-want-requires-clause-none c = no_positives c.args.signs.now c.args.q c.requires.fresh
-
-pub loop-m-init : goal.loop-m-init
-loop-m-init c = search (rules, told_start)
 
 pub push_facet-requires-clause-room : goal.push_facet-requires-clause-room
 push_facet-requires-clause-room c =

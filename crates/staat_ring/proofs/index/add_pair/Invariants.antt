@@ -1,6 +1,6 @@
 use Rattle.std.proofs.Common.{◌≡◌, length}
 use Rattle.staat_pairs.specs.Tables.{facets_of}
-use Rattle.staat_ring.proofs.IndexLemmas.{IsPartly}
+use Rattle.staat_ring.proofs.PairNumbers.{IsPartly}
 use Rattle.staat_ring.proofs.index.add_pair.Given as goal
 
 abbrev pub invariant-loop-m : goal.invariant-loop-m

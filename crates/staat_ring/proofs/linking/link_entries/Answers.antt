@@ -2,8 +2,7 @@ use Rattle.std.proofs.Common.{◌<◌, ◌∙◌, arith, length, subst, sym}
 use Rattle.std.proofs.lemmas.List.{get_or-map, length-map}
 use Rattle.std.proofs.lemmas.List.Elements.{All-set}
 use Rattle.staat_ring.specs.Numbered.{entry_number, entry_numbers}
-use Rattle.staat_ring.proofs.Numbering.{entries_within}
-use Rattle.staat_ring.proofs.Rows.{homed_more, partly_more}
+use Rattle.staat_ring.proofs.Rows.{entries_within, homed_more, partly_more}
 use Rattle.staat_ring.proofs.linking.link_entries.Goals as goal
 
 pub loop-e-preserved : goal.loop-e-preserved

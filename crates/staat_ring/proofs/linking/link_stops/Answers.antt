@@ -1,12 +1,6 @@
-use Rattle.staat_ring.proofs.StopSteps.{stop_alone, stop_distinct, stop_linked}
-use Rattle.std.proofs.Common.{◌<◌, subst, rules}
+use Rattle.staat_ring.proofs.Rows.{stop_linked}
+use Rattle.std.proofs.Common.{◌<◌, subst}
 use Rattle.staat_ring.proofs.linking.link_stops.Goals as goal
-
-pub link_entries-requires-clause-distinct : goal.link_entries-requires-clause-distinct
-link_entries-requires-clause-distinct c = stop_distinct c.args.planes c.args.c c.requires.circle c.args.stops.now c.requires.stops c.loop-k.k (subst (λ n. c.loop-k.k < n) c.loop-k.invariant.all c.loop-k-test.true) c.node_of-v.result c.stop-entries.result.now c.node_of-v.ensures.is c.stop-entries.ensures
-
-pub link_entries-requires-clause-alone : goal.link_entries-requires-clause-alone
-link_entries-requires-clause-alone c = search (rules, stop_alone)
 
 pub loop-k-preserved : goal.loop-k-preserved
 loop-k-preserved c = record {

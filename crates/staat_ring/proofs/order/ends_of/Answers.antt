@@ -1,5 +1,5 @@
 use Rattle.std.proofs.Common.{◌≡◌, ◌∙◌, ◌+◌, Global, Vec, ap, arith, false, refl, subst, sym, true, ℕ}
-use Rattle.staat_ring.proofs.Ordering.{AreBreaksBelow, breaks_all, breaks_more, breaks_none, breaks_same}
+use Rattle.staat_ring.proofs.HalfTurn.{AreBreaksBelow, breaks_all, breaks_more, breaks_none, breaks_same}
 use Rattle.staat_ring.proofs.order.ends_of.Goals as goal
 use Rattle.staat_ring.proofs.order.ends_of.Goals.{then-not-on_one_line+in_ok-push, else-not-on_one_line}
 

@@ -1,5 +1,5 @@
 use Rattle.std.proofs.Common.{◌≡◌, ◌≤◌, length}
-use Rattle.staat_ring.proofs.Ordering.{AreBreaksBelow}
+use Rattle.staat_ring.proofs.HalfTurn.{AreBreaksBelow}
 use Rattle.staat_ring.proofs.order.ends_of.Given as goal
 
 abbrev pub invariant-loop-i : goal.invariant-loop-i

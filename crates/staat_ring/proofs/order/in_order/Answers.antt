@@ -4,7 +4,7 @@ use Rattle.std.proofs.lemmas.List.Elements.{All-contains, All-take}
 use Rattle.staat_vec.proofs.ListLaws.{Contains-from_map}
 use Rattle.staat_ring.specs.declared.entry.Entry.{Entry}
 use Rattle.staat_ring.specs.Builds.{key_entry}
-use Rattle.staat_ring.proofs.Ordering.{order_more, order_within}
+use Rattle.staat_ring.proofs.HalfTurn.{order_more, order_within}
 use Rattle.staat_ring.proofs.order.in_order.Goals as goal
 
 abbrev no_key : ℤ × ℕ × Bool

@@ -4,7 +4,7 @@ use Rattle.staat_vec.proofs.Integers.{zero_not_positive}
 use Rattle.staat_vec.proofs.Naturals.{lt_test}
 use Rattle.staat_vec.proofs.Signs.{sign_negative, sign_positive, zero_sign}
 use Rattle.staat_ring.specs.Order.{order_det}
-use Rattle.staat_ring.proofs.Ordering.{not_precedes}
+use Rattle.staat_ring.proofs.HalfTurn.{not_precedes}
 use Rattle.staat_ring.proofs.order.precedes.Goals as goal
 
 pub returns-in-Pos : goal.returns-in-Pos

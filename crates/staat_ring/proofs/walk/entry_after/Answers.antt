@@ -3,7 +3,7 @@ use Rattle.std.proofs.lemmas.Option.{slice_get_within, get_or_from_slice_get}
 use Rattle.std.proofs.lemmas.List.Elements.{All-contains, All-more, All-nil}
 use Rattle.staat_vec.proofs.ListLaws.{All-taken}
 use Rattle.staat_ring.specs.declared.entry.Entry.{Entry}
-use Rattle.staat_ring.proofs.StopSigns.{first_after}
+use Rattle.staat_ring.proofs.SignAll.{first_after}
 use Rattle.staat_ring.proofs.walk.entry_after.Goals as goal
 
 pub loop-passed-init : goal.loop-passed-init

@@ -5,8 +5,7 @@ use Rattle.staat_ring.specs.Rings.{linked_of}
 use Rattle.staat_ring.specs.CountedSigns.{Signed}
 use Rattle.staat_ring.specs.SignChanges.{with_plane_sign}
 use Rattle.staat_ring.specs.Belonging.{BelongTo}
-use Rattle.staat_ring.proofs.StopSigns.{belong_same, signed_same}
-use Rattle.staat_ring.proofs.SignAll.{Done, count_all, count_more, count_same, more_done, same_done}
+use Rattle.staat_ring.proofs.SignAll.{belong_same, signed_same, Done, count_all, count_more, count_same, more_done, same_done}
 use Rattle.staat_ring.proofs.walk.sign_all.Goals as goal
 use Rattle.staat_ring.proofs.walk.sign_all.Goals.{then-is_linked, else-is_linked}
 use Rattle.staat_vec.proofs.Truth.{false_test_clash}

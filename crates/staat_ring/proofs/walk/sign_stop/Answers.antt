@@ -3,9 +3,8 @@ use Rattle.std.proofs.lemmas.Option.{slice_get_within}
 use Rattle.std.proofs.lemmas.List.Elements.{All-contains}
 use Rattle.staat_ring.specs.declared.entry.Entry.{Entry}
 use Rattle.staat_ring.specs.CountedSigns.{state_at}
-use Rattle.staat_ring.specs.SignChanges.{with_sign}
-use Rattle.staat_ring.specs.StopSigns.{with_stop_signs}
-use Rattle.staat_ring.proofs.StopSigns.{stop_sign_end, stop_sign_next}
+use Rattle.staat_ring.specs.SignChanges.{with_sign, with_stop_signs}
+use Rattle.staat_ring.proofs.SignAll.{stop_sign_end, stop_sign_next}
 use Rattle.staat_ring.proofs.walk.sign_stop.Goals as goal
 use Rattle.staat_vec.proofs.Unique.{from_place}
 

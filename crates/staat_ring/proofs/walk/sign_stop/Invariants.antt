@@ -1,6 +1,6 @@
 use Rattle.std.proofs.Common.{◌≡◌, length, drop}
 use Rattle.staat_ring.specs.Places.{AtNode, IsAtEntry, plane_count}
-use Rattle.staat_ring.specs.StopSigns.{with_stop_signs}
+use Rattle.staat_ring.specs.SignChanges.{with_stop_signs}
 use Rattle.staat_ring.proofs.walk.sign_stop.Given as goal
 
 abbrev pub invariant-loop-passed : goal.invariant-loop-passed

@@ -1,7 +1,7 @@
 use Rattle.std.proofs.Common.{◌≡◌, ℕ, suc, ◌-◌, ◌<◌, subst, arith, rules}
 use Rattle.staat_ring.specs.Links.{Arrays, give_all}
-use Rattle.staat_ring.specs.Planes.{entries_of}
-use Rattle.staat_ring.proofs.Loops.{given, passed}
+use Rattle.staat_ring.specs.RingViews.{entries_of}
+use Rattle.staat_ring.proofs.Chains.{given, passed}
 use Rattle.staat_ring.proofs.arrays.RingArrays.give_plane.Goals as goal
 
 one_up : (n : ℕ) → 0 < n → n ≡ suc (n - 1)

@@ -1,6 +1,6 @@
 use Rattle.std.proofs.Common.{◌≡◌, ◌≤◌, length}
 use Rattle.staat_ring.specs.Links.{give_all}
-use Rattle.staat_ring.specs.Planes.{entries_of}
+use Rattle.staat_ring.specs.RingViews.{entries_of}
 use Rattle.staat_ring.proofs.arrays.RingArrays.give_plane.Given as goal
 
 abbrev pub invariant-loop-c : goal.invariant-loop-c

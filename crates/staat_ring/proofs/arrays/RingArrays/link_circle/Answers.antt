@@ -2,8 +2,7 @@ use Rattle.std.proofs.Common.{ap, get_or, subst, sym, ◌∙◌, ◌<◌, length
 use Rattle.std.proofs.lemmas.List.Elements.{All-from_get_or}
 use Rattle.staat_ring.specs.Links.{Arrays}
 use Rattle.staat_ring.specs.Linking.{AreSized, IsKeptAt}
-use Rattle.staat_ring.proofs.Numbering.{head_circle, head_small}
-use Rattle.staat_ring.proofs.StopSteps.{alone_rows, holds_now, homes_now, others_now}
+use Rattle.staat_ring.proofs.Rows.{head_circle, head_small, alone_rows, holds_now, homes_now, others_now}
 use Rattle.staat_ring.proofs.arrays.RingArrays.link_circle.Goals as goal
 
 pub link-requires-clause-alone : goal.link-requires-clause-alone

@@ -1,15 +1,8 @@
-use Rattle.std.proofs.Common.{subst, sym, true, false, rules}
-use Rattle.staat_ring.specs.StopSigns.{with_stop_signs}
+use Rattle.std.proofs.Common.{subst, sym, true, false}
+use Rattle.staat_ring.specs.SignChanges.{with_stop_signs}
 use Rattle.staat_ring.specs.Belonging.{BelongTo}
-use Rattle.staat_ring.proofs.StopSigns.{belong_same, stop_signs_same}
-use Rattle.staat_ring.proofs.WholeCircles.{crossed, entries_small}
+use Rattle.staat_ring.proofs.SignAll.{belong_same, stop_signs_same}
 use Rattle.staat_ring.proofs.counted_signs.CountedSigns.cross.Goals as goal
-
-pub sign_entries-left-requires : goal.sign_entries-left-requires
-sign_entries-left-requires c = search (rules, entries_small)
-
-pub sign_entries-reached-requires : goal.sign_entries-reached-requires
-sign_entries-reached-requires c = search (rules, stop_signs_same, entries_small)
 
 pub returns-clause-made : goal.returns-clause-made
 returns-clause-made c =
@@ -17,6 +10,3 @@ returns-clause-made c =
     let mid = c.sign_entries-left.new.signs in
     let left = subst (BelongTo t) (sym c.sign_entries-left.ensures.signs) (belong_same t c.args.self.now (with_stop_signs true c.stop.result.now c.args.self.now) (stop_signs_same true c.stop.result.now c.args.self.now) c.requires.made) in
     subst (BelongTo t) (sym c.sign_entries-reached.ensures.signs) (belong_same t mid (with_stop_signs false c.stop-2.result.now mid) (stop_signs_same false c.stop-2.result.now mid) left)
-
-pub returns-clause-signs : goal.returns-clause-signs
-returns-clause-signs c = search (rules, crossed)

@@ -1,5 +1,5 @@
 use Rattle.staat_ring.specs.BlockCounts.{parts_at}
-use Rattle.staat_ring.proofs.SignLemmas.{blocking_is}
+use Rattle.staat_ring.proofs.ArcLaw.{blocking_is}
 use Rattle.staat_ring.proofs.counted_signs.CountedSigns.graph.Goals as goal
 
 pub returns : goal.returns

@@ -1,4 +1,4 @@
-use Rattle.staat_ring.proofs.SignLemmas.{blocking_strong}
+use Rattle.staat_ring.proofs.ArcLaw.{blocking_strong}
 use Rattle.staat_ring.proofs.counted_signs.CountedSigns.is_strong.Goals as goal
 
 pub returns : goal.returns

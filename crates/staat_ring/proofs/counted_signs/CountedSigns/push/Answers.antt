@@ -2,7 +2,7 @@ use Rattle.std.proofs.Common.{◌<◌, ◌+◌, subst, sym, ap, ◌∙◌, List,
 use Rattle.std.proofs.lemmas.List.{length-map}
 use Rattle.staat_ring.specs.CountedSigns.{PlaneState, Signed, state_at}
 use Rattle.staat_ring.specs.SignChanges.{AreSigned, uses, emptied}
-use Rattle.staat_ring.proofs.PushLemmas.{push_signed}
+use Rattle.staat_ring.proofs.PairNumbers.{push_signed}
 use Rattle.staat_ring.proofs.counted_signs.CountedSigns.push.Goals as goal
 
 pub invariant_of-self-2 : goal.invariant_of-self-2

@@ -1,4 +1,4 @@
-use Rattle.staat_ring.proofs.PushLemmas.{want_value}
+use Rattle.staat_ring.proofs.PairNumbers.{want_value}
 use Rattle.staat_ring.proofs.counted_signs.CountedSigns.want.Goals as goal
 
 pub returns : goal.returns

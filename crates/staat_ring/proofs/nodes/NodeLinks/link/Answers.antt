@@ -3,8 +3,7 @@ use Rattle.std.proofs.lemmas.List.{get_or-map, length-map}
 use Rattle.std.proofs.lemmas.List.Elements.{All-weaker}
 use Rattle.staat_ring.specs.Links.{append}
 use Rattle.staat_ring.specs.Numbered.{head_number, node_number, ring_node_count}
-use Rattle.staat_ring.proofs.RowRules.{circle_distinct, nodes_within}
-use Rattle.staat_ring.proofs.Rows.{partly_more}
+use Rattle.staat_ring.proofs.Rows.{circle_distinct, nodes_within, partly_more}
 use Rattle.staat_ring.proofs.nodes.NodeLinks.link.Goals as goal
 
 pub loop-k-preserved : goal.loop-k-preserved

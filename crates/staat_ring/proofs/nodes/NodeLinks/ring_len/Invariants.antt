@@ -1,6 +1,6 @@
 use Rattle.std.proofs.Common.{◌≡◌, ℕ, List, length}
 use Rattle.staat_ring.specs.Stands.{IsShortRing}
-use Rattle.staat_ring.proofs.RingLength.{IsAtPlace}
+use Rattle.staat_ring.proofs.StopReading.{IsAtPlace}
 use Rattle.staat_ring.proofs.nodes.NodeLinks.ring_len.Given as goal
 
 abbrev pub invariant-loop-count : goal.invariant-loop-count

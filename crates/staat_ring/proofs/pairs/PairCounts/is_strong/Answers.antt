@@ -1,4 +1,4 @@
-use Rattle.staat_ring.proofs.PairLemmas.{full_strong}
+use Rattle.staat_ring.proofs.ArcLaw.{full_strong}
 use Rattle.staat_ring.proofs.pairs.PairCounts.is_strong.Goals as goal
 
 pub returns : goal.returns

@@ -2,7 +2,7 @@ use Rattle.std.proofs.Common.{subst, sym, List}
 use Rattle.std.specs.Prelude.{replicate}
 use Rattle.staat_ring.specs.declared.pairs.PairCount.{PairCount}
 use Rattle.staat_ring.specs.Pairs.{CountBlocks, no_pair}
-use Rattle.staat_ring.proofs.PairLemmas.{counted_start}
+use Rattle.staat_ring.proofs.ArcLaw.{counted_start}
 use Rattle.staat_ring.proofs.pairs.PairCounts.new.Goals as goal
 
 pub invariant_of-result : goal.invariant_of-result

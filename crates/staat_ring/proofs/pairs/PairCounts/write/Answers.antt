@@ -1,5 +1,5 @@
 use Rattle.std.proofs.lemmas.Bool.Decides.{nat_tests}
-use Rattle.staat_ring.proofs.PairLemmas.{counted, some_block}
+use Rattle.staat_ring.proofs.ArcLaw.{counted, some_block}
 use Rattle.staat_ring.proofs.pairs.PairCounts.write.Goals as goal
 use Rattle.std.proofs.Common.{rules}
 

@@ -1,5 +1,5 @@
 use Rattle.std.proofs.Common.{◌∙◌}
-use Rattle.staat_ring.proofs.RingLength.{circle_nodes, linked_small, short_ring, vertices_are}
+use Rattle.staat_ring.proofs.StopReading.{circle_nodes, linked_small, short_ring, vertices_are}
 use Rattle.staat_ring.proofs.rings.Rings.circle_vertices.Goals as goal
 
 pub head_of-requires-clause-circle : goal.head_of-requires-clause-circle

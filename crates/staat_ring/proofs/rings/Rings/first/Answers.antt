@@ -1,6 +1,5 @@
 use Rattle.std.proofs.Common.{◌∙◌}
-use Rattle.staat_ring.proofs.RingLength.{linked_small}
-use Rattle.staat_ring.proofs.StopReading.{first_is}
+use Rattle.staat_ring.proofs.StopReading.{linked_small, first_is}
 use Rattle.staat_ring.proofs.rings.Rings.first.Goals as goal
 
 pub head_of-requires-clause-circle : goal.head_of-requires-clause-circle

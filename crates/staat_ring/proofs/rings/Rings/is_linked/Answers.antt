@@ -1,6 +1,6 @@
 use Rattle.std.proofs.Common.{◌<◌, ◌∙◌, arith, false, length, sym}
 use Rattle.std.proofs.lemmas.List.{get_or_default}
-use Rattle.staat_ring.proofs.RingLength.{flag_linked, linked_flag, not_below}
+use Rattle.staat_ring.proofs.StopReading.{flag_linked, linked_flag, not_below}
 use Rattle.staat_ring.proofs.rings.Rings.is_linked.Goals as goal
 use Rattle.staat_vec.proofs.Naturals.{lt_test}
 

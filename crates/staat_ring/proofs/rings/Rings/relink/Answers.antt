@@ -1,7 +1,6 @@
 use Rattle.std.proofs.Common.{arith, rules}
-use Rattle.staat_ring.proofs.Flags.{flags_relinked}
+use Rattle.staat_ring.proofs.Unlinking.{flags_relinked, last_small, relink_invariant, relink_kept, some, split_is}
 use Rattle.staat_ring.proofs.Made.{relinked_made}
-use Rattle.staat_ring.proofs.Unlinking.{last_small, relink_invariant, relink_kept, some, split_is}
 use Rattle.staat_ring.proofs.rings.Rings.relink.Goals as goal
 
 pub give_plane-requires-clause-plane : goal.give_plane-requires-clause-plane

@@ -1,7 +1,6 @@
 use Rattle.std.proofs.Common.{arith, take, rules}
-use Rattle.staat_ring.proofs.Flags.{flags_unlinked}
+use Rattle.staat_ring.proofs.Unlinking.{flags_unlinked, has_room, is_small, unlink_invariant, unlink_is}
 use Rattle.staat_ring.proofs.Made.{unlinked_made}
-use Rattle.staat_ring.proofs.Unlinking.{has_room, is_small, unlink_invariant, unlink_is}
 use Rattle.staat_ring.proofs.rings.Rings.unlink.Goals as goal
 
 pub take_plane-requires-clause-plane : goal.take_plane-requires-clause-plane

@@ -1,5 +1,5 @@
 use Rattle.staat_ring.specs.Rings.{unlinked_of}
-use Rattle.staat_ring.proofs.CrossSteps.{entered_first, first_circle, first_entry_other, first_entry_small, first_node, first_some}
+use Rattle.staat_ring.proofs.StopLemmas.{entered_first, first_circle, first_entry_other, first_entry_small, first_node, first_some}
 use Rattle.staat_ring.proofs.walk.Walk.enter.Goals as goal
 use Rattle.std.proofs.Common.{rules}
 

@@ -1,8 +1,8 @@
 use Rattle.std.proofs.Common.{◌<◌, ◌∙◌, ap, arith, length}
 use Rattle.std.proofs.lemmas.Grind.{common_steps}
 use Rattle.staat_ring.specs.SignChanges.{with_plane_sign}
-use Rattle.staat_ring.proofs.SignLemmas.{room, set_pairs}
-use Rattle.staat_ring.proofs.counted_signs.CountedSigns.change.Goals as goal
+use Rattle.staat_ring.proofs.ArcLaw.{room, set_pairs}
+use Rattle.staat_ring.proofs.counted_signs.CountedSigns.set.Goals as goal
 
 pub gain_all-gained-requires-clause-room : goal.gain_all-gained-requires-clause-room
 gain_all-gained-requires-clause-room c = λ q.
