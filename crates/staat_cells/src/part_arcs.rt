@@ -124,7 +124,8 @@ fn push_parts(
     }
 }
 
-/// The cones of each ordered pair of different parts of the table's set, in batches.
+/// The cones of each ordered pair of different parts of the table's set, in batches. Pairs follow upon each other by the
+/// sum of their numbers, so that the two orders of parts, whose cones have the same planes, mostly share a batch.
 pub(crate) fn all_batches(alloc: Global, table: &PlaneTable) -> Result<Vec<Batch>, OutOfMemory>
     ensures arcs { IfOk result (λ batches. ListsArcsOf table.now batches.items) }
     ensures batches { IfOk result (λ batches. All IsBatch batches.items) }
@@ -133,8 +134,8 @@ pub(crate) fn all_batches(alloc: Global, table: &PlaneTable) -> Result<Vec<Batch
     let set = table.set();
     let mut batches = Vec::new(alloc);
     for pair in 0..MOST_PARTS * MOST_PARTS {
-        let a = pair / MOST_PARTS;
-        let b = pair % MOST_PARTS;
+        let a = pair % MOST_PARTS;
+        let b = (pair / MOST_PARTS + MOST_PARTS - a) % MOST_PARTS;
         push_parts(alloc, table, set, a, b, &mut batches)?;
     }
     Ok(batches)
