@@ -28,12 +28,6 @@ place_small Neg = omega arith
 place_small Zero = omega arith
 place_small Pos = omega arith
 
-pub four_times : (n i : ℕ) → n < 4 ^ i → i < 32 → n * 4 < 2 ^ 64
-four_times n i lt h =
-    let power : 4 ^ suc i ≤ 4 ^ 32 = pow-le-pow_right {n = 4} (omega arith) {i = suc i} {j = 32} (omega arith) in
-    let step = pow-suc 4 i in
-    omega (arith, power, step)
-
 pub next_fits : (n i p : ℕ) → n < 4 ^ i → i < 32 → p ≤ 2 → n * 4 + p < 2 ^ 64
 next_fits n i p lt h le =
     let power : 4 ^ suc i ≤ 4 ^ 32 = pow-le-pow_right {n = 4} (omega arith) {i = suc i} {j = 32} (omega arith) in

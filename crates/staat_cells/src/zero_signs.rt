@@ -1,5 +1,5 @@
 // Packed signs in which a zero gives way to another sign.
-ghost use Rattle.std.specs.Prelude.{◌≡◌, ◌<◌, ◌≤◌, ◌-◌, ◌^◌, IfOk, List, length, slice_set, min};
+ghost use Rattle.std.specs.Prelude.{◌≡◌, ◌<◌, ◌≤◌, IfOk, List, drop, length, min, slice_set, take};
 ghost use Rattle.staat_vec.specs.declared.vector.Sign.{Sign as SignValue};
 ghost use Rattle.staat_vec.specs.Vectors.{IsWithin};
 ghost use Rattle.staat_model.specs.Cells.{is_zero, signs_of};
@@ -12,15 +12,6 @@ use crate::incidence::Incidence;
 use staat_vec::{DIRECTION, Normal, OutOfMemory, Sign, V3, sign_dot};
 use std::alloc::Global;
 
-// how much a digit counts at a place of a word of so many digits
-fn weight(count: usize, k: usize) -> u128
-    requires place { k < count }
-    requires word { count ≤ 64 }
-    ensures { result ≡ 4 ^ (count - 1 - k) }
-{
-    1 << (2 * (count - 1 - k))
-}
-
 // the word with t in place of the zero at k
 fn changed_word(word: u128, count: usize, k: usize, t: Sign) -> u128
     requires place { k < count }
@@ -28,10 +19,11 @@ fn changed_word(word: u128, count: usize, k: usize, t: Sign) -> u128
     ensures { (s : List SignValue) → packed s ≡ word → length s ≡ count → IsZeroAt s k
         → result ≡ packed (slice_set s k t) }
 {
+    let weight: u128 = 1 << (2 * (count - 1 - k));
     match t {
-        Sign::Neg => word.wrapping_sub(weight(count, k)),
+        Sign::Neg => word.wrapping_sub(weight),
         Sign::Zero => word,
-        Sign::Pos => word.wrapping_add(weight(count, k)),
+        Sign::Pos => word.wrapping_add(weight),
     }
 }
 
@@ -43,24 +35,34 @@ fn word_count(left: usize) -> usize
     if left < 64 { left } else { 64 }
 }
 
+// the word of the signs from a place on, of so many in all, with t in place of the zero at k
+fn changed_part(word: u128, from: usize, count: usize, k: usize, t: Sign) -> u128
+    requires { k < count }
+    ensures { (s : List SignValue) → word ≡ packed (take 64 (drop from s)) → length s ≡ count → IsZeroAt s k
+        → result ≡ packed (take 64 (drop from (slice_set s k t))) }
+{
+    if k < from {
+        word
+    } else if k - from < 64 {
+        changed_word(word, word_count(count - from), k - from, t)
+    } else {
+        word
+    }
+}
+
 /// The incidence with `t` in place of the zero at `k`, of so many signs.
 pub(crate) fn changed(incidence: Incidence, count: usize, k: usize, t: Sign) -> Incidence
-    requires few { count ≤ 256 }
-    requires place { k < count }
+    requires { k < count }
     ensures { (s : List SignValue) → incidence ≡ incidence_of s incidence.of → length s ≡ count
         → IsZeroAt s k → result ≡ incidence_of (slice_set s k t) incidence.of }
 {
-    let mut new = incidence;
-    if k < 64 {
-        new.a = changed_word(incidence.a, word_count(count), k, t);
-    } else if k < 128 {
-        new.b = changed_word(incidence.b, word_count(count - 64), k - 64, t);
-    } else if k < 192 {
-        new.c = changed_word(incidence.c, word_count(count - 128), k - 128, t);
-    } else {
-        new.d = changed_word(incidence.d, word_count(count - 192), k - 192, t);
+    Incidence {
+        a: changed_part(incidence.a, 0, count, k, t),
+        b: changed_part(incidence.b, 64, count, k, t),
+        c: changed_part(incidence.c, 128, count, k, t),
+        d: changed_part(incidence.d, 192, count, k, t),
+        of: incidence.of,
     }
-    new
 }
 
 fn is_zero(s: Sign) -> bool

@@ -26,8 +26,8 @@ bounds-planes-j c =
     let long = c.requires.signs in
     omega (arith, within, long)
 
-pub changed-incidence-requires-clause-place : goal.changed-incidence-requires-clause-place
-changed-incidence-requires-clause-place c =
+pub changed-incidence-requires : goal.changed-incidence-requires
+changed-incidence-requires c =
     zero_within c.args.planes.now c.args.signs.now c.args.w c.requires.signs c.loop-i.incidence c.args.base.of
     c.args.zeros.now c.loop-i.i c.loop-i-test.true c.loop-i.invariant
 
