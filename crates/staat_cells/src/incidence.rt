@@ -47,6 +47,7 @@ fn half(signs: &[Sign]) -> u64
 }
 
 // how much the digit before so many others counts
+#[tactic(auto, using(crate::proofs::Words::power_is))]
 fn power(count: usize) -> u128
     requires { count ≤ 32 }
     ensures { result ≡ 4 ^ count }

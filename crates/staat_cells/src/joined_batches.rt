@@ -50,6 +50,7 @@ fn test_at(tests: &[PlaneTest], k: usize) -> PlaneTest
 }
 
 // the words of three tests, together for each three signs
+#[tactic(auto, using(crate::proofs::GraphRows::words_are))]
 fn joined_words(x: &PlaneTest, y: &PlaneTest, z: &PlaneTest) -> [u128; 27]
     ensures { (s t u : SignValue) → slice_index result (place_of_three s t u)
         ≡ outside_together x.now y.now z.now s t u }
@@ -62,6 +63,7 @@ fn joined_words(x: &PlaneTest, y: &PlaneTest, z: &PlaneTest) -> [u128; 27]
 }
 
 // three tests as one
+#[tactic(auto, using(crate::proofs::GraphRows::three_left))]
 fn joined(x: PlaneTest, y: PlaneTest, z: PlaneTest) -> JoinedTest
     ensures { (signs : List SignValue) (j : ℕ) → IsLeft (joined_outside signs result) j
         ↔ ((IsLeft (outside_by signs x) j × IsLeft (outside_by signs y) j) × IsLeft (outside_by signs z) j) }
@@ -167,7 +169,12 @@ fn word_at(test: &JoinedTest, signs: &[Sign], last: usize) -> u128
 {
     // one answer for all tests: so the loop over them is compiled once for each, and the first has no bounds
     if last < signs.len() {
-        word_of(test, signs[test.first], signs[test.second], signs[test.third])
+        word_of(
+            test,
+            signs[test.first],
+            signs[test.second],
+            signs[test.third],
+        )
     } else {
         word_of(
             test,
@@ -193,6 +200,7 @@ fn ruled_out(tests: &[JoinedTest], signs: &[Sign], last: usize) -> u128
 // ---- the arcs of a batch
 
 // the bits of the first word that are not in the second
+#[tactic(auto, using(crate::proofs::BatchCones::without_some))]
 fn word_without(x: u128, y: u128) -> u128
     ensures { (result ≢ 0) ↔ ((j : ℕ) × (bit_at x j ≡ 1) × (bit_at y j ≡ 0)) }
 {

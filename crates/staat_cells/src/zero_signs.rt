@@ -13,6 +13,7 @@ use staat_vec::{DIRECTION, Normal, OutOfMemory, Sign, V3, sign_dot};
 use std::alloc::Global;
 
 // the word with t in place of the zero at k
+#[tactic(auto, using(crate::proofs::Words::word_up, crate::proofs::Words::word_down, crate::proofs::Words::weight_is))]
 fn changed_word(word: u128, count: usize, k: usize, t: Sign) -> u128
     requires place { k < count }
     requires word { count ≤ 64 }
@@ -36,6 +37,7 @@ fn word_count(left: usize) -> usize
 }
 
 // the word of the signs from a place on, of so many in all, with t in place of the zero at k
+#[tactic(auto, using(crate::proofs::Words::word_given, crate::proofs::Words::word_kept))]
 fn changed_part(word: u128, from: usize, count: usize, k: usize, t: Sign) -> u128
     requires { k < count }
     ensures { (s : List SignValue) → word ≡ packed (take 64 (drop from s)) → length s ≡ count → IsZeroAt s k
@@ -75,6 +77,7 @@ fn is_zero(s: Sign) -> bool
 }
 
 /// The places of the zeros.
+#[tactic(auto, using(crate::proofs::ZeroPlaces::zero_found, crate::proofs::ZeroPlaces::other_found, crate::proofs::ZeroPlaces::all_found))]
 pub(crate) fn zeros_of(alloc: Global, signs: &[Sign]) -> Result<Vec<usize>, OutOfMemory>
     ensures { IfOk result (λ zeros. zeros.items ≡ zero_places 0 signs.now) }
 {
@@ -115,6 +118,7 @@ pub(crate) fn incidence_towards(
 const ONES: u128 = 0x5555_5555_5555_5555_5555_5555_5555_5555;
 
 // the word with t in place of each zero, which alone has an odd digit
+#[tactic(auto, using(crate::proofs::Words::word_neg, crate::proofs::Words::word_zero, crate::proofs::Words::word_pos))]
 fn filled_word(word: u128, t: Sign) -> u128
     ensures { (s : List SignValue) → packed s ≡ word → length s ≤ 64 → result ≡ packed (filled t s) }
 {
