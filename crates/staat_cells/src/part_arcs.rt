@@ -82,25 +82,6 @@ fn add_cones(
     Ok(())
 }
 
-// adds two parts
-fn push_pair(
-    alloc: Global,
-    table: &PlaneTable,
-    a: u32,
-    b: u32,
-    batches: &mut Vec<Batch>,
-) -> Result<(), OutOfMemory>
-    requires rules { IsTable table.now }
-    requires batches { All IsBatch batches.old.items }
-    requires a_in { Has table.now.of a }
-    requires b_in { Has table.now.of b }
-    requires different { a ≢ b }
-    ensures { OnOk result (AddsArcs (ArePartsAhead table.now a b) batches.old.items batches.new.items) }
-{
-    let wide = wide_cones(alloc, &cones_of(alloc, table, a, b)?)?;
-    add_cones(alloc, &wide, a, b, batches)
-}
-
 // adds two parts, and none where they are one or not both in the set
 fn push_parts(
     alloc: Global,
@@ -118,7 +99,8 @@ fn push_parts(
     ensures { OnOk result (AddsArcs (ArePartsAhead table.now a b) batches.old.items batches.new.items) }
 {
     if a != b && set.has(a) && set.has(b) {
-        push_pair(alloc, table, a, b, batches)
+        let wide = wide_cones(alloc, &cones_of(alloc, table, a, b)?)?;
+        add_cones(alloc, &wide, a, b, batches)
     } else {
         Ok(())
     }

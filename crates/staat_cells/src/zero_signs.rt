@@ -92,6 +92,7 @@ pub(crate) fn zeros_of(alloc: Global, signs: &[Sign]) -> Result<Vec<usize>, OutO
 
 /// The incidence towards `w` of the cell with these signs, the zeros at these places, whose own incidence is `base`:
 /// in place of each zero stands the sign of the plane at `w`.
+#[tactic(auto, using(crate::proofs::ZeroPlaces::towards_none))]
 pub(crate) fn incidence_towards(
     planes: &[Normal],
     signs: &[Sign],
