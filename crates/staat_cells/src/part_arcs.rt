@@ -106,8 +106,8 @@ fn push_parts(
     }
 }
 
-/// The cones of each ordered pair of different parts of the table's set, in batches. Pairs follow upon each other by the
-/// sum of their numbers, so that the two orders of parts, whose cones have the same planes, mostly share a batch.
+/// The cones of each ordered pair of different parts of the table's set, in batches. Pairs follow upon each other by
+/// the sum of their numbers, so that the two orders of parts, whose cones have the same planes, mostly share a batch.
 pub(crate) fn all_batches(alloc: Global, table: &PlaneTable) -> Result<Vec<Batch>, OutOfMemory>
     ensures arcs { IfOk result (λ batches. ListsArcsOf table.now batches.items) }
     ensures batches { IfOk result (λ batches. All IsBatch batches.items) }
