@@ -2,7 +2,8 @@
 use Rattle.std.proofs.Common.{◌≡◌, ◌≢◌, ◌⊎◌, ◌↔◌, inl, inr, ⊎_elim, ℕ, ◌+◌, ◌-◌, ◌*◌, ◌%◌, ◌^◌, ◌<◌, ◌≤◌, min, sym}
 use Rattle.std.proofs.Common.{ap, subst, ◌∙◌, arith, List, [], ◌∷◌, ◌++◌, length, get_or, take, refl, All}
 use Rattle.std.specs.Prelude.{bit_and, bit_or, slice_index, slice_set, Some, slice_get}
-use Rattle.std.specs.Int.{bit_at, bit_not, trailing_zeros, w128}
+use mir.Val.{bits}
+use Rattle.std.specs.Int.{Width, bit_at, bit_not, trailing_zeros, w128}
 use Rattle.std.proofs.lemmas.List.{take_all, get_or_push, length_push}
 use Rattle.std.proofs.lemmas.Nat.{and_le_l}
 use Rattle.std.proofs.lemmas.Nat.Bits.{bit_at-lt, bit_at-trailing_zeros, bit_at-zero, bit_at_above, bit_at_and}
@@ -29,12 +30,11 @@ use Rattle.staat_vec.proofs.ListLaws.{push_cases, push_front, push_end}
 
 -- ---- a bit more
 
-pub set_bit : (x j k : ℕ) → j < 128
-    → (bit_at (bit_or x (1 * 2 ^ j % 2 ^ 128)) k ≡ 1) ↔ ((bit_at x k ≡ 1) ⊎ (k ≡ j))
-set_bit x j k lt = ⊎_elim {C = (bit_at (bit_or x (1 * 2 ^ j % 2 ^ 128)) k ≡ 1) ↔ ((bit_at x k ≡ 1)
-    ⊎ (k ≡ j))}
-    (λ e. (λ h. inr e, λ h. ap (bit_at (bit_or x (1 * 2 ^ j % 2 ^ 128))) e ∙ bit_at_set_same w128 x j lt))
-    (λ ne. let kept = bit_at_set_other w128 x j lt k ne in
+pub set_bit : (w : Width) (x j k : ℕ) → j < bits w
+    → (bit_at (bit_or x (1 * 2 ^ j % 2 ^ bits w)) k ≡ 1) ↔ ((bit_at x k ≡ 1) ⊎ (k ≡ j))
+set_bit w x j k lt = ⊎_elim {C = (bit_at (bit_or x (1 * 2 ^ j % 2 ^ bits w)) k ≡ 1) ↔ ((bit_at x k ≡ 1) ⊎ (k ≡ j))}
+    (λ e. (λ h. inr e, λ h. ap (bit_at (bit_or x (1 * 2 ^ j % 2 ^ bits w))) e ∙ bit_at_set_same w x j lt))
+    (λ ne. let kept = bit_at_set_other w x j lt k ne in
     (λ h. inl (sym kept ∙ h), ⊎_elim (λ o. kept ∙ o) (λ e. absurd (ne e))))
     (same_or k j)
 

@@ -1,17 +1,15 @@
 -- Steps of the loops that join lists of signs and cells.
 use Rattle.std.proofs.Common.{◌≡◌, ℕ, zero, suc, ◌+◌, ◌<◌, ◌≤◌, ap, arith, sym, ◌∙◌, refl, add-one, append_assoc, List, [], ◌∷◌, ◌++◌}
-use Rattle.std.proofs.Common.{drop, length, get_or, map, take, false, true, if◌then◌else◌}
+use Rattle.std.proofs.Common.{drop, length, get_or, map, take, Bool, false, true, if◌then◌else◌}
 use Rattle.std.specs.Prelude.{slice_set}
 use Rattle.std.proofs.lemmas.List.{at_drop_more, drop_all, drop_more, get_or_at, get_or-map, length-take-le, map-append}
 use Rattle.std.proofs.lemmas.List.{set_at, take_all, take_more}
 use Rattle.staat_vec.specs.declared.vector.Sign.{Sign}
-use Rattle.staat_model.specs.declared.tree.Kind.{Kind}
 use Rattle.staat_model.specs.Cells.{CellEntry}
 use Rattle.staat_cells.specs.declared.cell.Cell.{Cell}
 use Rattle.staat_cells.specs.declared.incidence.Incidence.{Incidence}
-use Rattle.staat_cells.specs.Compositions.{begins_cell, begun_up_to, composed, entry_of, composed_at, composed_up_to, no_cell, no_incidence}
+use Rattle.staat_cells.specs.Compositions.{begins_cell, composed, entry_of, no_cell, no_incidence, told_up_to}
 use Rattle.staat_cells.specs.Beside.{then_sign}
-use Rattle.staat_cells.specs.Skeletons.{IsComposedAt}
 use Rattle.staat_cells.specs.Stages.{cell_at}
 use Rattle.staat_vec.proofs.ListLaws.{any_default, append_nothing}
 
@@ -51,56 +49,31 @@ compose_end a b items j same le is =
     is ∙ (λ i. take_all j (composed a b) (let long = composed_long a b same in omega (arith, long, le)) i ++ drop_all j a le i)
     ∙ append_nothing (composed a b)
 
--- ---- cells of the first incidences
+-- ---- what is told of the first places at which a cell begins
 
-pub composed_none : (kind : Kind) (lower : List CellEntry) (incidences : List Incidence) → [] ≡ composed_up_to kind lower incidences 0
-unfolding composed_up_to
-composed_none kind lower incidences = refl
+pub told_none : {X : Type 0} (of : ℕ → X) (incidences : List Incidence) → [] ≡ told_up_to of incidences 0
+unfolding told_up_to
+told_none of incidences = refl
 
-pub composed_with : (kind : Kind) (lower : List CellEntry) (incidences : List Incidence) (i : ℕ) (old new : List Cell) (cell : Cell)
-    → map entry_of old ≡ composed_up_to kind lower incidences i → new ≡ old ++ cell ∷ [] → IsComposedAt kind lower incidences i cell
-    → map entry_of new ≡ composed_up_to kind lower incidences (i + 1)
-unfolding composed_up_to
-composed_with kind lower incidences i old new cell before is at =
-    ap (map entry_of) is ∙ map-append entry_of old (cell ∷ []) ∙ (λ j. before j ++ at.is j ∷ [])
-    ∙ ap (λ b. composed_up_to kind lower incidences i ++ (if b then composed_at kind lower incidences i ∷ [] else [])) (sym at.begins)
-    ∙ ap (composed_up_to kind lower incidences) (sym (add-one i))
+module _ {X : Type 0} (of : ℕ → X) (incidences : List Incidence) (i : ℕ) where
+  told_by : (b : Bool) → begins_cell incidences i ≡ b
+      → told_up_to of incidences (i + 1) ≡ told_up_to of incidences i ++ (if b then of i ∷ [] else [])
+  unfolding told_up_to
+  told_by b is = ap (told_up_to of incidences) (add-one i)
+      ∙ ap (λ b. told_up_to of incidences i ++ (if b then of i ∷ [] else [])) is
+
+  pub told_more : begins_cell incidences i ≡ true
+      → told_up_to of incidences (i + 1) ≡ told_up_to of incidences i ++ of i ∷ []
+  told_more = told_by true
+
+  pub told_same : begins_cell incidences i ≡ false → told_up_to of incidences (i + 1) ≡ told_up_to of incidences i
+  told_same none = told_by false none ∙ append_nothing (told_up_to of incidences i)
+
+-- ---- the cells of incidences, copied
 
 pub entry_at : (lower : List Cell) (k : ℕ) (a : Cell) → k < length lower → a ≡ get_or lower k a
     → entry_of a ≡ get_or (map entry_of lower) k no_cell
 entry_at lower k a lt e = ap entry_of e ∙ sym (get_or-map entry_of lower k a no_cell lt)
-
-pub composed_same : (kind : Kind) (lower : List CellEntry) (incidences : List Incidence) (i : ℕ) (cells : List CellEntry) → begins_cell incidences i ≡ false → cells ≡ composed_up_to kind lower incidences i → cells ≡ composed_up_to kind lower incidences (i + 1)
-unfolding composed_up_to
-composed_same kind lower incidences i cells none is =
-    is ∙ sym (append_nothing (composed_up_to kind lower incidences i))
-    ∙ ap (λ b. composed_up_to kind lower incidences i ++ (if b then composed_at kind lower incidences i ∷ [] else [])) (sym none)
-    ∙ ap (composed_up_to kind lower incidences) (sym (add-one i))
-
--- ---- the incidences at which cells begin
-
-pub begun_none : (incidences : List Incidence) → [] ≡ begun_up_to incidences 0
-unfolding begun_up_to
-begun_none incidences = refl
-
-pub begun_more : (incidences : List Incidence) (i : ℕ) (old new : List Incidence) (x : Incidence)
-    → old ≡ begun_up_to incidences i → new ≡ old ++ x ∷ [] → x ≡ get_or incidences i no_incidence
-    → begins_cell incidences i ≡ true → new ≡ begun_up_to incidences (i + 1)
-unfolding begun_up_to
-begun_more incidences i old new x before is at begins =
-    is ∙ (λ j. before j ++ at j ∷ [])
-    ∙ ap (λ b. begun_up_to incidences i ++ (if b then get_or incidences i no_incidence ∷ [] else [])) (sym begins)
-    ∙ ap (begun_up_to incidences) (sym (add-one i))
-
-pub begun_same : (incidences : List Incidence) (i : ℕ) (found : List Incidence) → found ≡ begun_up_to incidences i
-    → begins_cell incidences i ≡ false → found ≡ begun_up_to incidences (i + 1)
-unfolding begun_up_to
-begun_same incidences i found before none =
-    before ∙ sym (append_nothing (begun_up_to incidences i))
-    ∙ ap (λ b. begun_up_to incidences i ++ (if b then get_or incidences i no_incidence ∷ [] else [])) (sym none)
-    ∙ ap (begun_up_to incidences) (sym (add-one i))
-
--- ---- the cells of incidences, copied
 
 -- the cells of the first incidences were copied
 abbrev pub AreCopiedTo : List Cell → List Incidence → ℕ → List Cell → Type 0

@@ -1,8 +1,9 @@
 -- Tests of a batch that are joined by threes, and the rows of the graph of a cell, batch by batch.
 use Rattle.std.proofs.Common.{◌≡◌, ◌↔◌, inl, inr, refl, ℕ, ◌+◌, ◌*◌, ◌/◌, ◌%◌, ◌<◌, ◌≤◌, sym, subst, ◌∙◌, arith, List}
-use Rattle.std.proofs.Common.{◌∷◌, [], ◌++◌, length, get_or, take, All, ◌⊎◌, replicate, Any}
-use Rattle.std.specs.Prelude.{bit_or, slice_index, slice_set}
-use Rattle.std.specs.Int.{bit_at}
+use Rattle.std.proofs.Common.{◌∷◌, [], ◌++◌, length, get_or, take, All, ◌⊎◌, replicate, Any, ◌≢◌, ◌^◌, eqb-true, Bool, true, false, true≢false, ap, ⊎_elim}
+use mir.Val.{bool_byte}
+use Rattle.std.specs.Prelude.{bit_or, nat_eq, not, slice_index, slice_set}
+use Rattle.std.specs.Int.{bit_at, w32}
 use Rattle.std.proofs.lemmas.List.{get_or_past, take_all, length-set}
 use Rattle.std.proofs.lemmas.Nat.Bits.{bit_at-zero, bit_at_or}
 use Rattle.staat_vec.specs.declared.vector.Sign.{Sign}
@@ -17,6 +18,7 @@ use Rattle.staat_cells.specs.HalfSpaces.{sign_at}
 use Rattle.staat_cells.specs.CellGraphs.{HasArcsOf, IsArcAt, IsListedArc, ListsArcsOf, IsAheadBy, IsCellGraph}
 use Rattle.staat_cells.specs.Batches.{HasConeAmong, HasPlanesUpTo, IsBatchArc, IsJoinedArc, IsLeft, IsLeftByAll}
 use Rattle.staat_cells.specs.Batches.{joined_outside, no_test, outside_by, outside_together, place_of_three, HasLeft}
+use Rattle.staat_cells.proofs.BatchCones.{set_bit}
 use Rattle.staat_cells.proofs.Growing.{all_more, all_pushed, back, itself, through, with_both, grown_first}
 use Rattle.staat_cells.proofs.Growing.{grown_same, grown_take}
 use Rattle.staat_cells.proofs.Words.{place_small}
@@ -170,6 +172,20 @@ told t batches joined rules tells same =
     record { rules = rules; arcs = λ signs a b. through (same signs a b) (tells signs a b) }
 
 -- ---- the arcs of a batch
+
+-- the row with the arc to b, where a cone is left, as a word that is not 0 tells
+pub row_with : (row b word : ℕ) (Left : Type 0) → b < 32 → (word ≢ 0) ↔ Left → (q : ℕ)
+    → (bit_at (bit_or row (bool_byte (not (nat_eq word 0)) * 2 ^ b % 2 ^ 32)) q ≡ 1) ↔ ((bit_at row q ≡ 1) ⊎ ((q ≡ b) × Left))
+row_with row b word Left lt left q = by (nat_eq word 0) refl
+  where
+    by : (none : Bool) → nat_eq word 0 ≡ none
+        → (bit_at (bit_or row (bool_byte (not none) * 2 ^ b % 2 ^ 32)) q ≡ 1) ↔ ((bit_at row q ≡ 1) ⊎ ((q ≡ b) × Left))
+    by true e =
+        let clear : 0 * 2 ^ b % 2 ^ 32 ≡ 0 = omega arith in
+        let same = ap (λ m. bit_at (bit_or row m) q) clear ∙ omega (arith, bit_at_or row 0 q, bit_at-zero q) in
+        (λ h. inl (sym same ∙ h), ⊎_elim (λ h. same ∙ h) (λ p. absurd (left.1 p.1 (eqb-true word 0 e))))
+    by false e = grown_same (set_bit w32 row b q lt)
+        (λ at. (at, left.0 (λ z. true≢false (sym (ap (λ n. nat_eq n 0) z) ∙ e))), λ p. p.0)
 
 -- these are parts with a cone that is not ruled out
 abbrev pub IsArcLeft : ℕ → ℕ → ℕ → ArcCones → Type 0

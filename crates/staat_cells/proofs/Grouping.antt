@@ -18,7 +18,7 @@ use Rattle.staat_model.specs.declared.tree.Kind.{Kind}
 use Rattle.staat_model.specs.Cells.{kind_of, signs_cmp, CellEntry, IsCell, IsEntry, AreCellsOf}
 use Rattle.staat_cells.specs.declared.incidence.Incidence.{Incidence}
 use Rattle.staat_cells.specs.Compositions.{begins_cell, begun_up_to, composed, composed_at, composed_cell}
-use Rattle.staat_cells.specs.Compositions.{composed_up_to, no_incidence, same_words, HavePairs}
+use Rattle.staat_cells.specs.Compositions.{composed_up_to, no_incidence, same_words, told_up_to, HavePairs}
 use Rattle.staat_cells.specs.Packing.{incidence_cmp, incidence_of}
 use Rattle.staat_cells.specs.Stages.{cell_at, words_of, HaveSigns, IsIncidence, IsUnder}
 use Rattle.staat_cells.proofs.IncidenceOrder.{incidence_total}
@@ -252,7 +252,7 @@ module _ (planes : List V3) (kind : Kind) (lower : List CellEntry) (incidences :
             has s a m t d (inr e) = subst (Contains (signs_in cells ++ s ∷ [])) (one_list i s t a (subst (λ k. HasSigns k t) e d)) (Contains-push (signs_in cells) s)
 
     up_to : (i : ℕ) → i ≤ length incidences → AreUpTo i (composed_up_to kind lower incidences i) (begun_up_to incidences i)
-    unfolding composed_up_to begun_up_to
+    unfolding told_up_to
     up_to zero le = none
     up_to (suc i) le = by_start (begins_cell incidences i) refl (up_to i (omega arith))
       where

@@ -1,6 +1,6 @@
 -- The facets of two pieces by their planes, and the loops that list parts with the cones of their pieces.
 use Rattle.std.proofs.Common.{◌≡◌, ◌≢◌, ◌↔◌, ℕ, zero, suc, ◌+◌, ◌≤◌, sym, ap, subst, ◌∙◌, ⊎_elim, arith, Contains}
-use Rattle.std.proofs.Common.{pos, ◌<ℤ◌, List, [], ◌∷◌, ◌++◌, length, take, All, ◌*◌, ◌/◌, ◌%◌, Any}
+use Rattle.std.proofs.Common.{pos, ◌<ℤ◌, List, [], ◌∷◌, ◌++◌, length, take, All, ◌*◌, ◌-◌, ◌/◌, ◌%◌, Any}
 use Rattle.std.specs.Prelude.{Some, slice_get}
 use Rattle.std.proofs.lemmas.List.{take_all}
 use Rattle.std.proofs.lemmas.List.Elements.{All-contains}
@@ -164,21 +164,18 @@ all_listed t k new is le p signs a b = grown_first (grown_same (p.arcs signs a b
     (λ none. let lt = none.2 in omega (arith, lt))
   where
     from : BelowParts (IsPairArc t) k signs a b → IsAheadBy t signs a b
-    from (n, lt, (e, f, h)) = subst (λ x. IsAheadBy t signs x b) (sym e) (subst (IsAheadBy t signs (n / 32)) (sym f) h)
+    from (n, lt, (e, f, h)) = subst (λ x. IsAheadBy t signs x b) (sym e) (subst (IsAheadBy t signs (n % 32)) (sym f) h)
 
     to : IsAheadBy t signs a b → BelowParts (IsPairArc t) k signs a b
     to h =
         let a_is = is.small a h.across.a_in in
         let b_is = is.small b h.across.b_in in
-        let e : a ≡ (32 * a + b) / 32 = omega (arith, b_is) in
-        let f : b ≡ (32 * a + b) % 32 = omega (arith, b_is) in (
-          32 * a + b,
-          omega (arith, a_is, b_is, le),
-          (
-            e,
-            f,
-            subst (λ x. IsAheadBy t signs x ((32 * a + b) % 32)) e (subst (IsAheadBy t signs a) f h),
-          ),
+        let n = 32 * ((a + b) % 32) + a in
+        let e : a ≡ n % 32 = omega (arith, a_is) in
+        let f : b ≡ (n / 32 + 32 - n % 32) % 32 = omega (arith, a_is, b_is) in (
+          n,
+          omega (arith, a_is, le),
+          (e, f, subst (λ x. IsAheadBy t signs x ((n / 32 + 32 - n % 32) % 32)) e (subst (IsAheadBy t signs a) f h)),
         )
 
 -- ---- cones of two parts

@@ -28,12 +28,6 @@ place_small Neg = omega arith
 place_small Zero = omega arith
 place_small Pos = omega arith
 
-pub four_times : (n i : ℕ) → n < 4 ^ i → i < 32 → n * 4 < 2 ^ 64
-four_times n i lt h =
-    let power : 4 ^ suc i ≤ 4 ^ 32 = pow-le-pow_right {n = 4} (omega arith) {i = suc i} {j = 32} (omega arith) in
-    let step = pow-suc 4 i in
-    omega (arith, power, step)
-
 pub next_fits : (n i p : ℕ) → n < 4 ^ i → i < 32 → p ≤ 2 → n * 4 + p < 2 ^ 64
 next_fits n i p lt h le =
     let power : 4 ^ suc i ≤ 4 ^ 32 = pow-le-pow_right {n = 4} (omega arith) {i = suc i} {j = 32} (omega arith) in
@@ -148,29 +142,21 @@ below a (x ∷ s) =
     let e = times_four (a + 1) (4 ^ length s) (4 ^ length (x ∷ s)) (pow-suc 4 (length s)) in
     omega (arith, h, e, le)
 
-one_more : (a : ℕ) (s : List Sign) → packed_after (a + 1) s ≡ packed_after a s + 4 ^ length s
-one_more a s = let e = packed_more a 1 s in omega (arith, e)
-
-pub packed_up : (a : ℕ) (s : List Sign) (k : ℕ) → k < length s → IsZeroAt s k → packed_after a (slice_set s k Pos) ≡ packed_after a s + 4 ^ (length s - 1 - k)
-packed_up a [] k lt z = absurd (omega arith)
-packed_up a (x ∷ s) zero lt z =
-    let up : a * 4 + 2 ≡ a * 4 + 1 + 1 = omega arith in
-    let at : a * 4 + 1 ≡ a * 4 + sign_place x = ap (λ t. a * 4 + sign_place t) (sym z) in
-    let last : length s ≡ length (x ∷ s) - 1 - 0 = omega arith in
-    ap (λ n. packed_after n s) up ∙ one_more (a * 4 + 1) s ∙ (λ i. packed_after (at i) s + 4 ^ last i)
-packed_up a (x ∷ s) (suc k) lt z =
-    let last : length s - 1 - k ≡ length (x ∷ s) - 1 - suc k = omega arith in
-    packed_up (a * 4 + sign_place x) s k (omega arith) z ∙ ap (λ n. packed_after (a * 4 + sign_place x) s + 4 ^ n) last
-
-pub packed_down : (a : ℕ) (s : List Sign) (k : ℕ) → k < length s → IsZeroAt s k → packed_after a (slice_set s k Neg) + 4 ^ (length s - 1 - k) ≡ packed_after a s
-packed_down a [] k lt z = absurd (omega arith)
-packed_down a (x ∷ s) zero lt z =
-    let at : a * 4 + 0 + 1 ≡ a * 4 + sign_place x = (let e : a * 4 + 0 + 1 ≡ a * 4 + 1 = omega arith in e) ∙ ap (λ t. a * 4 + sign_place t) (sym z) in
+-- a sign in place of a zero
+pub packed_set : (a : ℕ) (s : List Sign) (k : ℕ) (t : Sign) → k < length s → IsZeroAt s k
+    → packed_after a (slice_set s k t) + 4 ^ (length s - 1 - k) ≡ packed_after a s + sign_place t * 4 ^ (length s - 1 - k)
+packed_set a [] k t lt z = absurd (omega arith)
+packed_set a (x ∷ s) zero t lt z =
     let last : length (x ∷ s) - 1 - 0 ≡ length s = omega arith in
-    ap (λ n. packed_after (a * 4 + 0) s + 4 ^ n) last ∙ sym (one_more (a * 4 + 0) s) ∙ ap (λ n. packed_after n s) at
-packed_down a (x ∷ s) (suc k) lt z =
-    let last : length (x ∷ s) - 1 - suc k ≡ length s - 1 - k = omega arith in
-    ap (λ n. packed_after (a * 4 + sign_place x) (slice_set s k Neg) + 4 ^ n) last ∙ packed_down (a * 4 + sign_place x) s k (omega arith) z
+    let new = packed_more (a * 4) (sign_place t) s in
+    let old = ap (λ u. packed_after (a * 4 + sign_place u) s) z ∙ packed_more (a * 4) 1 s in
+    subst (λ n. packed_after (a * 4 + sign_place t) s + 4 ^ n ≡ packed_after (a * 4 + sign_place x) s + sign_place t * 4 ^ n)
+    (sym last) (omega (arith, new, old))
+packed_set a (x ∷ s) (suc k) t lt z =
+    let last : length s - 1 - k ≡ length (x ∷ s) - 1 - suc k = omega arith in
+    let b = a * 4 + sign_place x in
+    subst (λ n. packed_after b (slice_set s k t) + 4 ^ n ≡ packed_after b s + sign_place t * 4 ^ n) last
+    (packed_set b s k t (omega arith) z)
 
 -- ---- one word
 
@@ -189,15 +175,17 @@ wrapped_difference x y left e fits = omega arith
 
 module _ (word count k : ℕ) (lt : k < count) (le : count ≤ 64) (s : List Sign) (e : packed s ≡ word)
     (l : length s ≡ count) (z : IsZeroAt s k) where
+  set : (t : Sign) → packed (slice_set s k t) + 4 ^ (count - 1 - k) ≡ word + sign_place t * 4 ^ (count - 1 - k)
+  set t = subst (λ n. packed (slice_set s k t) + 4 ^ (n - 1 - k) ≡ packed s + sign_place t * 4 ^ (n - 1 - k)) l
+      (packed_set 0 s k t (omega (arith, l, lt)) z) ∙ ap (λ n. n + sign_place t * 4 ^ (count - 1 - k)) e
+
   pub word_up : (word + 4 ^ (count - 1 - k)) % 2 ^ 128 ≡ packed (slice_set s k Pos)
-  word_up = wrapped_sum word (4 ^ (count - 1 - k)) (packed (slice_set s k Pos))
-      ((λ i. sym e i + 4 ^ (sym l i - 1 - k)) ∙ sym (packed_up 0 s k (omega (arith, l, lt)) z))
+  word_up = let up = set Pos in wrapped_sum word (4 ^ (count - 1 - k)) (packed (slice_set s k Pos)) (omega (arith, up))
       (packed_fits (slice_set s k Pos) (omega (arith, length-set s k Pos, l, le)))
 
   pub word_down : (word + (2 ^ 128 - 4 ^ (count - 1 - k))) % 2 ^ 128 ≡ packed (slice_set s k Neg)
-  word_down = wrapped_difference word (4 ^ (count - 1 - k)) (packed (slice_set s k Neg))
-      (ap (λ n. packed (slice_set s k Neg) + 4 ^ (n - 1 - k)) (sym l) ∙ packed_down 0 s k (omega (arith, l, lt)) z ∙ e)
-      (subst (λ n. n < 2 ^ 128) e (packed_fits s (omega (arith, l, le))))
+  word_down = let down = set Neg in wrapped_difference word (4 ^ (count - 1 - k)) (packed (slice_set s k Neg))
+      (omega (arith, down)) (subst (λ n. n < 2 ^ 128) e (packed_fits s (omega (arith, l, le))))
 
 -- ---- four words
 

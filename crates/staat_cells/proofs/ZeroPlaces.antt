@@ -186,44 +186,33 @@ zero_listed (x ∷ s) n (suc k) d lt z =
     go true later = Contains-later n (zero_places (suc n) s) (n + suc k) later
     go false later = later
 
-pub place_between : (s : List Sign) (n j : ℕ) → Contains (zero_places n s) j → (n ≤ j) × (j < n + length s)
-place_between [] n j c = absurd (Contains-nothing j c)
-place_between (x ∷ s) n j c = go (is_zero x) (λ h. place_between s (suc n) j h) c
-  where
-    behind : (suc n ≤ j) × (j < suc n + length s) → (n ≤ j) × (j < n + length (x ∷ s))
-    behind p = let a = p.0 in let b = p.1 in (omega (arith, a), omega (arith, b))
+-- j is the place of a zero, where the first sign is at place n
+abbrev IsZeroFrom : List Sign → ℕ → ℕ → Type 0
+IsZeroFrom s n j = (k : ℕ) × (j ≡ n + k) × (k < length s) × ((d : Sign) → get_or s k d ≡ Zero)
 
-    go : (r : Bool) → (Contains (zero_places (suc n) s) j → (suc n ≤ j) × (j < suc n + length s)) → Contains (if r then n ∷ zero_places (suc n) s else zero_places (suc n) s) j → (n ≤ j) × (j < n + length (x ∷ s))
-    go true before h = ⊎_elim {C = (n ≤ j) × (j < n + length (x ∷ s))} (λ e. (omega (arith, e), omega (arith, e))) (λ later. behind (before later)) (Contains-cases n (zero_places (suc n) s) j h)
-    go false before h = behind (before h)
+zero_behind : (x : Sign) (s : List Sign) (n j : ℕ) → IsZeroFrom s (suc n) j → IsZeroFrom (x ∷ s) n j
+zero_behind x s n j (k, at, lt, is) = (suc k, omega (arith, at), omega (arith, lt), is)
+
+zero_from : (s : List Sign) (n j : ℕ) → Contains (zero_places n s) j → IsZeroFrom s n j
+zero_from [] n j c = absurd (Contains-nothing j c)
+zero_from (Neg ∷ s) n j c = zero_behind Neg s n j (zero_from s (suc n) j c)
+zero_from (Pos ∷ s) n j c = zero_behind Pos s n j (zero_from s (suc n) j c)
+zero_from (Zero ∷ s) n j c = ⊎_elim {C = IsZeroFrom (Zero ∷ s) n j} (λ e. (0, omega (arith, e), omega arith, λ d. refl))
+    (λ later. zero_behind Zero s n j (zero_from s (suc n) j later)) (Contains-cases n (zero_places (suc n) s) j c)
 
 -- the place of a zero is that of a plane, which has its sign
 pub zero_place : (planes : List V3) (v : V3) (ks : List ℕ) (j : ℕ) → ks ≡ zero_places 0 (signs_of planes v) → Contains ks j → j < length planes
 zero_place planes v ks j is listed =
+    let (k, at, lt, zero_at) = zero_from (signs_of planes v) 0 j (subst (λ zs. Contains zs j) is listed) in
     let long = length-map planes (λ n. sign (dot n v)) in
-    let within = (place_between (signs_of planes v) 0 j (subst (λ zs. Contains zs j) is listed)).1 in
-    omega (arith, long, within)
-
-listed_zero : (s : List Sign) (n k : ℕ) (d : Sign) → Contains (zero_places n s) (n + k) → get_or s k d ≡ Zero
-listed_zero [] n k d h = absurd (Contains-nothing (n + k) h)
-listed_zero (x ∷ s) n zero d h = first x h
-  where
-    first : (x : Sign) → Contains (if is_zero x then n ∷ zero_places (suc n) s else zero_places (suc n) s) (n + 0) → x ≡ Zero
-    first Zero _ = refl
-    first Neg later = absurd (let w = (place_between s (suc n) (n + 0) later).0 in omega (arith, w))
-    first Pos later = absurd (let w = (place_between s (suc n) (n + 0) later).0 in omega (arith, w))
-listed_zero (x ∷ s) n (suc k) d h =
-    listed_zero s (suc n) k d (subst (Contains (zero_places (suc n) s)) (let e : n + suc k ≡ suc n + k = omega arith in e) (later (is_zero x) h))
-  where
-    later : (r : Bool) → Contains (if r then n ∷ zero_places (suc n) s else zero_places (suc n) s) (n + suc k) → Contains (zero_places (suc n) s) (n + suc k)
-    later true h = ⊎_elim {C = Contains (zero_places (suc n) s) (n + suc k)} (λ e. absurd (omega (arith, e))) (λ l. l) (Contains-cases n (zero_places (suc n) s) (n + suc k) h)
-    later false h = h
+    omega (arith, at, lt, long)
 
 pub zero_sign_there : (planes : List V3) (v : V3) (ks : List ℕ) (j : ℕ) → ks ≡ zero_places 0 (signs_of planes v) → Contains ks j → sign (dot (get_or planes j origin) v) ≡ Zero
 zero_sign_there planes v ks j is listed =
+    let (k, at, lt, zero_at) = zero_from (signs_of planes v) 0 j (subst (λ zs. Contains zs j) is listed) in
+    let same : j ≡ k = omega (arith, at) in
     sym (get_or-map (λ n. sign (dot n v)) planes j origin Neg (zero_place planes v ks j is listed))
-    ∙ listed_zero (signs_of planes v) 0 j Neg
-    (subst (Contains (zero_places 0 (signs_of planes v))) (let e : j ≡ 0 + j = omega arith in e) (subst (λ zs. Contains zs j) is listed))
+    ∙ ap (λ m. get_or (signs_of planes v) m Neg) same ∙ zero_at Neg
 
 -- ---- all planes through the vertex
 

@@ -1,5 +1,5 @@
 -- The blocking graph of a cell: its arcs at every direction with the signs of the cell.
-use Rattle.std.specs.Prelude.{◌≡◌, ◌↔◌, ◌⊎◌, ◌-◌, ◌/◌, ◌%◌, ◌<◌, ℕ, List, All, Any, length, slice_index_or}
+use Rattle.std.specs.Prelude.{◌≡◌, ◌↔◌, ◌⊎◌, ◌+◌, ◌-◌, ◌/◌, ◌%◌, ◌<◌, ℕ, List, All, Any, length, slice_index_or}
 use Rattle.staat_vec.specs.declared.vector.Sign.{Sign}
 use Rattle.staat_graph.specs.Graphs.{HasArc}
 use Rattle.staat_pairs.specs.Searches.{arc_of}
@@ -83,6 +83,6 @@ IsPairAhead t a i b j signs =
 abbrev pub ArePartsAhead : Table → ℕ → ℕ → List Sign → ℕ → ℕ → Type 0
 ArePartsAhead t a b signs x y = (x ≡ a) × (y ≡ b) × IsAheadBy t signs a b
 
--- the arc from the one to the other of the two parts that a number names
+-- the arc from the one to the other of the two parts that a number names, which are ordered by their sum
 abbrev pub IsPairArc : Table → ℕ → List Sign → ℕ → ℕ → Type 0
-IsPairArc t pair = ArePartsAhead t (pair / 32) (pair % 32)
+IsPairArc t pair = ArePartsAhead t (pair % 32) ((pair / 32 + 32 - pair % 32) % 32)

@@ -46,19 +46,19 @@ composed_at kind lower incidences i =
     composed_cell kind (slice_index_or lower (slice_index_or incidences i no_incidence).of no_cell)
     (slice_index_or lower (slice_index_or incidences (i + 1) no_incidence).of no_cell)
 
+-- what is told of the first places at which a cell begins
+unfoldable pub told_up_to : {X : Type 0} → (ℕ → X) → List Incidence → ℕ → List X
+told_up_to of incidences zero = []
+told_up_to of incidences (suc i) =
+    told_up_to of incidences i ++ (if begins_cell incidences i then of i ∷ [] else [])
+
 -- the cells of the first incidences
-unfoldable pub composed_up_to : Kind → List CellEntry → List Incidence → ℕ → List CellEntry
-composed_up_to kind lower incidences zero = []
-composed_up_to kind lower incidences (suc i) =
-    composed_up_to kind lower incidences i
-    ++ (if begins_cell incidences i then composed_at kind lower incidences i ∷ [] else [])
+abbrev pub composed_up_to : Kind → List CellEntry → List Incidence → ℕ → List CellEntry
+composed_up_to kind lower incidences = told_up_to (composed_at kind lower incidences) incidences
 
 -- the incidences at which a cell begins, of the first ones
-unfoldable pub begun_up_to : List Incidence → ℕ → List Incidence
-begun_up_to incidences zero = []
-begun_up_to incidences (suc i) =
-    begun_up_to incidences i
-    ++ (if begins_cell incidences i then slice_index_or incidences i no_incidence ∷ [] else [])
+abbrev pub begun_up_to : List Incidence → ℕ → List Incidence
+begun_up_to incidences = told_up_to (λ i. slice_index_or incidences i no_incidence) incidences
 
 -- each incidence is of a listed cell, and where a cell begins another incidence of it follows
 pub record HavePairs (incidences : List Incidence) (count : ℕ) : Type 0 where

@@ -23,6 +23,7 @@ fn then_sign(first: Sign, second: Sign) -> Sign
 }
 
 // at each plane the first sign, or the second where the first is zero
+#[tactic(auto, using(crate::proofs::Composing::compose_next))]
 fn composed_signs(alloc: Global, first: &[Sign], second: &[Sign]) -> Result<Vec<Sign>, OutOfMemory>
     requires { length first.now ≡ length second.now }
     ensures { IfOk result (λ signs. signs.items ≡ composed first.now second.now) }

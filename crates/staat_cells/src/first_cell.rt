@@ -104,6 +104,7 @@ fn ends_on(planes: &[Normal], g: V3) -> Option<Ends>
 }
 
 // the edge on the plane g, if it has one: the sum of the vertices at its ends
+#[tactic(auto, using(crate::proofs::LeastCell::first_some, crate::proofs::LeastCell::second_some))]
 fn edge_on(planes: &[Normal], g: V3) -> Option<V3>
     requires planes { AreTablePlanes planes.now }
     requires g { Contains planes.now g }
@@ -138,6 +139,7 @@ fn edge_before(planes: &[Normal], end: usize) -> Option<LowEdge>
 /// its second edge is on the last plane but that. On a plane the two ends of the edge are found at once by narrowing
 /// from plane to plane the directions that are left, and most planes are refused after few others. So it takes no
 /// memory, and time linear in the planes for each plane that is looked at, where all points and edges are cubic.
+#[tactic(auto, using(crate::proofs::LeastCell::some_second))]
 pub fn first_open(planes: &[Normal]) -> V3
     requires { AreTablePlanes planes.now }
     ensures entry { IsEntry planes.now Open (first_entry planes.now result) }

@@ -47,6 +47,7 @@ fn half(signs: &[Sign]) -> u64
 }
 
 // how much the digit before so many others counts
+#[tactic(auto, using(crate::proofs::Words::power_is))]
 fn power(count: usize) -> u128
     requires { count ≤ 32 }
     ensures { result ≡ 4 ^ count }
@@ -66,27 +67,19 @@ fn word(signs: &[Sign]) -> u128
     half(&signs[..HALF]) as u128 * power(second.len()) + half(second) as u128
 }
 
-// the first signs, as many as a word has
-fn head(signs: &[Sign]) -> &[Sign]
-    ensures is { result.now ≡ take 64 signs.now }
-    ensures short { length result.now ≤ 64 }
-{
-    if signs.len() <= WORD {
-        signs
-    } else {
-        &signs[..WORD]
-    }
-}
-
-// those from a place on
+// the signs from a place on, as many as a word has
 fn part(signs: &[Sign], from: usize) -> &[Sign]
     ensures is { result.now ≡ take 64 (drop from signs.now) }
     ensures short { length result.now ≤ 64 }
 {
     if signs.len() <= from {
-        &[]
+        return &[];
+    }
+    let rest = &signs[from..];
+    if rest.len() <= WORD {
+        rest
     } else {
-        head(&signs[from..])
+        &rest[..WORD]
     }
 }
 
@@ -95,7 +88,7 @@ pub(crate) fn incidence_of(signs: &[Sign], of: usize) -> Incidence
     ensures { result ≡ incidence_of signs.now of }
 {
     Incidence {
-        a: word(head(signs)),
+        a: word(part(signs, 0)),
         b: word(part(signs, WORD)),
         c: word(part(signs, 2 * WORD)),
         d: word(part(signs, 3 * WORD)),

@@ -14,7 +14,6 @@ ghost use Rattle.staat_cells.specs.HalfSpaces.{sign_at};
 use crate::batches::{ArcCones, Batch, PlaneTest};
 use crate::incidence::place;
 use staat_limits::MOST_PARTS;
-use staat_model::PartSet;
 use staat_vec::{OutOfMemory, Sign};
 use std::alloc::Global;
 
@@ -51,6 +50,7 @@ fn test_at(tests: &[PlaneTest], k: usize) -> PlaneTest
 }
 
 // the words of three tests, together for each three signs
+#[tactic(auto, using(crate::proofs::GraphRows::words_are))]
 fn joined_words(x: &PlaneTest, y: &PlaneTest, z: &PlaneTest) -> [u128; 27]
     ensures { (s t u : SignValue) → slice_index result (place_of_three s t u)
         ≡ outside_together x.now y.now z.now s t u }
@@ -63,6 +63,7 @@ fn joined_words(x: &PlaneTest, y: &PlaneTest, z: &PlaneTest) -> [u128; 27]
 }
 
 // three tests as one
+#[tactic(auto, using(crate::proofs::GraphRows::three_left))]
 fn joined(x: PlaneTest, y: PlaneTest, z: PlaneTest) -> JoinedTest
     ensures { (signs : List SignValue) (j : ℕ) → IsLeft (joined_outside signs result) j
         ↔ ((IsLeft (outside_by signs x) j × IsLeft (outside_by signs y) j) × IsLeft (outside_by signs z) j) }
@@ -154,63 +155,52 @@ fn sign_at(signs: &[Sign], k: usize) -> Sign
     }
 }
 
-// the word of a test that the signs choose, where there may be no sign of one of its planes
-fn word_at(test: &JoinedTest, signs: &[Sign]) -> u128
-    ensures { result ≡ joined_outside signs.now test.now }
+// the word of a test that three signs choose
+fn word_of(test: &JoinedTest, first: Sign, second: Sign, third: Sign) -> u128
+    ensures { result ≡ slice_index test.now.outside (place_of_three first second third) }
 {
-    let first = place(sign_at(signs, test.first));
-    let second = place(sign_at(signs, test.second));
-    let third = place(sign_at(signs, test.third));
-    test.outside[(9 * first + 3 * second + third) as usize]
+    test.outside[(9 * place(first) + 3 * place(second) + place(third)) as usize]
 }
 
-// the word of a test that the signs choose
-fn word_within(test: &JoinedTest, signs: &[Sign], last: usize) -> u128
-    requires planes { HasPlanesUpTo last test.now }
-    requires signs { last < length signs.now }
+// the word of a test that the signs choose, of which there may be none for planes up to the last
+fn word_at(test: &JoinedTest, signs: &[Sign], last: usize) -> u128
+    requires { HasPlanesUpTo last test.now }
     ensures { result ≡ joined_outside signs.now test.now }
 {
-    let first = place(signs[test.first]);
-    let second = place(signs[test.second]);
-    let third = place(signs[test.third]);
-    test.outside[(9 * first + 3 * second + third) as usize]
-}
-
-// the cones that are ruled out at directions with these signs, at least one for each plane up to the last
-fn ruled_out_within(tests: &[JoinedTest], signs: &[Sign], last: usize) -> u128
-    requires planes { All (HasPlanesUpTo last) tests.now }
-    requires signs { last < length signs.now }
-    ensures { (j : ℕ) → IsLeft result j ↔ IsLeftByAll (joined_outside signs.now) tests.now j }
-{
-    let mut found: u128 = 0;
-    for test in tests {
-        found |= word_within(test, signs, last);
+    // one answer for all tests: so the loop over them is compiled once for each, and the first has no bounds
+    if last < signs.len() {
+        word_of(
+            test,
+            signs[test.first],
+            signs[test.second],
+            signs[test.third],
+        )
+    } else {
+        word_of(
+            test,
+            sign_at(signs, test.first),
+            sign_at(signs, test.second),
+            sign_at(signs, test.third),
+        )
     }
-    found
 }
 
-// the same where there may be fewer signs
-fn ruled_out(tests: &[JoinedTest], signs: &[Sign]) -> u128
+// the cones that are ruled out at directions with these signs
+fn ruled_out(tests: &[JoinedTest], signs: &[Sign], last: usize) -> u128
+    requires { All (HasPlanesUpTo last) tests.now }
     ensures { (j : ℕ) → IsLeft result j ↔ IsLeftByAll (joined_outside signs.now) tests.now j }
 {
     let mut found: u128 = 0;
     for test in tests {
-        found |= word_at(test, signs);
+        found |= word_at(test, signs, last);
     }
     found
 }
 
 // ---- the arcs of a batch
 
-// the row with the arc to b
-fn with_arc(row: u32, b: u32) -> u32
-    requires { b < MOST_PARTS }
-    ensures { (q : ℕ) → (bit_at result q ≡ 1) ↔ ((bit_at row q ≡ 1) ⊎ (q ≡ b)) }
-{
-    PartSet::from_bits(row).union(PartSet::single(b)).bits()
-}
-
 // the bits of the first word that are not in the second
+#[tactic(auto, using(crate::proofs::BatchCones::without_some))]
 fn word_without(x: u128, y: u128) -> u128
     ensures { (result ≢ 0) ↔ ((j : ℕ) × (bit_at x j ≡ 1) × (bit_at y j ≡ 0)) }
 {
@@ -223,23 +213,9 @@ fn row_after(row: u32, outside: u128, arc: &ArcCones) -> u32
     ensures { (q : ℕ) → (bit_at result q ≡ 1) ↔ ((bit_at row q ≡ 1) ⊎ ((q ≡ arc.now.b)
         × HasLeft arc.now outside)) }
 {
-    if word_without(arc.cones, outside) != 0 {
-        with_arc(row, arc.b)
-    } else {
-        row
-    }
-}
-
-// the cones of a batch that are ruled out
-fn ruled_out_of(batch: &JoinedBatch, signs: &[Sign]) -> u128
-    requires { IsJoinedBatch batch.now }
-    ensures { (j : ℕ) → IsLeft result j ↔ IsLeftByAll (joined_outside signs.now) batch.now.tests.items j }
-{
-    if batch.last < signs.len() {
-        ruled_out_within(&batch.tests, signs, batch.last)
-    } else {
-        ruled_out(&batch.tests, signs)
-    }
+    // no branch: which cones are left changes from cell to cell
+    let left = word_without(arc.cones, outside) != 0;
+    row | (left as u32) << arc.b
 }
 
 /// Adds the arcs of a batch at directions with these signs.
@@ -247,7 +223,7 @@ pub(crate) fn add_batch_arcs(rows: &mut [u32; 32], batch: &JoinedBatch, signs: &
     requires { IsJoinedBatch batch.now }
     ensures { (a b : ℕ) → HasArc rows.new a b ↔ (HasArc rows.old a b ⊎ IsJoinedArc batch.now signs.now a b) }
 {
-    let outside = ruled_out_of(batch, signs);
+    let outside = ruled_out(&batch.tests, signs, batch.last);
     for arc in &batch.arcs {
         let row = rows[arc.a as usize];
         rows[arc.a as usize] = row_after(row, outside, arc);

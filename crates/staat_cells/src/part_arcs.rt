@@ -82,25 +82,6 @@ fn add_cones(
     Ok(())
 }
 
-// adds two parts
-fn push_pair(
-    alloc: Global,
-    table: &PlaneTable,
-    a: u32,
-    b: u32,
-    batches: &mut Vec<Batch>,
-) -> Result<(), OutOfMemory>
-    requires rules { IsTable table.now }
-    requires batches { All IsBatch batches.old.items }
-    requires a_in { Has table.now.of a }
-    requires b_in { Has table.now.of b }
-    requires different { a ≢ b }
-    ensures { OnOk result (AddsArcs (ArePartsAhead table.now a b) batches.old.items batches.new.items) }
-{
-    let wide = wide_cones(alloc, &cones_of(alloc, table, a, b)?)?;
-    add_cones(alloc, &wide, a, b, batches)
-}
-
 // adds two parts, and none where they are one or not both in the set
 fn push_parts(
     alloc: Global,
@@ -118,13 +99,15 @@ fn push_parts(
     ensures { OnOk result (AddsArcs (ArePartsAhead table.now a b) batches.old.items batches.new.items) }
 {
     if a != b && set.has(a) && set.has(b) {
-        push_pair(alloc, table, a, b, batches)
+        let wide = wide_cones(alloc, &cones_of(alloc, table, a, b)?)?;
+        add_cones(alloc, &wide, a, b, batches)
     } else {
         Ok(())
     }
 }
 
-/// The cones of each ordered pair of different parts of the table's set, in batches.
+/// The cones of each ordered pair of different parts of the table's set, in batches. Pairs follow upon each other by
+/// the sum of their numbers, so that the two orders of parts, whose cones have the same planes, mostly share a batch.
 pub(crate) fn all_batches(alloc: Global, table: &PlaneTable) -> Result<Vec<Batch>, OutOfMemory>
     ensures arcs { IfOk result (λ batches. ListsArcsOf table.now batches.items) }
     ensures batches { IfOk result (λ batches. All IsBatch batches.items) }
@@ -133,8 +116,8 @@ pub(crate) fn all_batches(alloc: Global, table: &PlaneTable) -> Result<Vec<Batch
     let set = table.set();
     let mut batches = Vec::new(alloc);
     for pair in 0..MOST_PARTS * MOST_PARTS {
-        let a = pair / MOST_PARTS;
-        let b = pair % MOST_PARTS;
+        let a = pair % MOST_PARTS;
+        let b = (pair / MOST_PARTS + MOST_PARTS - a) % MOST_PARTS;
         push_parts(alloc, table, set, a, b, &mut batches)?;
     }
     Ok(batches)

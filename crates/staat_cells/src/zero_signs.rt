@@ -1,5 +1,5 @@
 // Packed signs in which a zero gives way to another sign.
-ghost use Rattle.std.specs.Prelude.{◌≡◌, ◌<◌, ◌≤◌, ◌-◌, ◌^◌, IfOk, List, length, slice_set, min};
+ghost use Rattle.std.specs.Prelude.{◌≡◌, ◌<◌, ◌≤◌, IfOk, List, drop, length, min, slice_set, take};
 ghost use Rattle.staat_vec.specs.declared.vector.Sign.{Sign as SignValue};
 ghost use Rattle.staat_vec.specs.Vectors.{IsWithin};
 ghost use Rattle.staat_model.specs.Cells.{is_zero, signs_of};
@@ -12,26 +12,19 @@ use crate::incidence::Incidence;
 use staat_vec::{DIRECTION, Normal, OutOfMemory, Sign, V3, sign_dot};
 use std::alloc::Global;
 
-// how much a digit counts at a place of a word of so many digits
-fn weight(count: usize, k: usize) -> u128
-    requires place { k < count }
-    requires word { count ≤ 64 }
-    ensures { result ≡ 4 ^ (count - 1 - k) }
-{
-    1 << (2 * (count - 1 - k))
-}
-
 // the word with t in place of the zero at k
+#[tactic(auto, using(crate::proofs::Words::word_up, crate::proofs::Words::word_down, crate::proofs::Words::weight_is))]
 fn changed_word(word: u128, count: usize, k: usize, t: Sign) -> u128
     requires place { k < count }
     requires word { count ≤ 64 }
     ensures { (s : List SignValue) → packed s ≡ word → length s ≡ count → IsZeroAt s k
         → result ≡ packed (slice_set s k t) }
 {
+    let weight: u128 = 1 << (2 * (count - 1 - k));
     match t {
-        Sign::Neg => word.wrapping_sub(weight(count, k)),
+        Sign::Neg => word.wrapping_sub(weight),
         Sign::Zero => word,
-        Sign::Pos => word.wrapping_add(weight(count, k)),
+        Sign::Pos => word.wrapping_add(weight),
     }
 }
 
@@ -43,24 +36,35 @@ fn word_count(left: usize) -> usize
     if left < 64 { left } else { 64 }
 }
 
+// the word of the signs from a place on, of so many in all, with t in place of the zero at k
+#[tactic(auto, using(crate::proofs::Words::word_given, crate::proofs::Words::word_kept))]
+fn changed_part(word: u128, from: usize, count: usize, k: usize, t: Sign) -> u128
+    requires { k < count }
+    ensures { (s : List SignValue) → word ≡ packed (take 64 (drop from s)) → length s ≡ count → IsZeroAt s k
+        → result ≡ packed (take 64 (drop from (slice_set s k t))) }
+{
+    if k < from {
+        word
+    } else if k - from < 64 {
+        changed_word(word, word_count(count - from), k - from, t)
+    } else {
+        word
+    }
+}
+
 /// The incidence with `t` in place of the zero at `k`, of so many signs.
 pub(crate) fn changed(incidence: Incidence, count: usize, k: usize, t: Sign) -> Incidence
-    requires few { count ≤ 256 }
-    requires place { k < count }
+    requires { k < count }
     ensures { (s : List SignValue) → incidence ≡ incidence_of s incidence.of → length s ≡ count
         → IsZeroAt s k → result ≡ incidence_of (slice_set s k t) incidence.of }
 {
-    let mut new = incidence;
-    if k < 64 {
-        new.a = changed_word(incidence.a, word_count(count), k, t);
-    } else if k < 128 {
-        new.b = changed_word(incidence.b, word_count(count - 64), k - 64, t);
-    } else if k < 192 {
-        new.c = changed_word(incidence.c, word_count(count - 128), k - 128, t);
-    } else {
-        new.d = changed_word(incidence.d, word_count(count - 192), k - 192, t);
+    Incidence {
+        a: changed_part(incidence.a, 0, count, k, t),
+        b: changed_part(incidence.b, 64, count, k, t),
+        c: changed_part(incidence.c, 128, count, k, t),
+        d: changed_part(incidence.d, 192, count, k, t),
+        of: incidence.of,
     }
-    new
 }
 
 fn is_zero(s: Sign) -> bool
@@ -73,6 +77,7 @@ fn is_zero(s: Sign) -> bool
 }
 
 /// The places of the zeros.
+#[tactic(auto, using(crate::proofs::ZeroPlaces::zero_found, crate::proofs::ZeroPlaces::other_found, crate::proofs::ZeroPlaces::all_found))]
 pub(crate) fn zeros_of(alloc: Global, signs: &[Sign]) -> Result<Vec<usize>, OutOfMemory>
     ensures { IfOk result (λ zeros. zeros.items ≡ zero_places 0 signs.now) }
 {
@@ -87,6 +92,7 @@ pub(crate) fn zeros_of(alloc: Global, signs: &[Sign]) -> Result<Vec<usize>, OutO
 
 /// The incidence towards `w` of the cell with these signs, the zeros at these places, whose own incidence is `base`:
 /// in place of each zero stands the sign of the plane at `w`.
+#[tactic(auto, using(crate::proofs::ZeroPlaces::towards_none))]
 pub(crate) fn incidence_towards(
     planes: &[Normal],
     signs: &[Sign],
@@ -113,6 +119,7 @@ pub(crate) fn incidence_towards(
 const ONES: u128 = 0x5555_5555_5555_5555_5555_5555_5555_5555;
 
 // the word with t in place of each zero, which alone has an odd digit
+#[tactic(auto, using(crate::proofs::Words::word_neg, crate::proofs::Words::word_zero, crate::proofs::Words::word_pos))]
 fn filled_word(word: u128, t: Sign) -> u128
     ensures { (s : List SignValue) → packed s ≡ word → length s ≤ 64 → result ≡ packed (filled t s) }
 {

@@ -12,7 +12,7 @@ use Rattle.staat_model.specs.{Plans.IsStuck, Sets.IsSubset, declared.assembly.Pa
 use Rattle.staat_model.specs.{declared.tree.Kind.Kind, declared.tree.Kind.TheVariants.Open}
 use Rattle.staat_model.proofs.{Members.{all_back, all_front}, OneTable.AreCellsOf-unique}
 use Rattle.staat_pairs.specs.Tables.{AreTablePlanes, Table, WasMadeFrom}
-use Rattle.staat_cells.specs.{Compositions.{begins_cell, composed_at, composed_up_to, entry_of}, FirstCell.first_entry}
+use Rattle.staat_cells.specs.{Compositions.{begins_cell, composed_at, entry_of, told_up_to}, FirstCell.first_entry}
 use Rattle.staat_cells.specs.{Skeletons.{IsComposedAt, IsSkeleton, opens_at, opens_before}, declared.cell.Cell.Cell}
 use Rattle.staat_cells.specs.declared.skeleton.Skeleton.{Skeleton}
 use Rattle.staat_cells.proofs.{LeastCell.first_listed, SomeCells.some_cells, TableRules.holds_axes}
@@ -73,13 +73,13 @@ first_cell_at parts w cells k c m lt at none is = elim is.first [
 
 module _ (s : Skeleton) (P : CellEntry → Type 0) where
   pub at_all_places : (n : ℕ) → ((j : ℕ) → j < n → All P (opens_at s j)) → All P (opens_before s n)
-  unfolding composed_up_to
+  unfolding told_up_to
   at_all_places zero each = All-nil P
   at_all_places (suc n) each = All-append P (opens_before s n) (opens_at s n)
       (at_all_places n (λ j lt. each j (omega (arith, lt)))) (each n (omega arith))
 
   pub at_place : (n i : ℕ) → i < n → All P (opens_before s n) → All P (opens_at s i)
-  unfolding composed_up_to
+  unfolding told_up_to
   at_place zero i lt all = absurd (omega (arith, lt))
   at_place (suc n) i lt all = elim (lt_suc_cases i n lt) [
     | inl before ↦ at_place n i before (all_front P (opens_before s n) (opens_at s n) all)
@@ -89,7 +89,7 @@ module _ (s : Skeleton) (P : CellEntry → Type 0) where
 first_at_place : (s : Skeleton) (P : CellEntry → Type 0) (n i : ℕ) (c : CellEntry) → i < n
     → ((j : ℕ) → j < i → All (λ x. P x → ⊥) (opens_at s j)) → IsFirst P (opens_at s i) c
     → IsFirst P (opens_before s n) c
-unfolding composed_up_to
+unfolding told_up_to
 first_at_place s P zero i c lt none first = absurd (omega (arith, lt))
 first_at_place s P (suc n) i c lt none first = elim (lt_suc_cases i n lt) [
   | inl before ↦ first_left P (opens_before s n) (opens_at s n) c (first_at_place s P n i c before none first)

@@ -2,16 +2,8 @@ use Rattle.std.proofs.Common.{lit≤, ◌∙◌}
 use Rattle.staat_vec.specs.declared.vector.TheConstants.{EDGE, VERTEX}
 use Rattle.staat_vec.specs.Vectors.{plus}
 use Rattle.staat_vec.proofs.Bounds.{IsWithin-wider}
-use Rattle.staat_cells.proofs.LeastCell.{first_some, low_edge, second_some}
+use Rattle.staat_cells.proofs.LeastCell.{low_edge}
 use Rattle.staat_cells.proofs.first_cell.edge_on.Goals as goal
-
-pub primitive-requires-clause-some : goal.primitive-requires-clause-some
-primitive-requires-clause-some c =
-    first_some c.args.planes.now c.requires.planes c.args.g c.requires.g c.in-Some.ends c.in-Some.ensures
-
-pub primitive-requires-in-Some-clause-some : goal.primitive-requires-in-Some-clause-some
-primitive-requires-in-Some-clause-some c =
-    second_some c.args.planes.now c.requires.planes c.args.g c.requires.g c.in-Some.ends c.in-Some.ensures
 
 pub add-requires-clause-a : goal.add-requires-clause-a
 add-requires-clause-a c =

@@ -1,12 +1,8 @@
-use Rattle.staat_cells.proofs.LeastCell.{first_cell, some_first, some_second}
+use Rattle.staat_cells.proofs.LeastCell.{first_cell, some_first}
 use Rattle.staat_cells.proofs.first_cell.first_open.Goals as goal
 
 pub unreachable-requires : goal.unreachable-requires
 unreachable-requires c = some_first c.args.planes.now c.requires c.in_default.ensures
-
-pub unreachable-requires-in_default-edge_before : goal.unreachable-requires-in_default-edge_before
-unreachable-requires-in_default-edge_before c =
-    some_second c.args.planes.now c.requires c.in-Some.first c.in-Some.ensures c.in_default-edge_before.ensures
 
 pub returns-clause-entry : goal.returns-clause-entry
 returns-clause-entry c =

@@ -1,13 +1,7 @@
 use Rattle.std.proofs.Common.{◌∙◌, ap, arith}
 use Rattle.staat_vec.specs.Vectors.{dot, sign}
-use Rattle.staat_cells.proofs.ZeroPlaces.{towards_all, towards_none, zero_changed, zero_within}
+use Rattle.staat_cells.proofs.ZeroPlaces.{towards_all, zero_changed, zero_within}
 use Rattle.staat_cells.proofs.zero_signs.incidence_towards.Goals as goal
-
-pub loop-i-init : goal.loop-i-init
-loop-i-init c =
-    towards_none c.args.planes.now c.args.signs.now c.args.w c.requires.signs c.args.base c.args.base.of
-    c.args.zeros.now
-    c.requires.zeros c.requires.base
 
 pub offset_bounds-planes-j : goal.offset_bounds-planes-j
 offset_bounds-planes-j c =
@@ -26,8 +20,8 @@ bounds-planes-j c =
     let long = c.requires.signs in
     omega (arith, within, long)
 
-pub changed-incidence-requires-clause-place : goal.changed-incidence-requires-clause-place
-changed-incidence-requires-clause-place c =
+pub changed-incidence-requires : goal.changed-incidence-requires
+changed-incidence-requires c =
     zero_within c.args.planes.now c.args.signs.now c.args.w c.requires.signs c.loop-i.incidence c.args.base.of
     c.args.zeros.now c.loop-i.i c.loop-i-test.true c.loop-i.invariant
 

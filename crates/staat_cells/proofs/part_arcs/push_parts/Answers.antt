@@ -6,10 +6,10 @@ use Rattle.staat_cells.specs.CellGraphs.{IsAheadBy}
 use Rattle.staat_cells.specs.declared.half_spaces.HalfSpace.{HalfSpace}
 use Rattle.staat_cells.specs.HalfSpaces.{AreInside}
 use Rattle.staat_cells.proofs.PieceCones.{pair_added}
-use Rattle.staat_cells.proofs.part_arcs.push_pair.Goals as goal
+use Rattle.staat_cells.proofs.part_arcs.push_parts.Goals as goal
 
-pub returns : goal.returns
-returns c =
+pub returns-in_ok-wide : goal.returns-in_ok-wide
+returns-in_ok-wide c =
     let t = c.args.table.now in
     let a = c.args.a in
     let b = c.args.b in
@@ -17,7 +17,7 @@ returns c =
     ↔ IsAheadBy t signs a b)
     (sym c.deref.ensures.value) c.in_ok-cones_of.ensures in
     on_ok_weaker c.add_cones.result (λ added.
-    pair_added t a b c.deref-2.result.now c.args.batches.now.items c.add_cones.new.batches.items
+    pair_added t a b c.deref-then-has-2.result.now c.args.batches.now.items c.add_cones.new.batches.items
     (subst (λ (l : List (List HalfSpace)). (signs : List Sign) → Any (AreInside signs) l ↔ IsAheadBy t signs a b)
-    (sym c.deref-2.ensures.value) (λ signs. through (c.in_ok-wide.ensures signs) (ahead signs))) added)
+    (sym c.deref-then-has-2.ensures.value) (λ signs. through (c.in_ok-wide.ensures signs) (ahead signs))) added)
     c.add_cones.ensures
