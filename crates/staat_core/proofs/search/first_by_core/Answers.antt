@@ -1,12 +1,10 @@
-use Rattle.std.proofs.Common.{◌≡◌, arith, ap, subst, All, length}
-use Rattle.std.specs.Prelude.{pos}
+use Rattle.std.proofs.Common.{◌≡◌, arith, ap, subst, length}
 use Rattle.staat_model.proofs.Members.{All-from_members}
 use Rattle.staat_model.specs.Planes.{vertices}
 use Rattle.staat_planes.specs.PairOrder.{vertices_left}
 use Rattle.staat_planes.proofs.PairSteps.{few_left}
 use Rattle.staat_core.specs.TableCores.{CoreHolds}
-use Rattle.staat_core.specs.VertexSearch.{AreManyPassed, ArePassed}
-use Rattle.staat_core.specs.declared.search.Search.{Search}
+use Rattle.staat_core.specs.VertexSearch.{AreManyPassed}
 use Rattle.staat_core.specs.declared.search.Search.TheVariants.{First, Nothing, Undecided}
 use Rattle.staat_core.proofs.SearchSteps.{found_then, none_tried, passed_weaker, so_many}
 use Rattle.staat_core.proofs.TableHolding.{alike_hold}

@@ -1,4 +1,4 @@
-use Rattle.std.proofs.Common.{◌≡◌, subst, sym, [], All}
+use Rattle.std.proofs.Common.{subst, sym, All}
 use Rattle.staat_planes.specs.PairOrder.{vertices_left}
 use Rattle.std.proofs.lemmas.List.Elements.{All-nil}
 use Rattle.staat_core.proofs.SearchSteps.{first_of_pair, pair_tried}
