@@ -5,3 +5,5 @@ pub mod Holding
 pub mod Listing
 pub mod TableHolding
 pub mod Bonding
+pub mod FirstVertices
+pub mod SearchSteps

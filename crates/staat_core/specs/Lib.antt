@@ -4,3 +4,4 @@ pub mod Cores
 pub mod Listed
 pub mod TableCores
 pub mod Bonds
+pub mod VertexSearch

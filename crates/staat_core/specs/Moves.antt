@@ -6,7 +6,6 @@ use Rattle.staat_model.specs.declared.assembly.Part.{Part}
 use Rattle.staat_model.specs.declared.set.PartSet.{PartSet}
 use Rattle.staat_model.specs.declared.certificate.Arc.{Arc}
 use Rattle.staat_model.specs.Cores.{IsFreeInCore}
-use Rattle.staat_model.specs.Removal.{IsFree}
 use Rattle.staat_model.specs.Sets.{Has, IsSide, single}
 use Rattle.staat_graph.specs.Graphs.{IsShut}
 use Rattle.staat_core.specs.declared.joins.Moving.{Moving}
@@ -29,8 +28,3 @@ MovesPart R w p = IsShut R w (single p) ⊎ IsShut R w (set.difference w (single
 abbrev pub HoldsMoves : List Part → List Arc → Moving → PartSet → V3 → Type 0
 HoldsMoves parts arcs moving w d =
     (s : PartSet) → IsMove moving w s → IsFreeInCore parts arcs s (set.difference w s) d → ⊥
-
--- none of them is free of the rest along d
-abbrev pub NothingMoves : List Part → Moving → PartSet → V3 → Type 0
-NothingMoves parts moving w d =
-    (s : PartSet) → IsMove moving w s → IsFree parts s (set.difference w s) d → ⊥

@@ -1,10 +1,9 @@
 -- The chosen order: its steps, and that it is good or names a set that is locked.
-use Rattle.std.proofs.Common.{◌≡◌, ℕ, ◌<◌, ◌≤◌, refl, sym, subst, ap, ◌∙◌, List, [], ◌∷◌, ◌++◌, pos}
+use Rattle.std.proofs.Common.{◌≡◌, ℕ, ◌<◌, ◌≤◌, refl, sym, subst, ap, ◌∙◌, List, [], ◌∷◌, ◌++◌}
 use Rattle.std.proofs.lemmas.List.Elements.{All-contains}
 use Rattle.std.specs.Prelude.{◌↔◌, MatchOption, None, Option, Some}
 use Rattle.std.specs.FinSet as set
 use Rattle.staat_vec.specs.declared.vector.V3.{V3}
-use Rattle.staat_vec.specs.Vectors.{negative, vector}
 use Rattle.staat_model.specs.declared.assembly.Part.{Part}
 use Rattle.staat_model.specs.declared.set.PartSet.{PartSet}
 use Rattle.staat_model.specs.Assemblies.{IsAssembly}
@@ -15,9 +14,8 @@ use Rattle.staat_model.proofs.SetMembers.{has-difference, has-single}
 use Rattle.staat_model.proofs.SomePlanes.{some_planes}
 use Rattle.staat_model.proofs.VertexLemmas.{vertices_decide_lemma}
 use Rattle.staat_graph.proofs.Finite.{len_fewer}
-use Rattle.staat_planes.specs.declared.search.Served.{Served}
-use Rattle.staat_planes.specs.VertexSearch.{IsFirstServed}
-use Rattle.staat_planes.proofs.FirstVertices.{axis_first}
+use Rattle.staat_core.specs.declared.search.Served.{Served}
+use Rattle.staat_core.specs.VertexSearch.{IsFirstServed}
 use Rattle.staat_linear.specs.declared.order.Leave.{Leave}
 use Rattle.staat_linear.specs.declared.order.Order.{Order}
 use Rattle.staat_linear.specs.declared.order.Order.TheVariants.{Whole, Locked}
@@ -48,13 +46,6 @@ served_is_leave parts w s first =
     let (planes, are) = some_planes parts w in
     let h = first planes are in
     record { planes = planes; planes_are = are; first = h.first; leaves = h.found_is.leaves; least = h.found_is.least }
-
-abbrev last_axis : V3
-last_axis = vector (pos 0) (pos 0) (pos 1)
-
--- the first two vertices are the last axis and its opposite
-pub axis_is_leave : (parts : List Part) (w : PartSet) (s : Served ℕ) → IsFirstServed (LetsLeave parts w) (IsLeastLeaving parts w) (last_axis ∷ negative last_axis ∷ []) s → IsLeave parts w (record { part = s.found; d = s.d })
-axis_is_leave parts w s h = served_is_leave parts w s (λ planes are. axis_first (LetsLeave parts w) (IsLeastLeaving parts w) parts w planes are s h)
 
 -- ---- the order
 

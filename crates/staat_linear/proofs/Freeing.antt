@@ -3,6 +3,7 @@ use Rattle.std.proofs.Common.{◌≡◌, ◌≢◌, ⊎_elim, ℕ, ◌≤◌, sy
 use Rattle.staat_vec.specs.declared.vector.V3.{V3}
 use Rattle.staat_vec.specs.Vectors.{negative, origin}
 use Rattle.staat_model.specs.declared.assembly.Part.{Part}
+use Rattle.staat_model.specs.declared.certificate.Arc.{Arc}
 use Rattle.staat_model.specs.declared.set.PartSet.{PartSet}
 use Rattle.staat_model.specs.Sets.{Has, single}
 use Rattle.staat_model.proofs.GraphLemmas.{opposite_blocks_lemma}
@@ -10,7 +11,7 @@ use Rattle.staat_model.proofs.SetMembers.{has-difference, has-single}
 use Rattle.staat_graph.specs.Blocking.{ShowsBlocking}
 use Rattle.staat_graph.specs.Graphs.{AreReversed, HasArc}
 use Rattle.staat_core.specs.declared.joins.Moving.TheVariants.{OnePart}
-use Rattle.staat_core.specs.Moves.{NothingMoves}
+use Rattle.staat_core.specs.Moves.{HoldsMoves}
 use Rattle.staat_linear.specs.Holding.{AreHeld, IsHeld, IsLeastFree, IsLeastLeaving}
 use Rattle.staat_linear.specs.Orders.{LeavesAlong, LetsLeave}
 use Rattle.staat_linear.proofs.Locked.{has-without}
@@ -55,6 +56,6 @@ module _ (parts : List Part) (w : PartSet) (d : V3) (rows : List ℕ) (shows : S
     least = λ q leaves. ⊎_elim {C = p ≤ q} (λ le. le) (λ lt. absurd (held_stays q (h.before q leaves.member lt) leaves)) (le_or_lt p q);
   }
 
--- where nothing moves by itself, no part leaves
-pub nothing_leaves : (parts : List Part) (w : PartSet) (d : V3) → NothingMoves parts OnePart w d → LetsLeave parts w d → ⊥
-nothing_leaves parts w d none (p, leaves) = none (single p) (p, leaves.member, inl refl) leaves.free
+-- where no part moves as far as some arcs tell, none leaves
+pub nothing_leaves : (parts : List Part) (w : PartSet) (d : V3) (arcs : List Arc) → HoldsMoves parts arcs OnePart w d → (p : ℕ) → LeavesAlong parts w d p → ⊥
+nothing_leaves parts w d arcs held p leaves = held (single p) (p, leaves.member, inl refl) (λ arc listed a_in b_in m. leaves.free.clear arc a_in b_in m)

@@ -1,5 +1,4 @@
 pub mod Locked
-pub mod Lines
 pub mod Others
 pub mod Freeing
 pub mod Choosing

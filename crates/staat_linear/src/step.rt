@@ -1,21 +1,20 @@
 // The step of a set of parts: the part that is taken away next, and its direction.
-ghost use Rattle.std.specs.Prelude.{◌≡◌, ◌≢◌, ◌<◌, ◌≤◌, ◌↔◌, List, IfSome, IsTrue, MatchOption, None};
+ghost use Rattle.std.specs.Prelude.{◌≡◌, ◌<◌, ◌≤◌, ◌↔◌, List, IfSome, IsTrue, MatchOption, None};
 ghost use Rattle.std.specs.FinSet as set;
-ghost use Rattle.staat_vec.specs.Vectors.{IsWithin, origin};
+ghost use Rattle.staat_vec.specs.Vectors.{IsWithin};
 ghost use Rattle.staat_model.specs.declared.assembly.Part.{Part as PartValue};
-ghost use Rattle.staat_model.specs.Sets.{Has, IsNonempty, IsSubset};
+ghost use Rattle.staat_model.specs.Sets.{Has, IsSubset};
 ghost use Rattle.staat_pairs.specs.Tables.{WasMadeFrom};
-ghost use Rattle.staat_planes.specs.VertexSearch.{IfFound, IsFirstOfTwo};
 ghost use Rattle.staat_linear.specs.Holding.{AreHeld, IsHeld, IsLeastFree, IsLeastLeaving};
 ghost use Rattle.staat_linear.specs.Orders.{HasNoLeave, IsLeave, IsLocked, LetsLeave};
 
 use crate::order::Leave;
-use staat_core::{Moving, SetCore};
+use staat_core::{Moving, TableCore, Trial, Tried, first_vertex};
 use staat_graph::Graph;
 use staat_limits::MOST_PARTS;
 use staat_model::PartSet;
-use staat_planes::{PlaneTable, Trial, Tried, first_vertex};
-use staat_vec::{DIRECTION, V3, neg};
+use staat_planes::PlaneTable;
+use staat_vec::{DIRECTION, V3};
 
 // whether an arc leads from the part p of w to another part of w
 fn is_held(graph: &Graph, w: PartSet, p: u32) -> bool
@@ -40,41 +39,16 @@ fn least_free(graph: &Graph, w: PartSet) -> Option<u32>
     None
 }
 
-// The least part of w that leaves along the direction, or else along its opposite, where the arcs are turned round.
-fn part_along(table: &PlaneTable, w: PartSet, d: V3) -> Tried<u32>
-    requires nonempty { IsNonempty w }
-    requires within { IsSubset w table.now.of }
-    requires size { IsWithin DIRECTION d }
-    requires some { d ≢ origin }
-    ensures among { IfFound result (λ p. Has w p) }
-    ensures tried { (parts : List PartValue) → WasMadeFrom parts table.now
-        → IsFirstOfTwo (λ d. LetsLeave parts w d) (λ d p. IsLeastLeaving parts w d p) d result }
-{
-    let graph = table.graph_in(w, d);
-    if let Some(p) = least_free(&graph, w) {
-        return Tried::Ahead(p);
-    }
-    match least_free(&graph.reversed(), w) {
-        Some(p) => Tried::Opposite(p),
-        None => Tried::Neither,
-    }
-}
-
-// The search for a part that leaves. It keeps a core by which all parts are held, which is large.
-#[derive(Drop)]
-struct Taking {
-    core: SetCore,
-}
+// what looks for the least part of a set that leaves
+#[derive(Clone, Copy)]
+struct Taking;
 
 impl Trial for Taking {
     ghost use Rattle.std.specs.Prelude.{⊤};
-    ghost use Rattle.staat_core.specs.TableCores.{IsSetCore};
 
     type Found = u32;
 
-    ghost fits = { λ s t w. IsNonempty w × IsSetCore t s.core };
-
-    ghost knows = { λ s parts. ⊤ };
+    ghost knows = { λ s parts t. ⊤ };
 
     ghost serves = { λ parts w d. LetsLeave parts w d };
 
@@ -82,39 +56,20 @@ impl Trial for Taking {
 
     ghost among = { λ w p. Has w p };
 
-    fn ask(&mut self, table: &PlaneTable, w: PartSet, d: V3) -> Tried<u32> {
-        part_along(table, w, d)
+    // along the opposite direction the arcs are turned round
+    fn ask(&self, table: &PlaneTable, w: PartSet, d: V3) -> Tried<u32> {
+        let graph = table.graph_in(w, d);
+        if let Some(p) = least_free(&graph, w) {
+            return Tried::Ahead(p);
+        }
+        match least_free(&graph.reversed(), w) {
+            Some(p) => Tried::Opposite(p),
+            None => Tried::Neither,
+        }
     }
 
-    fn rules_out(&mut self, table: &PlaneTable, w: PartSet, g: V3) -> bool {
-        self.core.holds_on(table, w, Moving::OnePart, g)
-    }
-
-    fn rules_out_all(&mut self, table: &PlaneTable, w: PartSet) -> bool {
-        self.core.holds(table, w, Moving::OnePart)
-    }
-}
-
-// The step of the set by a search with a core. What that keeps on the stack is large, and is not to be part of the
-// callers' frames.
-#[inline(never)]
-fn searched_step(table: &PlaneTable, w: PartSet) -> Option<Leave>
-    requires set { IsSubset w table.now.of }
-    requires two { 2 ≤ set.len w }
-    ensures member { IfSome result (λ leave. Has w leave.part) }
-    ensures size { IfSome result (λ leave. IsWithin DIRECTION leave.d) }
-    ensures step { (parts : List PartValue) → WasMadeFrom parts table.now
-        → MatchOption result (HasNoLeave parts w) (IsLeave parts w) }
-{
-    let mut taking = Taking {
-        core: SetCore::none(),
-    };
-    match first_vertex(table, w, &mut taking) {
-        None => None,
-        Some(served) => Some(Leave {
-            part: served.found,
-            d: served.d,
-        }),
+    fn core(&self, table: &PlaneTable, w: PartSet) -> TableCore {
+        TableCore::of(table, w, Moving::OnePart)
     }
 }
 
@@ -133,11 +88,11 @@ pub fn linear_step(table: &PlaneTable, w: PartSet) -> Option<Leave>
     ensures locked { (parts : List PartValue) → WasMadeFrom parts table.now
         → (result ≡ None) ↔ IsLocked parts w }
 {
-    // the first vertices of the planes of each set, along which most sets let a part leave
-    let d = V3 { x: 0, y: 0, z: 1 };
-    match part_along(table, w, d) {
-        Tried::Ahead(part) => Some(Leave { part, d }),
-        Tried::Opposite(part) => Some(Leave { part, d: neg(d) }),
-        Tried::Neither => searched_step(table, w),
+    match first_vertex(table, w, &Taking) {
+        None => None,
+        Some(served) => Some(Leave {
+            part: served.found,
+            d: served.d,
+        }),
     }
 }

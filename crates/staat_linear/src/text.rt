@@ -1,10 +1,10 @@
 // The text of an order, or of a set that is locked.
-ghost use Rattle.std.specs.Prelude.{◌≡◌, ◌∷◌, ◌++◌, IfOk, decimal, flat_map, string_bytes};
+ghost use Rattle.std.specs.Prelude.{◌≡◌, ◌++◌, IfOk, flat_map, string_bytes};
 ghost use Rattle.staat_linear.specs.OrderTexts.{last_line, locked_line, order_text, take_line};
 
 use crate::order::{Leave, Order};
-use staat_limits::MOST_PARTS;
 use staat_model::PartSet;
+use staat_text::parts_listed;
 use staat_vec::{Bytes, OutOfMemory, V3};
 use std::alloc::{AllocError, Global};
 
@@ -24,26 +24,14 @@ fn last_line(alloc: Global, last: u32) -> Result<String, AllocError>
     format!(in alloc; "last {last}\n")
 }
 
-// A part after the space that parts it from what is before.
-fn spaced_part(alloc: Global, part: u32) -> Result<String, AllocError>
-    ensures { IfOk result (λ s. string_bytes s ≡ 32 ∷ decimal part) }
-{
-    format!(in alloc; " {part}")
-}
-
 // The line of a set that is locked.
-#[tactic(auto, unfolding(staat_model::specs::Lines::members))]
 fn locked_line(alloc: Global, w: PartSet) -> Result<Vec<u8>, AllocError>
     ensures { IfOk result (λ line. line.items ≡ locked_line w) }
 {
+    let parts = parts_listed(alloc, w)?;
     let mut line = b"locked".to_vec(alloc)?;
-    for p in 0..MOST_PARTS {
-        if w.has(p) {
-            let part = spaced_part(alloc, p)?;
-            line.extend_from_slice(part.as_bytes())?;
-        }
-    }
-    line.push(b'\n')?;
+    line.extend_from_slice(parts.as_slice())?;
+    line.extend_from_slice(b"\n")?;
     Ok(line)
 }
 

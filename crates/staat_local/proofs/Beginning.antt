@@ -1,10 +1,10 @@
 -- The first vertex along which some side begins to move, and that none does where the set is tight.
-use Rattle.std.proofs.Common.{◌≡◌, ◌≢◌, ◌↔◌, ◌≤◌, inl, inr, Option, None, Some, arith, ap, ℕ, refl, subst, sym, Bool, List, All, pos}
+use Rattle.std.proofs.Common.{◌≡◌, ◌≢◌, ◌↔◌, ◌≤◌, inl, inr, Option, None, Some, arith, ap, ℕ, refl, subst, sym, Bool, List, All}
 use Rattle.std.specs.FinSet as set
 use Rattle.std.proofs.lemmas.List.Elements.{All-contains}
 use Rattle.staat_vec.specs.declared.vector.V3.{V3}
 use Rattle.staat_vec.specs.Lists.{IsFirst}
-use Rattle.staat_vec.specs.Vectors.{negative, origin, vector}
+use Rattle.staat_vec.specs.Vectors.{negative, origin}
 use Rattle.staat_vec.proofs.Unique.{IsFirst-in, IsFirst-unique}
 use Rattle.staat_model.specs.declared.assembly.Part.{Part}
 use Rattle.staat_model.specs.declared.set.PartSet.{PartSet}
@@ -16,9 +16,8 @@ use Rattle.staat_model.proofs.OneTable.{ArePlanes-unique}
 use Rattle.staat_graph.specs.Graphs.{HasArc, IsFirstSink, IsStrong}
 use Rattle.staat_graph.proofs.Sides.{moved_of_first, serves_of_weak, weak_of_serves}
 use Rattle.staat_pairs.specs.Tables.{Table, WasMadeFrom}
-use Rattle.staat_planes.specs.declared.search.Served.{Served}
-use Rattle.staat_planes.specs.VertexSearch.{IsFirstServed}
-use Rattle.staat_planes.proofs.FirstVertices.{axis_first}
+use Rattle.staat_core.specs.declared.search.Served.{Served}
+use Rattle.staat_core.specs.VertexSearch.{IsFirstServed}
 use Rattle.staat_local.specs.declared.side.Loose.{Loose}
 use Rattle.staat_local.specs.Beginnings.{HoldsBetween, IsBeginning, IsFoundIn, IsTight, Loosens}
 use Rattle.staat_local.specs.Contacts.{Starts}
@@ -41,9 +40,6 @@ module _ (parts : List Part) (t : Table) (marks : List Bool) (made : WasMadeFrom
 
 -- ---- what a search finds of the whole set of a table
 
-abbrev last_axis : V3
-last_axis = vector (pos 0) (pos 0) (pos 1)
-
 module _ (parts : List Part) (t : Table) (w : PartSet) (made : WasMadeFrom parts t) (all : w ≡ t.of) where
   own_planes : ArePlanes parts w t.planes
   own_planes = subst (λ (u : PartSet). ArePlanes parts u t.planes) (sym all) made.planes
@@ -52,11 +48,6 @@ module _ (parts : List Part) (t : Table) (w : PartSet) (made : WasMadeFrom parts
   served_begins s first =
       let h = first t.planes own_planes in
       subst (λ (u : PartSet). IsBeginning parts u (record { side = s.found; d = s.d })) all (record { planes = t.planes; planes_are = own_planes; first = h.first; moved = h.found_is })
-
-  -- the first two vertices are those along the last axis
-  pub axis_begins : (s : PartSet) → Loosens parts w last_axis × IsMovedSideBy Starts parts w last_axis s → IsBeginning parts t.of (record { side = s; d = last_axis })
-  axis_begins s h = served_begins (record { d = last_axis; found = s }) (λ planes are.
-      axis_first (Loosens parts w) (IsMovedSideBy Starts parts w) parts w planes are (record { d = last_axis; found = s }) (record { first = inl (refl, h.0); found_is = h.1 }))
 
   pub none_is_tight : 2 ≤ set.len t.of → ((planes : List V3) → ArePlanes parts w planes → All (λ v. Loosens parts w v → ⊥) (vertices planes)) → IsTight parts t.of
   none_is_tight two none =

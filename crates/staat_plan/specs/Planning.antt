@@ -1,14 +1,14 @@
 -- What the planner finds for a set of parts.
 use Rattle.std.specs.Option.{option_to_list}
-use Rattle.std.specs.Prelude.{◌≡◌, ◌≤◌, ◌++◌, ℕ, List, Option, Bool, All, MatchOption, false, length, true, ⊤}
+use Rattle.std.specs.Prelude.{◌≡◌, ◌≤◌, ◌++◌, ℕ, List, Option, Bool, All, MatchOption, false, length, true}
 use Rattle.staat_limits.specs.declared.limits.TheConstants.{LEAST_PLANES, MOST_CELL_PLANES, MOST_PLANES}
-use Rattle.staat_vec.specs.{Lists.IsFirst, declared.vector.TheConstants.DIRECTION, declared.vector.V3.V3}
+use Rattle.staat_vec.specs.{Lists.IsFirst, declared.vector.TheConstants.DIRECTION}
 use Rattle.staat_model.specs.Outcomes.{Finding, HasNoStep, IsMovedSide, IsOutcome, IsStep, Serves, Try, finding_of}
-use Rattle.staat_model.specs.{Outcomes.{planned, stuck, try_vertex}, Planes.{ArePlanes, vertices}}
+use Rattle.staat_model.specs.Outcomes.{planned, stuck, try_vertex}
 use Rattle.staat_model.specs.{Plans.{IsGood, IsStuck, split}, Sets.{IsSubset, below}, declared.assembly.Part.Part}
 use Rattle.staat_model.specs.{declared.set.PartSet.PartSet, declared.tree.Outcome.Outcome, declared.tree.Step.Step}
 use Rattle.staat_pairs.specs.Tables.{Table, WasMadeFrom}
-use Rattle.staat_planes.specs.{Refusals.IsTableWithin, VertexSearch.IsFirstUnless, declared.search.Search.Search}
+use Rattle.staat_planes.specs.Refusals.{IsTableWithin}
 use Rattle.staat_certify.specs.{Certifying.HasFewPlanes, Plans.AreWithin}
 use Rattle.staat_plan.specs.{declared.marked.Marked.Marked, declared.planner.Options.Options}
 
@@ -62,11 +62,6 @@ IsSetStep robust t w found = (parts : List Part) → WasMadeFrom parts t → IsS
 abbrev pub IsVertexStep : Table → PartSet → Option Step → Type 0
 IsVertexStep t w found = (parts : List Part) → WasMadeFrom parts t
     → MatchOption found (HasNoStep false parts w) (λ s. IsStep false parts w (try_vertex s.d) s.moved)
-
--- the first of the vertices of the planes of w that serves, and the side that moves, unless the search ends undecided
-abbrev pub IsSideSearch : Table → PartSet → Search PartSet → Type 0
-IsSideSearch t w found = (parts : List Part) (planes : List V3) → WasMadeFrom parts t → ArePlanes parts w planes
-    → IsFirstUnless ⊤ (Serves parts w) (IsMovedSide parts w) (vertices planes) found
 
 -- the outcome of w, whose planes are no more than the limit
 pub record IsOutcomeOf (robust : Bool) (parts : List Part) (w : PartSet) (limit : ℕ) (o : Outcome) : Type 0 where

@@ -7,10 +7,10 @@ ghost use Rattle.staat_pairs.specs.Tables.{WasMadeFrom};
 ghost use Rattle.staat_plan.specs.{LoneLines.OnlyPlanesThroughServe, Planning.IsSetStep};
 
 use crate::marked::{Marked, side_of};
-use crate::side_trial::SideTrial;
+use staat_core::{Moving, TableCore};
 use staat_limits::MOST_CELL_PLANES;
 use staat_model::{Kind, PartSet, Step};
-use staat_planes::{PlaneTable, Trial};
+use staat_planes::PlaneTable;
 use staat_vec::{DIRECTION, Normal, OutOfMemory, Sign, V3, canon, neg, sign_dot};
 use std::alloc::Global;
 
@@ -24,10 +24,10 @@ fn is_lone(table: &PlaneTable, w: PartSet, planes: &[Normal], v: V3) -> bool
     ensures { IsTrue result → (parts : List PartValue) → WasMadeFrom parts table.now
         → OnlyPlanesThroughServe parts w planes.now v }
 {
-    let mut trial = SideTrial::new();
+    let mut core = TableCore::of(table, w, Moving::AnySide);
     for n in planes {
         let g = n.vector();
-        if sign_dot(g, v) != Sign::Zero && !trial.rules_out(table, w, g) {
+        if sign_dot(g, v) != Sign::Zero && !core.holds_on(table, w, g) {
             return false;
         }
     }

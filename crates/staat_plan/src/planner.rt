@@ -13,13 +13,14 @@ ghost use Rattle.staat_plan.specs.{Planning.{Settles, joined_finding}, RingSets.
 use crate::cell_steps::{cell_step, first_open_step};
 use crate::lone_step::lone_step;
 use crate::marked::Marked;
-use crate::step::{early_search, step_of};
+use crate::step::{Sides, step_of};
 use crate::tabulated::Tabulated;
 use crate::walker::Walker;
 use staat_cone::FacetSource;
+use staat_core::{Search, first_within};
 use staat_limits::{LEAST_PLANES, MOST_CELL_PLANES, MOST_PLANES};
 use staat_model::{Kind, Marks, Outcome, PartSet, Sound, Step, Tree};
-use staat_planes::{PlaneTable, PlanesRefusal, Search, tabulate};
+use staat_planes::{PlaneTable, PlanesRefusal, tabulate};
 use staat_vec::{OutOfMemory, V3};
 use std::alloc::Global;
 
@@ -33,6 +34,9 @@ pub struct Options {
     pub planes: u32,
     pub robust: bool,
 }
+
+/// How many pairs of planes are tried, at most, where a core passes over planes.
+const LATE_PAIRS: u32 = 4096;
 
 // The step of a set of parts of the table in a plan that is not robust. The first vertices decide nearly every set
 // that comes apart, and a core nearly every one that does not; only where neither does are all vertices gone through,
@@ -50,7 +54,7 @@ fn vertex_step(
     ensures ready { IsReadyFor table.now walker.new }
     ensures step { IfOk result (IsVertexStep table.now w) }
 {
-    match early_search(table, w) {
+    match first_within(table, w, &Sides, LATE_PAIRS) {
         Search::First(served) => Ok(Some(Step {
             moved: served.found,
             d: served.d,

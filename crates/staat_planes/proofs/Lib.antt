@@ -9,5 +9,3 @@ pub mod UsedLaw
 pub mod Marking
 pub mod UsedPlanes
 pub mod PairSteps
-pub mod SearchSteps
-pub mod FirstVertices

@@ -9,7 +9,7 @@ use Rattle.staat_vec.specs.declared.vector.V3.{V3}
 use Rattle.staat_vec.specs.Primitives.{primitive}
 use Rattle.staat_vec.specs.Vectors.{cross, dot, negative, origin}
 use Rattle.staat_vec.proofs.Order.{cancel_zero}
-use Rattle.staat_vec.proofs.Primitives.{IsPrimitive-some, primitive-is}
+use Rattle.staat_vec.proofs.Primitives.{primitive-is}
 use Rattle.staat_vec.proofs.VecRing.{dot_cross_left, dot_negative}
 use Rattle.staat_model.proofs.CornerLemmas.{dot_multiple}
 use Rattle.staat_vec.proofs.Unique.{Contains-cases, Contains-front, Contains-later, Contains-nothing, from_place}
@@ -26,7 +26,6 @@ use Rattle.staat_planes.specs.PairOrder.{AreRisingNumbers, IsPlaceIn, numbers_of
 use Rattle.staat_planes.proofs.UsedPlanes.{places_rise}
 use Rattle.staat_planes.specs.SetPlanes.{ArePlanesIn}
 use Rattle.staat_model.proofs.OneTable.{ArePlanes-unique}
-use Rattle.staat_vec.proofs.VectorLaws.{negative_some}
 use Rattle.staat_vec.proofs.ListLaws.{drop_end}
 
 plane_of : (parts : List Part) (t : Table) (k : ℕ) (n : V3) → WasMadeFrom parts t → slice_get t.planes k ≡ Some n → IsPlaneOf parts t.of n
@@ -95,17 +94,15 @@ module _ (planes : List V3) (p : PlanePairs) (place : IsPlaceIn planes p) where
 -- ---- the vertices of a row
 
 abbrev pub IsOn : V3 → V3 → Type 0
-IsOn g d = (dot g d ≡ pos 0) × (d ≢ origin)
+IsOn g d = dot g d ≡ pos 0
 
 crossing_on : (g h : V3) → cross g h ≢ origin → IsOn g (primitive (cross g h))
 crossing_on g h apart =
-    let p = primitive-is (cross g h) apart in (
-      cancel_zero p.factor (dot g (primitive (cross g h))) p.positive (sym (dot_multiple g (cross g h) (primitive (cross g h)) p.factor p.multiple) ∙ dot_cross_left g h),
-      IsPrimitive-some (primitive (cross g h)) p.primitive,
-    )
+    let p = primitive-is (cross g h) apart in
+    cancel_zero p.factor (dot g (primitive (cross g h))) p.positive (sym (dot_multiple g (cross g h) (primitive (cross g h)) p.factor p.multiple) ∙ dot_cross_left g h)
 
 opposite_on : (g d : V3) → IsOn g d → IsOn g (negative d)
-opposite_on g d on = (dot_negative g d ∙ ap neg_ℤ on.0, negative_some d on.1)
+opposite_on g d on = dot_negative g d ∙ ap neg_ℤ on
 
 pub on_row : (planes : List V3) (g : V3) (ns : List ℕ) → ((n : ℕ) → Contains ns n → cross g (slice_index_or planes n origin) ≢ origin)
     → (d : V3) → Contains (crossings g (planes_at planes ns)) d → IsOn g d

@@ -1,6 +1,5 @@
 pub mod Tables
 pub mod Refusals
 pub mod PairOrder
-pub mod VertexSearch
 pub mod MarkedPlanes
 pub mod SetPlanes

@@ -1,5 +1,5 @@
 -- The planes of a set of parts, by their numbers in a table, and their pairs in pair order.
-use Rattle.std.specs.Prelude.{◌≡◌, ◌≢◌, ℕ, ◌+◌, ◌<◌, ◌≤◌, List, ◌++◌, All, Contains}
+use Rattle.std.specs.Prelude.{◌≡◌, ℕ, ◌+◌, ◌<◌, ◌≤◌, List, ◌++◌, All, Contains}
 use Rattle.std.specs.Prelude.{drop, length, map, pos, slice_index, slice_index_or, take}
 use Rattle.std.specs.Ordering.{nat_cmp}
 use Rattle.std.specs.List.Sorted.{IsStrictlySortedBy}
@@ -57,7 +57,7 @@ pub record IsRowOf (planes : List V3) (p : PlanePairs) (g : V3) : Type 0 where
   pub plane : IsPlaneNormal g
   pub is : row_plane planes p ≡ g
   pub some : p.second < p.count
-  pub on : All (λ d. (dot g d ≡ pos 0) × (d ≢ origin))
+  pub on : All (λ d. dot g d ≡ pos 0)
       (crossings g (planes_at planes (drop p.second (numbers_of p))))
 
 -- what p has left is the rest of its row, and then what q has left

@@ -7,7 +7,6 @@ mod leads;
 mod marked_planes;
 mod pairs;
 mod refusal;
-mod search;
 mod steps;
 mod table;
 
@@ -15,6 +14,5 @@ pub use build::tabulate;
 pub use leads::{Heading, Leads};
 pub use pairs::PlanePairs;
 pub use refusal::PlanesRefusal;
-pub use search::{ALL_PAIRS, Search, Served, Trial, Tried, first_vertex, first_within};
 pub use steps::Steps;
 pub use table::PlaneTable;

@@ -76,7 +76,9 @@ impl PlanePairs {
 
     /// The plane of the row that begins at the place, if a row with pairs does. Where a row has ended, the next one is
     /// gone to first.
-    pub(crate) fn row_begun(&mut self, table: &PlaneTable) -> Option<V3>
+    ///
+    /// The table is the one that the pairs were made for.
+    pub fn row_begun(&mut self, table: &PlaneTable) -> Option<V3>
         requires { IsPlaceIn table.now.planes self.old }
         ensures place { IsPlaceIn table.now.planes self.new }
         ensures left { vertices_left table.now.planes self.new ≡ vertices_left table.now.planes self.old }
@@ -91,8 +93,8 @@ impl PlanePairs {
         Some(table.plane(self.numbers[self.first as usize]))
     }
 
-    /// Passes over the rest of a row.
-    pub(crate) fn end_row(&mut self, table: &PlaneTable)
+    /// Passes over the rest of a row, which has pairs left.
+    pub fn end_row(&mut self, table: &PlaneTable)
         requires place { IsPlaceIn table.now.planes self.old }
         requires some { self.old.second < self.old.count }
         ensures place { IsPlaceIn table.now.planes self.new }

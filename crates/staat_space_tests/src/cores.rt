@@ -9,7 +9,7 @@ use std::process::Abort;
 fn holds_on(table: &PlaneTable, moving: Moving, plane: u32) -> bool {
     let all = table.set();
     plane < table.len()
-        && TableCore::of(table, all).holds_on(table, all, moving, table.plane(plane))
+        && TableCore::of(table, all, moving).holds_on(table, all, table.plane(plane))
 }
 
 // whether they are so on each of three planes, for sides and for single parts
@@ -34,8 +34,8 @@ fn a_box_holds_a_cube_on_all_planes_unless_it_is_open(rt: HostRuntime) {
 
 // whether they are so along all directions
 fn is_held(table: &PlaneTable) -> bool {
-    let mut core = TableCore::of(table, table.set());
-    core.holds(table, table.set(), Moving::AnySide)
+    let mut core = TableCore::of(table, table.set(), Moving::AnySide);
+    core.holds(table, table.set())
 }
 
 fn holds(rt: &impl Abort, alloc: Global, shapes: &[Shape], wanted: bool) {

@@ -17,7 +17,7 @@ returns-clause-core c = record {
 
 pub returns-clause-held : goal.returns-clause-held
 returns-clause-held c told parts d made some =
-    all_hold parts (pairs_in_use c.args.self.now.list) (λ ps. WasMadeFrom ps c.args.table.now) c.holds.new.self c.args.moving c.args.w d (returns-clause-core c).core (c.holds.ensures.held told parts d made some)
+    all_hold parts (pairs_in_use c.args.self.now.list) (λ ps. WasMadeFrom ps c.args.table.now) c.holds.new.self c.args.self.now.moving c.args.w d (returns-clause-core c).core (c.holds.ensures.held told parts d made some)
 
 pub returns-then-is_bonded-clause-held : goal.returns-then-is_bonded-clause-held
-returns-then-is_bonded-clause-held c told parts d made some = c.is_bonded.ensures c.if-is_bonded.true parts c.args.moving d made some
+returns-then-is_bonded-clause-held c told parts d made some = c.is_bonded.ensures c.if-is_bonded.true parts d made some

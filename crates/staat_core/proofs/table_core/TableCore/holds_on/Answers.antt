@@ -19,4 +19,4 @@ returns-clause-core c = record {
 pub returns-clause-held : goal.returns-clause-held
 returns-clause-held c told parts d made on some =
     let some_g : c.args.g ≢ origin = λ e. (let same = c.is_same.ensures.1 e in let not = c.if-is_same.false in cc) in
-    all_hold parts (pairs_in_use c.args.self.now.list) (λ ps. WasMadeFrom ps c.args.table.now) c.holds_on.new.self c.args.moving c.args.w d (returns-clause-core c).core (c.holds_on.ensures.held told parts d made some_g on some)
+    all_hold parts (pairs_in_use c.args.self.now.list) (λ ps. WasMadeFrom ps c.args.table.now) c.holds_on.new.self c.args.self.now.moving c.args.w d (returns-clause-core c).core (c.holds_on.ensures.held told parts d made some_g on some)
