@@ -178,9 +178,9 @@ fn first_of_few<T: Trial>(table: &PlaneTable, w: PartSet, trial: &T) -> Search<T
 // are not. What it keeps on the stack is large, and is not to be part of the callers' frames.
 #[inline(never)]
 fn first_by_core<T: Trial>(
+    trial: &T,
     table: &PlaneTable,
     w: PartSet,
-    trial: &T,
     limit: u32,
 ) -> Search<T::Found>
     requires nonempty { IsNonempty w }
@@ -232,7 +232,7 @@ pub fn first_within<T: Trial>(
     match first_of_few(table, w, trial) {
         Search::First(served) => Search::First(served),
         Search::Nothing => Search::Nothing,
-        Search::Undecided => first_by_core(table, w, trial, limit),
+        Search::Undecided => first_by_core(trial, table, w, limit),
     }
 }
 
