@@ -6,16 +6,13 @@ ghost use Rattle.staat_vec.specs.Vectors.{IsWithin};
 use staat_cone::{FacetSource, blocks};
 use staat_model::{Arc, Part, Piece};
 use staat_vec::{
-    NORMAL, Normal, ORIGIN, OutOfMemory, V3, canon, cross_normal, is_same, is_within, primitive,
+    NORMAL, Normal, ORIGIN, OutOfMemory, V3, X_AXIS, Y_AXIS, Z_AXIS, canon, cross_normal, is_same,
+    is_within, primitive,
 };
 use std::alloc::Global;
 
 /// The axes.
-pub const AXES: [V3; 3] = [
-    V3 { x: 0, y: 0, z: 1 },
-    V3 { x: 0, y: 1, z: 0 },
-    V3 { x: 1, y: 0, z: 0 },
-];
+pub const AXES: [V3; 3] = [Z_AXIS, Y_AXIS, X_AXIS];
 
 /// The facets of two pieces.
 #[derive(Drop)]

@@ -7,14 +7,8 @@ ghost use Rattle.staat_model.specs.Planes.{axes};
 ghost use Rattle.staat_holds.specs.Links.{AreLinkPlanes, HasLinkOther, HasOther, IsLink, IsOther};
 
 use crate::links::Link;
-use staat_vec::{NORMAL, OutOfMemory, V3, canon, in_order, is_same};
+use staat_vec::{NORMAL, OutOfMemory, V3, X_AXIS, Y_AXIS, Z_AXIS, canon, in_order, is_same};
 use std::alloc::Global;
-
-const X_AXIS: V3 = V3 { x: 1, y: 0, z: 0 };
-
-const Y_AXIS: V3 = V3 { x: 0, y: 1, z: 0 };
-
-const Z_AXIS: V3 = V3 { x: 0, y: 0, z: 1 };
 
 fn is_axis(n: V3) -> bool
     ensures { IsTrue result ↔ Contains axes n }

@@ -7,10 +7,9 @@ ghost use Rattle.staat_model.specs.Pieces.{IsPiece};
 ghost use Rattle.staat_motion.specs.Motions.{AreBodies};
 ghost use Rattle.staat_motion.specs.Shadows.{AreJoinedBounds, ArePartBounds, IsBounds};
 
-use crate::frame::{X_AXIS, Y_AXIS, Z_AXIS};
 use crate::spans::{Span, joined_span, span_of};
 use staat_model::{Part, Piece};
-use staat_vec::{Listed, OutOfMemory, POINT, V3};
+use staat_vec::{Listed, OutOfMemory, POINT, V3, X_AXIS, Y_AXIS, Z_AXIS};
 use std::alloc::Global;
 use std::marker::Model;
 

@@ -3,13 +3,7 @@ ghost use Rattle.std.specs.Prelude.{◌≡◌};
 ghost use Rattle.staat_vec.specs.Vectors.{IsWithin, cross};
 ghost use Rattle.staat_motion.specs.Frames.{IsFrame, IsOr, x_axis, y_axis, z_axis};
 
-use staat_vec::{DIRECTION, ORIGIN, V3, is_same};
-
-pub const X_AXIS: V3 = V3 { x: 1, y: 0, z: 0 };
-
-pub const Y_AXIS: V3 = V3 { x: 0, y: 1, z: 0 };
-
-pub const Z_AXIS: V3 = V3 { x: 0, y: 0, z: 1 };
+use staat_vec::{DIRECTION, ORIGIN, V3, X_AXIS, Y_AXIS, Z_AXIS, is_same};
 
 /// For each axis a normal at right angles to a direction: the cross product of the axis and the direction, and the
 /// next axis where that is zero.

@@ -19,7 +19,7 @@ pub use memory::OutOfMemory;
 pub use normal::Normal;
 pub use products::{add, cross_normal, det, dot, neg, order_on, sign_dot, sub};
 pub use rays::{canon, first_nonzero, first_of_cross, primitive};
-pub use vector::{DIFF, DIRECTION, EDGE, NORMAL, ORIGIN, POINT, Sign, V3, VERTEX, is_same};
-pub use words::{
-    BROAD, SMALL, are_within, broad_order, cross_diff, is_within, small_dot, small_sign,
+pub use vector::{
+    DIFF, DIRECTION, EDGE, NORMAL, ORIGIN, POINT, Sign, V3, VERTEX, X_AXIS, Y_AXIS, Z_AXIS, is_same,
 };
+pub use words::{BROAD, SMALL, are_within, cross_diff, is_within, small_dot, small_sign};

@@ -120,7 +120,7 @@ pub fn det(a: V3, b: V3, c: V3) -> i128
     dot(a, cross_normal(b, c))
 }
 
-fn sign_of(value: i128) -> Sign
+pub(crate) fn sign_of(value: i128) -> Sign
     ensures { result ≡ sign value }
 {
     if value < 0 {

@@ -30,6 +30,15 @@ pub struct V3 {
 /// The zero vector.
 pub const ORIGIN: V3 = V3 { x: 0, y: 0, z: 0 };
 
+/// The direction of the first axis.
+pub const X_AXIS: V3 = V3 { x: 1, y: 0, z: 0 };
+
+/// The direction of the second axis.
+pub const Y_AXIS: V3 = V3 { x: 0, y: 1, z: 0 };
+
+/// The direction of the third axis.
+pub const Z_AXIS: V3 = V3 { x: 0, y: 0, z: 1 };
+
 /// Whether two vectors are one.
 pub fn is_same(a: V3, b: V3) -> bool
     ensures { IsTrue result ↔ (a ≡ b) }

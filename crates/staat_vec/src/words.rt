@@ -3,7 +3,7 @@ ghost use Rattle.std.specs.Prelude.{◌≡◌, ◌≤◌, ◌*◌, ◌-ℤ◌, �
 ghost use Rattle.staat_vec.specs.Vectors.{IsWithin, cross, det, dot, sign};
 
 use crate::normal::Normal;
-use crate::products::sign_dot;
+use crate::products::sign_of;
 use crate::vector::{DIFF, NORMAL, Sign, V3};
 
 /// How great a component of a small vector is at most: a word holds three of its products with components of a normal.
@@ -11,6 +11,9 @@ pub const SMALL: u128 = 1 << 22;
 
 /// How great a component of two vectors is at most whose cross product words hold.
 pub const BROAD: u128 = 1 << 30;
+
+// how great a component of that cross product is at most
+const MINOR: u128 = 1 << 61;
 
 /// Whether no component is greater than the bound in absolute value.
 pub fn is_within(v: V3, bound: u128) -> bool
@@ -74,16 +77,11 @@ pub fn small_dot(n: V3, d: V3) -> i64
     Normal::of(n).small_dot(d)
 }
 
-fn sign_of_word(value: i64) -> Sign
-    ensures { result ≡ sign value }
+// a word as a component
+fn long(a: i64) -> i128
+    ensures { result ≡ a }
 {
-    if value < 0 {
-        Sign::Neg
-    } else if value == 0 {
-        Sign::Zero
-    } else {
-        Sign::Pos
-    }
+    a as i128
 }
 
 /// The sign of the product of a normal and a small vector, with the conditions of [`small_dot`].
@@ -93,37 +91,42 @@ pub fn small_sign(n: V3, d: V3) -> Sign
     ensures value { result ≡ sign (dot n d) }
     ensures turned { result ≡ sign (dot d n) }
 {
-    sign_of_word(small_dot(n, d))
-}
-
-// a word as a component
-fn long(a: i64) -> i128
-    ensures { result ≡ a }
-{
-    a as i128
+    sign_of(long(small_dot(n, d)))
 }
 
 // the minor of the rows (a, b) and (c, d)
-fn word_minor(a: i128, b: i128, c: i128, d: i128) -> i128
+fn word_minor(a: i64, b: i64, c: i64, d: i64) -> i64
     requires a { unsigned_abs a ≤ BROAD }
     requires b { unsigned_abs b ≤ BROAD }
     requires c { unsigned_abs c ≤ BROAD }
     requires d { unsigned_abs d ≤ BROAD }
-    ensures { result ≡ (a *ℤ d) -ℤ (b *ℤ c) }
+    ensures value { result ≡ (a *ℤ d) -ℤ (b *ℤ c) }
+    ensures size { unsigned_abs result ≤ MINOR }
 {
-    long(word_product(word(a), word(d)) - word_product(word(b), word(c)))
+    word_product(a, d) - word_product(b, c)
 }
 
-// the cross product of vectors whose components are at most [`BROAD`] in absolute value
+// a minor of components of two differences of points
+fn minor_of(a: i128, b: i128, c: i128, d: i128) -> i128
+    requires a { unsigned_abs a ≤ DIFF }
+    requires b { unsigned_abs b ≤ DIFF }
+    requires c { unsigned_abs c ≤ DIFF }
+    requires d { unsigned_abs d ≤ DIFF }
+    ensures { result ≡ (a *ℤ d) -ℤ (b *ℤ c) }
+{
+    long(word_minor(word(a), word(b), word(c), word(d)))
+}
+
+// the cross product of two differences of points
 fn word_cross(a: V3, b: V3) -> V3
-    requires a { IsWithin BROAD a }
-    requires b { IsWithin BROAD b }
+    requires a { IsWithin DIFF a }
+    requires b { IsWithin DIFF b }
     ensures { result ≡ cross a b }
 {
     V3 {
-        x: word_minor(a.y, a.z, b.y, b.z),
-        y: word_minor(a.z, a.x, b.z, b.x),
-        z: word_minor(a.x, a.y, b.x, b.y),
+        x: minor_of(a.y, a.z, b.y, b.z),
+        y: minor_of(a.z, a.x, b.z, b.x),
+        z: minor_of(a.x, a.y, b.x, b.y),
     }
 }
 
@@ -140,13 +143,28 @@ pub fn cross_diff(a: V3, b: V3) -> V3
     word_cross(a, b)
 }
 
-/// The sign of `det(n, a, b)`, as [`order_on`](crate::order_on) has it, of a normal and two vectors whose components
-/// are at most [`BROAD`] in absolute value.
-pub fn broad_order(n: V3, a: V3, b: V3) -> Sign
-    requires n { IsWithin NORMAL n }
-    requires a { IsWithin BROAD a }
-    requires b { IsWithin BROAD b }
-    ensures { result ≡ sign (det n a b) }
+// the exact product of a normal's component and a minor
+fn minor_product(a: i64, minor: i64) -> i128
+    requires a { unsigned_abs a ≤ NORMAL }
+    requires minor { unsigned_abs minor ≤ MINOR }
+    ensures value { result ≡ a *ℤ minor }
+    ensures size { unsigned_abs result ≤ NORMAL * MINOR }
 {
-    sign_dot(n, word_cross(a, b))
+    long(a) * long(minor)
+}
+
+impl Normal {
+    /// The sign of `det(self, a, b)`, as [`order_on`](crate::order_on) has it. The components of `a` and `b` are at most
+    /// [`BROAD`] in absolute value.
+    pub fn broad_order(&self, a: &Normal, b: &Normal) -> Sign
+        requires a { IsWithin BROAD a.now }
+        requires b { IsWithin BROAD b.now }
+        ensures { result ≡ sign (det self.now a.now b.now) }
+    {
+        sign_of(
+            minor_product(self.x, word_minor(a.y, a.z, b.y, b.z))
+                + minor_product(self.y, word_minor(a.z, a.x, b.z, b.x))
+                + minor_product(self.z, word_minor(a.x, a.y, b.x, b.y)),
+        )
+    }
 }
