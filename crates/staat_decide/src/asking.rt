@@ -26,32 +26,8 @@ fn was_asked(asked: &[AskedRows], d: V3) -> bool {
     false
 }
 
-// asks along a direction, if it is one and was not asked along before, and says whether it takes all parts apart
-fn ask_one<F: FacetSource>(
-    asked: &mut Vec<AskedRows>,
-    table: &mut KeptTable,
-    scene: &Scene<F>,
-    all: &[u32],
-    d: V3,
-) -> Result<bool, OutOfMemory>
-    requires bodies { AreBodies scene.now.parts.now scene.now.bodies.now }
-    requires all { all.now ≡ range_with_len 0 (length scene.now.parts.now) }
-    requires asked { All (AreAskedRows scene.now.parts.now) asked.old.items }
-    requires some { 1 ≤ length table.old.items }
-    requires kept { AreKept scene.now.parts.now table.old.items }
-    ensures some { length table.new.items ≡ length table.old.items }
-    ensures kept { AreKept scene.now.parts.now table.new.items }
-    ensures asked { OnOk result (All (AreAskedRows scene.now.parts.now) asked.new.items) }
-{
-    if !is_direction(d) || was_asked(asked.as_slice(), d) {
-        return Ok(false);
-    }
-    let k = asked.len();
-    asked.push(asked_along(table, scene, all, d)?)?;
-    takes_all_apart(scene.alloc, scene.parts, &asked[k], all)
-}
-
-// asks along the directions one after the other, until one takes all parts apart
+// asks along the directions one after the other, if they are some and were not asked along before, until one takes all
+// parts apart
 fn ask_along<F: FacetSource>(
     asked: &mut Vec<AskedRows>,
     table: &mut KeptTable,
@@ -69,7 +45,12 @@ fn ask_along<F: FacetSource>(
     ensures asked { OnOk result (All (AreAskedRows scene.now.parts.now) asked.new.items) }
 {
     for d in directions {
-        if ask_one(asked, table, scene, all, *d)? {
+        if !is_direction(*d) || was_asked(asked.as_slice(), *d) {
+            continue;
+        }
+        let k = asked.len();
+        asked.push(asked_along(table, scene, all, *d)?)?;
+        if takes_all_apart(scene.alloc, scene.parts, &asked[k], all)? {
             return Ok(true);
         }
     }
