@@ -1,27 +1,17 @@
 // The half turn from the axis of a circle.
-ghost use Rattle.std.specs.Prelude.{◌≡◌, ◌≢◌, ℕ};
+ghost use Rattle.std.specs.Prelude.{◌≡◌, ◌≢◌};
 ghost use Rattle.staat_vec.specs.Vectors.{IsWithin, cross, det, origin};
 ghost use Rattle.staat_model.specs.Circles.{axis_beside};
 ghost use Rattle.staat_ring.specs.Builds.{IsUpper};
 ghost use Rattle.staat_ring.specs.Rings.{facet_by};
 
-use staat_vec::{NORMAL, V3, cross_normal, is_same, neg, primitive};
+use staat_vec::{NORMAL, V3, cross_normal, is_same, primitive};
 
 // the least axis other than plane c
 pub fn axis_beside(c: u32) -> u32
     ensures { result ≡ axis_beside c }
 {
     if c == 0 { 1 } else { 0 }
-}
-
-/// The normal, or its negative.
-pub fn facet_by(turned: bool, h: V3) -> V3
-    requires { IsWithin NORMAL h }
-    ensures is { result ≡ facet_by turned h }
-    ensures within { IsWithin NORMAL result }
-    ensures size { (bound : ℕ) → IsWithin bound h → IsWithin bound result }
-{
-    if turned { neg(h) } else { h }
 }
 
 // whether the crossing with h lies opposite to the half circle, where `across` is det(g, axis, h)

@@ -1,27 +1,25 @@
 // The order of the entries of a circle, and where its stops end.
 ghost use Rattle.std.specs.Prelude.{◌≡◌, ◌↔◌, ℕ, ◌<◌, ℤ, All, Bool, IfOk, IsTrue, OnOk, length, map, pos};
-ghost use Rattle.staat_vec.specs.Vectors.{IsWithin, sign};
+ghost use Rattle.staat_vec.specs.Vectors.{IsWithin, det, sign};
 ghost use Rattle.staat_vec.specs.declared.vector.TheConstants.{NORMAL};
 ghost use Rattle.staat_vec.specs.declared.words.TheConstants.{BROAD};
+ghost use Rattle.staat_planes.specs.PairOrder.{plane_at};
 ghost use Rattle.staat_ring.specs.Builds.{key_entry};
-ghost use Rattle.staat_ring.specs.Order.{AreStopEnds, CrossesBefore, IsInserted, IsOrderOf, IsPlace};
-ghost use Rattle.staat_ring.specs.Order.{facet_of, order_det};
+ghost use Rattle.staat_ring.specs.Order.{AreStopEnds, CrossesBefore, IsInserted, IsOrderOf, IsPlace, order_det};
 
 use crate::entry::Entry;
-use crate::half_circle::facet_by;
 use crate::keys::Key;
 use staat_planes::PlaneTable;
-use staat_vec::{BROAD, NORMAL, OutOfMemory, Sign, V3, are_within, broad_order, order_on};
+use staat_vec::{BROAD, NORMAL, Normal, OutOfMemory, Sign, V3, are_within, order_on};
 use std::alloc::Global;
 
 /// The turn on which entries are put in order: around the normal of a plane of a table.
 #[derive(Clone, Copy)]
 pub struct Turn<'a> {
     table: &'a PlaneTable,
-    g: V3,
+    g: Normal,
     // whether words hold the cross products of all normals
     near: bool,
-    ghost within: { IsWithin NORMAL g },
     ghost nearness: { IsTrue near → All (IsWithin BROAD) table.now.planes },
 }
 
@@ -34,34 +32,40 @@ impl<'a> Turn<'a> {
     {
         Turn {
             table,
-            g,
+            g: Normal::of(g),
             near: are_within(table.planes(), BROAD),
         }
     }
 }
 
-// the normal of the plane of an entry, or its negative
-fn facet_of(turn: &Turn, e: Entry) -> V3
-    requires { e.plane < length turn.now.table.now.planes }
-    ensures is { result ≡ facet_of turn.now.table.now.planes e }
-    ensures within { IsWithin NORMAL result }
-    ensures near { All (IsWithin BROAD) turn.now.table.now.planes → IsWithin BROAD result }
+// the sign of the determinant of the normals of two planes
+fn plane_order(turn: &Turn, i: u32, j: u32) -> Sign
+    requires i { i < length turn.now.table.now.planes }
+    requires j { j < length turn.now.table.now.planes }
+    ensures { result ≡ sign (det turn.now.g (plane_at turn.now.table.now.planes i)
+        (plane_at turn.now.table.now.planes j)) }
 {
-    facet_by(e.turned, turn.table.plane(e.plane))
+    let planes = turn.table.planes();
+    let a = &planes[i as usize];
+    let b = &planes[j as usize];
+    if turn.near {
+        turn.g.broad_order(a, b)
+    } else {
+        order_on(turn.g.vector(), a.vector(), b.vector())
+    }
 }
 
-// the sign of the determinant by which two entries are ordered
+// The sign of the determinant by which two entries are ordered. Where one of them alone is turned, it changes, as it
+// does where the two planes are exchanged.
 fn order_of(turn: &Turn, e: Entry, f: Entry) -> Sign
     requires e { e.plane < length turn.now.table.now.planes }
     requires f { f.plane < length turn.now.table.now.planes }
     ensures { result ≡ sign (order_det turn.now.table.now.planes turn.now.g e f) }
 {
-    let a = facet_of(turn, e);
-    let b = facet_of(turn, f);
-    if turn.near {
-        broad_order(turn.g, a, b)
+    if e.turned == f.turned {
+        plane_order(turn, e.plane, f.plane)
     } else {
-        order_on(turn.g, a, b)
+        plane_order(turn, f.plane, e.plane)
     }
 }
 
