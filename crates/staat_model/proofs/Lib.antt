@@ -64,4 +64,3 @@ pub mod SomeVerdict
 pub mod PartCounts
 pub mod ArcOrder
 pub mod WalledNodes
-pub mod MemberLines
