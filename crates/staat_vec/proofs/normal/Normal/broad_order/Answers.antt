@@ -27,7 +27,7 @@ returns c =
     let j = c.a.invariant in
     let k = c.b.invariant in
     let sum = three_read w128 c.minor_product.result c.minor_product-2.result c.minor_product-3.result (NORMAL * MINOR)
-        c.minor_product.ensures.size c.minor_product-2.ensures.size c.minor_product-3.ensures.size (omega arith) in
+    c.minor_product.ensures.size c.minor_product-2.ensures.size c.minor_product-3.ensures.size (omega arith) in
     let x = times_minor c.minor_product.result g.x c.word_minor.result a.y a.z b.y b.z h.x j.y j.z k.y k.z c.word_minor.ensures.size c.word_minor.ensures.value c.minor_product.ensures.value in
     let y = times_minor c.minor_product-2.result g.y c.word_minor-2.result a.z a.x b.z b.x h.y j.z j.x k.z k.x c.word_minor-2.ensures.size c.word_minor-2.ensures.value c.minor_product-2.ensures.value in
     let z = times_minor c.minor_product-3.result g.z c.word_minor-3.result a.x a.y b.x b.y h.z j.x j.y k.x k.y c.word_minor-3.ensures.size c.word_minor-3.ensures.value c.minor_product-3.ensures.value in
