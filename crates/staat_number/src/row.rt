@@ -39,6 +39,13 @@ impl RowEnd {
         }
     }
 
+    /// Takes all bytes out.
+    pub fn clear(&mut self)
+        ensures { self.new ≡ [] }
+    {
+        self.start = ROOM;
+    }
+
     /// The bytes.
     pub fn bytes(&self) -> &[u8]
         ensures { result.now ≡ self.now }
@@ -53,6 +60,16 @@ impl RowEnd {
     {
         let start = self.start - 1;
         self.bytes[start] = byte;
+        self.start = start;
+    }
+
+    /// Puts a text before the others.
+    pub fn put_text(&mut self, text: &[u8])
+        requires { length text.now + length self.old ≤ ROOM }
+        ensures { self.new ≡ text.now ++ self.old }
+    {
+        let start = self.start - text.len();
+        self.bytes[start..self.start].copy_from_slice(text);
         self.start = start;
     }
 

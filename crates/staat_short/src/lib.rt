@@ -12,7 +12,6 @@ mod reader;
 mod short;
 mod stage;
 mod whole;
-mod writer;
 mod writing;
 
 pub use line::ShortLine;

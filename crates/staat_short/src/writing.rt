@@ -1,6 +1,5 @@
 // The lines of a short certificate, written.
-ghost use Rattle.std.specs.Prelude.{◌++◌, ◌∷◌, [], IfOk, map, flat_map, pos};
-ghost use Rattle.staat_model.specs.Lines.{spaced};
+ghost use Rattle.std.specs.Prelude.{◌∷◌, [], IfOk, map, flat_map};
 ghost use Rattle.staat_short.specs.ShortTexts.{
   IsShortInOrder,
   lines_of_answer,
@@ -9,62 +8,36 @@ ghost use Rattle.staat_short.specs.ShortTexts.{
   short_lines,
 };
 ghost use Rattle.staat_short.specs.declared.line.ShortLine.TheVariants as line;
-ghost use Rattle.staat_short.specs.ShortWriting.{AddsBytes, AddsShortLines, IsShortTextAnswer};
+ghost use Rattle.staat_short.specs.ShortWriting.{AddsShortLines, IsShortTextAnswer};
 
 use crate::line::ShortLine;
 use crate::short::{ShortAnswer, ShortCertificate, ShortNode};
-use crate::writer::Writer;
-use staat_cert::write_row;
+use staat_cert::LineWriter;
 use staat_holds::Hold;
-use staat_limits::TEXT_LIMIT;
 use staat_model::{Arc, TextRefusal};
-use staat_vec::{Bytes, Listed};
+use staat_vec::Bytes;
 use std::alloc::{AllocError, Global};
 
-fn add_row(w: &mut Writer, word: &[u8], numbers: &[i128]) -> Result<(), AllocError>
-    ensures { IfOk result (λ _. AddsBytes w.old w.new (word.now ++ spaced numbers.now)) }
-{
-    write_row(&mut w.line, word, numbers)?;
-    w.length = w.length.saturating_add(w.line.len() as u128);
-    if w.length > TEXT_LIMIT {
-        return Ok(());
-    }
-    w.bytes.extend_from_slice(w.line.as_slice())
-}
-
-fn add_number(w: &mut Writer, word: &[u8], n: u32) -> Result<(), AllocError>
-    ensures { IfOk result (λ _. AddsBytes w.old w.new (word.now ++ spaced (pos n ∷ []))) }
-{
-    add_row(w, word, &[n as i128])
-}
-
-fn add_pair(w: &mut Writer, pair: Arc) -> Result<(), AllocError>
-    ensures { IfOk result (λ _. AddsShortLines w.old w.new (line.Pair pair ∷ [])) }
-{
-    let Arc { a, i, b, j } = pair;
-    add_row(w, b"pair", &[a as i128, i as i128, b as i128, j as i128])
-}
-
-fn add_line(w: &mut Writer, next: ShortLine) -> Result<(), AllocError>
+fn add_line(w: &mut LineWriter, next: ShortLine) -> Result<(), AllocError>
     ensures { IfOk result (λ _. AddsShortLines w.old w.new (next ∷ [])) }
 {
     match next {
-        ShortLine::Title => add_row(w, b"STAAT SHORT 1", &[]),
-        ShortLine::Parts(n) => add_number(w, b"parts", n),
-        ShortLine::Plan => add_row(w, b"plan", &[]),
-        ShortLine::Stuck => add_row(w, b"stuck", &[]),
-        ShortLine::Rest => add_row(w, b"rest", &[]),
-        ShortLine::Split(d) => add_row(w, b"split", &[d.x, d.y, d.z]),
-        ShortLine::Leaf(p) => add_number(w, b"leaf", p),
-        ShortLine::Group => add_row(w, b"group", &[]),
-        ShortLine::Hold => add_row(w, b"hold", &[]),
-        ShortLine::Part(p) => add_number(w, b"part", p),
-        ShortLine::Pair(pair) => add_pair(w, pair),
-        ShortLine::End => add_row(w, b"end", &[]),
+        ShortLine::Title => w.add_row(b"STAAT SHORT 1", &[]),
+        ShortLine::Parts(n) => w.add_natural(b"parts", n),
+        ShortLine::Plan => w.add_row(b"plan", &[]),
+        ShortLine::Stuck => w.add_row(b"stuck", &[]),
+        ShortLine::Rest => w.add_row(b"rest", &[]),
+        ShortLine::Split(d) => w.add_row(b"split", &[d.x, d.y, d.z]),
+        ShortLine::Leaf(p) => w.add_natural(b"leaf", p),
+        ShortLine::Group => w.add_row(b"group", &[]),
+        ShortLine::Hold => w.add_row(b"hold", &[]),
+        ShortLine::Part(p) => w.add_natural(b"part", p),
+        ShortLine::Pair(pair) => w.add_arc(b"pair", pair),
+        ShortLine::End => w.add_row(b"end", &[]),
     }
 }
 
-fn add_parts(w: &mut Writer, parts: &[u32]) -> Result<(), AllocError>
+fn add_parts(w: &mut LineWriter, parts: &[u32]) -> Result<(), AllocError>
     ensures { IfOk result (λ _. AddsShortLines w.old w.new (map line.Part parts.now)) }
 {
     'parts: for p in parts {
@@ -73,7 +46,7 @@ fn add_parts(w: &mut Writer, parts: &[u32]) -> Result<(), AllocError>
     Ok(())
 }
 
-fn add_pairs(w: &mut Writer, pairs: &[Arc]) -> Result<(), AllocError>
+fn add_pairs(w: &mut LineWriter, pairs: &[Arc]) -> Result<(), AllocError>
     ensures { IfOk result (λ _. AddsShortLines w.old w.new (map line.Pair pairs.now)) }
 {
     'pairs: for pair in pairs {
@@ -82,7 +55,7 @@ fn add_pairs(w: &mut Writer, pairs: &[Arc]) -> Result<(), AllocError>
     Ok(())
 }
 
-fn add_hold(w: &mut Writer, hold: &Hold) -> Result<(), AllocError>
+fn add_hold(w: &mut LineWriter, hold: &Hold) -> Result<(), AllocError>
     ensures { IfOk result (λ _. AddsShortLines w.old w.new (lines_of_hold hold.now)) }
 {
     add_line(w, ShortLine::Hold)?;
@@ -90,7 +63,7 @@ fn add_hold(w: &mut Writer, hold: &Hold) -> Result<(), AllocError>
     add_pairs(w, hold.pairs.as_slice())
 }
 
-fn add_holds(w: &mut Writer, holds: &[Hold]) -> Result<(), AllocError>
+fn add_holds(w: &mut LineWriter, holds: &[Hold]) -> Result<(), AllocError>
     ensures { IfOk result (λ _. AddsShortLines w.old w.new (flat_map lines_of_hold holds.now)) }
 {
     'holds: for hold in holds {
@@ -99,14 +72,14 @@ fn add_holds(w: &mut Writer, holds: &[Hold]) -> Result<(), AllocError>
     Ok(())
 }
 
-fn add_group(w: &mut Writer, holds: &[Hold]) -> Result<(), AllocError>
+fn add_group(w: &mut LineWriter, holds: &[Hold]) -> Result<(), AllocError>
     ensures { IfOk result (λ _. AddsShortLines w.old w.new (line.Group ∷ flat_map lines_of_hold holds.now)) }
 {
     add_line(w, ShortLine::Group)?;
     add_holds(w, holds)
 }
 
-fn add_node(w: &mut Writer, node: &ShortNode) -> Result<(), AllocError>
+fn add_node(w: &mut LineWriter, node: &ShortNode) -> Result<(), AllocError>
     ensures { IfOk result (λ _. AddsShortLines w.old w.new (lines_of_short_node node.now)) }
 {
     match node {
@@ -116,7 +89,7 @@ fn add_node(w: &mut Writer, node: &ShortNode) -> Result<(), AllocError>
     }
 }
 
-fn add_nodes(w: &mut Writer, nodes: &[ShortNode]) -> Result<(), AllocError>
+fn add_nodes(w: &mut LineWriter, nodes: &[ShortNode]) -> Result<(), AllocError>
     ensures { IfOk result (λ _. AddsShortLines w.old w.new (flat_map lines_of_short_node nodes.now)) }
 {
     'nodes: for node in nodes {
@@ -126,21 +99,21 @@ fn add_nodes(w: &mut Writer, nodes: &[ShortNode]) -> Result<(), AllocError>
 }
 
 // The line that says what the nodes are, and the nodes.
-fn add_plan(w: &mut Writer, first: ShortLine, nodes: &[ShortNode]) -> Result<(), AllocError>
+fn add_plan(w: &mut LineWriter, first: ShortLine, nodes: &[ShortNode]) -> Result<(), AllocError>
     ensures { IfOk result (λ _. AddsShortLines w.old w.new (first ∷ flat_map lines_of_short_node nodes.now)) }
 {
     add_line(w, first)?;
     add_nodes(w, nodes)
 }
 
-fn add_stuck(w: &mut Writer, holds: &[Hold]) -> Result<(), AllocError>
+fn add_stuck(w: &mut LineWriter, holds: &[Hold]) -> Result<(), AllocError>
     ensures { IfOk result (λ _. AddsShortLines w.old w.new (line.Stuck ∷ flat_map lines_of_hold holds.now)) }
 {
     add_line(w, ShortLine::Stuck)?;
     add_holds(w, holds)
 }
 
-fn add_answer(w: &mut Writer, answer: &ShortAnswer) -> Result<(), AllocError>
+fn add_answer(w: &mut LineWriter, answer: &ShortAnswer) -> Result<(), AllocError>
     ensures { IfOk result (λ _. AddsShortLines w.old w.new (lines_of_answer answer.now)) }
 {
     match answer {
@@ -150,7 +123,7 @@ fn add_answer(w: &mut Writer, answer: &ShortAnswer) -> Result<(), AllocError>
     }
 }
 
-fn add_certificate(w: &mut Writer, c: &ShortCertificate) -> Result<(), AllocError>
+fn add_certificate(w: &mut LineWriter, c: &ShortCertificate) -> Result<(), AllocError>
     ensures { IfOk result (λ _. AddsShortLines w.old w.new (short_lines c.now)) }
 {
     add_line(w, ShortLine::Title)?;
@@ -159,21 +132,14 @@ fn add_certificate(w: &mut Writer, c: &ShortCertificate) -> Result<(), AllocErro
     add_line(w, ShortLine::End)
 }
 
-/// The text of a certificate, or its length where that is above [`TEXT_LIMIT`].
+/// The text of a certificate, or its length where that is above [`staat_limits::TEXT_LIMIT`].
 ///
 /// The certificate's numbers are within the bounds of the format, and its lists in the format's orders.
 pub fn short_text(alloc: Global, c: &ShortCertificate) -> Result<Bytes, TextRefusal>
     requires { IsShortInOrder c.now }
     ensures { IsShortTextAnswer c.now result }
 {
-    let mut w = Writer {
-        line: Vec::new(alloc),
-        bytes: Vec::new(alloc),
-        length: 0,
-    };
+    let mut w = LineWriter::new(alloc);
     add_certificate(&mut w, c)?;
-    if w.length > TEXT_LIMIT {
-        return Err(TextRefusal::TextTooLong(w.length));
-    }
-    Ok(Listed::from_vec(w.bytes))
+    w.into_text()
 }

@@ -5,7 +5,7 @@ use Rattle.staat_cert.proofs.AddLemmas.{added_all, added_more}
 use Rattle.staat_cert.proofs.writing.add_each.Goals as goal
 
 pub items-init : goal.items-init
-items-init g c = λ kind made text h. subst (Wrote c.args.w.now) (sym (append-nil text)) h
+items-init g c = λ kind made text h. subst (Wrote c.args.w.now.written) (sym (append-nil text)) h
 
 pub items-preserved : goal.items-preserved
 items-preserved g c = λ kind made.

@@ -6,6 +6,6 @@ use Rattle.staat_short.proofs.writing.add_certificate.Goals as goal
 pub returns : goal.returns
 returns c =
     IfOk-weaker c.add_line-3.result _ _ (λ x ends.
-    four_added _ _ _ _ _ _ (lines_of_answer c.args.c.now.answer) c.in_ok-add_line.ensures c.in_ok-add_line-2.ensures
+    four_added c.args.w.now c.add_line.new.w c.add_line-2.new.w c.add_answer.new.w c.add_line-3.new.w _ (lines_of_answer c.args.c.now.answer) c.in_ok-add_line.ensures c.in_ok-add_line-2.ensures
     c.in_ok-add_answer.ensures ends)
     c.add_line-3.ensures

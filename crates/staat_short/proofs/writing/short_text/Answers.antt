@@ -1,9 +1,7 @@
-use Rattle.std.proofs.Common.{rules, arith, refl}
-use Rattle.staat_short.proofs.AddLemmas.{too_long, not_too_long}
+use Rattle.std.proofs.Common.{[]}
+use Rattle.staat_short.specs.ShortTexts.{short_text}
+use Rattle.staat_short.proofs.AddLemmas.{text_answer}
 use Rattle.staat_short.proofs.writing.short_text.Goals as goal
 
-pub returns-then-w-gt-TEXT_LIMIT : goal.returns-then-w-gt-TEXT_LIMIT
-returns-then-w-gt-TEXT_LIMIT c = too_long _ _ c.args.c.now refl c.new-2.ensures.items c.in_ok-add_certificate.ensures (search rules)
-
 pub returns : goal.returns
-returns c = rw c.from_vec.ensures (not_too_long _ _ c.args.c.now c.requires refl c.new-2.ensures.items c.in_ok-add_certificate.ensures (omega arith))
+returns c = text_answer c.args.c.now c.requires _ (c.into_text.ensures (short_text c.args.c.now) (c.in_ok-add_certificate.ensures [] c.new-w.ensures))

@@ -1,6 +1,6 @@
 use Rattle.std.proofs.Common.{◌≡◌, ◌+◌, ◌-◌, ◌*◌, ◌≤◌, drop, length}
 use Rattle.staat_model.specs.Lines.{spaced}
-use Rattle.staat_cert.proofs.row.short_row.Given as goal
+use Rattle.staat_cert.proofs.writer.put_row.Given as goal
 
 abbrev pub invariant-loop-k : goal.invariant-loop-k
 invariant-loop-k l = record {

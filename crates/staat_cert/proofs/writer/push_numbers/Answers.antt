@@ -5,7 +5,7 @@ use Rattle.std.specs.Fmt.{signed_decimal}
 use Rattle.std.proofs.lemmas.List.{at_drop_all, at_drop_more}
 use Rattle.std.proofs.lemmas.Result.{IfOk-from_err}
 use Rattle.staat_model.specs.Lines.{spaced}
-use Rattle.staat_cert.proofs.row.push_numbers.Goals as goal
+use Rattle.staat_cert.proofs.writer.push_numbers.Goals as goal
 
 -- with one number more
 spaced_more : (out now whole : List ℕ) (numbers : List ℤ) (i : ℕ) (d : ℤ) → i < length numbers
