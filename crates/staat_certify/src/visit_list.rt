@@ -17,12 +17,28 @@ pub struct Visit {
 // how great a component of a direction may be for a word of 64 bits
 const SHORT: u128 = 1 << 62;
 
-/// A visit along a direction whose components are words of 64 bits, seen as that visit, in half the memory.
-#[derive(Clone, Copy)]
-struct ShortVisit {
+/// A direction whose components are words of 64 bits, seen as that vector. Short directions are ordered as vectors are.
+#[derive(Clone, Copy, PartialEq, Eq, PartialOrd, Ord)]
+struct ShortDirection {
     x: i64,
     y: i64,
     z: i64,
+}
+
+impl Model for ShortDirection {
+    ghost use Rattle.staat_vec.specs.declared.vector.V3.{V3};
+
+    ghost Value = { V3 };
+
+    ghost view = { λ d. record { x = d.x; y = d.y; z = d.z } };
+
+    ghost inverse = { λ v. record { x = v.x; y = v.y; z = v.z } };
+}
+
+/// A visit along such a direction, seen as that visit, in half the memory.
+#[derive(Clone, Copy)]
+struct ShortVisit {
+    direction: ShortDirection,
     number: usize,
 }
 
@@ -31,9 +47,9 @@ impl Model for ShortVisit {
 
     ghost Value = { Visit };
 
-    ghost view = { λ v. record { d = record { x = v.x; y = v.y; z = v.z }; number = v.number } };
+    ghost view = { λ v. record { d = v.direction; number = v.number } };
 
-    ghost inverse = { λ v. record { x = v.d.x; y = v.d.y; z = v.d.z; number = v.number } };
+    ghost inverse = { λ v. record { direction = v.d; number = v.number } };
 }
 
 impl ShortVisit {
@@ -43,20 +59,12 @@ impl ShortVisit {
         ensures { result ≡ visit }
     {
         ShortVisit {
-            x: visit.d.x as i64,
-            y: visit.d.y as i64,
-            z: visit.d.z as i64,
+            direction: ShortDirection {
+                x: visit.d.x as i64,
+                y: visit.d.y as i64,
+                z: visit.d.z as i64,
+            },
             number: visit.number,
-        }
-    }
-
-    fn direction(&self) -> V3
-        ensures { result ≡ self.now.d }
-    {
-        V3 {
-            x: i128::from(self.x),
-            y: i128::from(self.y),
-            z: i128::from(self.z),
         }
     }
 
@@ -64,7 +72,11 @@ impl ShortVisit {
         ensures { result ≡ self.now }
     {
         Visit {
-            d: self.direction(),
+            d: V3 {
+                x: i128::from(self.direction.x),
+                y: i128::from(self.direction.y),
+                z: i128::from(self.direction.z),
+            },
             number: self.number,
         }
     }
@@ -90,8 +102,8 @@ impl Model for VisitList {
 fn sort_short(visits: &mut Vec<ShortVisit>)
     ensures { SortsVisits visits.old.items visits.new.items }
 {
-    visits.sort_unstable_by_key(|visit| visit.direction());
-    visits.dedup_by_key(|visit| visit.direction());
+    visits.sort_unstable_by_key(|visit| visit.direction);
+    visits.dedup_by_key(|visit| visit.direction);
 }
 
 // the same of visits along any directions
