@@ -1,10 +1,12 @@
 // What is seen at a vertex.
-ghost use Rattle.std.specs.Prelude.{◌≡◌, ◌↔◌, All, IsTrue, pos, ◌<ℤ◌};
+ghost use Rattle.std.specs.Prelude.{◌≡◌, ◌<◌, ◌≤◌, ◌<ℤ◌, pos, All, IfSome, IsSomeAnd};
 ghost use Rattle.staat_vec.specs.Vectors.{dot};
 ghost use Rattle.staat_model.specs.Certificates.{outward};
 ghost use Rattle.staat_model.specs.Certify.{IsLeastArc};
 ghost use Rattle.staat_graph.specs.Blocking.{ShowsBlocking};
-ghost use Rattle.staat_pairs.specs.Tables.{IsTableArc, facets_of};
+ghost use Rattle.staat_pairs.specs.Searches.{arc_of};
+ghost use Rattle.staat_pairs.specs.Tables.{IsTableArc, facets_of, pieces_of};
+ghost use Rattle.staat_planes.specs.Tables.{IsAhead};
 ghost use Rattle.staat_certify.specs.Witnesses.{AreEndsAhead, StandsAmong};
 
 use staat_graph::Graph;
@@ -32,13 +34,18 @@ impl<'a> Vantage<'a> {
         self.signs.graph()
     }
 
-    // whether the vertex leads ahead of all facets of an ordered pair of pieces, so that the first meets the second
-    fn leads_ahead(&self, arc: Arc) -> bool
+    // the first piece of the part `b` that piece `i` of the part `a` meets along the vertex
+    fn first_met(&self, a: u32, i: u32, b: u32) -> Option<u32>
         requires at { StandsAmong self.now.sound.now self.now.table.now self.now.signs.now self.now.d }
-        requires across { IsTableArc self.now.table.now arc }
-        ensures { IsTrue result ↔ All (λ n. pos 0 <ℤ dot n self.now.d) (facets_of self.now.table.now arc) }
+        requires across { IsTableArc self.now.table.now (arc_of a i b 0) }
+        ensures across { IfSome result (λ j. j < pieces_of self.now.table.now b) }
+        ensures ahead { IfSome result (λ j. All (λ n. pos 0 <ℤ dot n self.now.d)
+            (facets_of self.now.table.now (arc_of a i b j))) }
+        ensures first { (h : IsAhead self.now.table.now self.now.d a b) → h.i ≡ i
+            → IsSomeAnd result (λ j. j ≤ h.j) }
     {
-        self.signs.is_full(self.table.slot(arc) as u16)
+        let from = self.table.slot(Arc { a, i, b, j: 0 });
+        self.signs.first_full(from, self.table.pieces(b))
     }
 
     /// The first two pieces of two parts with which the one blocks the other along the vertex.
@@ -49,17 +56,10 @@ impl<'a> Vantage<'a> {
         ensures ends { outward result ≡ ends }
         ensures least { IsLeastArc self.now.sound.now self.now.d result }
     {
-        for i in 0..self.table.pieces(ends.0) {
-            for j in 0..self.table.pieces(ends.1) {
-                let arc = Arc {
-                    a: ends.0,
-                    i,
-                    b: ends.1,
-                    j,
-                };
-                if self.leads_ahead(arc) {
-                    return arc;
-                }
+        let (a, b) = ends;
+        for i in 0..self.table.pieces(a) {
+            if let Some(j) = self.first_met(a, i, b) {
+                return Arc { a, i, b, j };
             }
         }
         unreachable!()

@@ -1,6 +1,6 @@
 // The signs of the planes at a vertex, and the graph there.
-ghost use Rattle.std.specs.Prelude.{◌≡◌, ◌+◌, ◌<◌, ◌≤◌, ◌↔◌};
-ghost use Rattle.std.specs.Prelude.{IfOk, IsTrue, OnErr, OnOk, false, length, replicate, slice_set};
+ghost use Rattle.std.specs.Prelude.{◌≡◌, ℕ, ◌+◌, ◌<◌, ◌≤◌, ◌↔◌};
+ghost use Rattle.std.specs.Prelude.{IfOk, IfSome, IsSomeAnd, IsTrue, OnErr, OnOk, false, length, replicate, slice_set};
 ghost use Rattle.staat_model.specs.Sets.{IsNonempty};
 ghost use Rattle.staat_graph.specs.Graphs.{IsStrong};
 ghost use Rattle.staat_vec.specs.declared.vector.Sign.TheVariants.{Zero};
@@ -171,12 +171,13 @@ impl CountedSigns {
         lost | gained
     }
 
-    /// Whether all facets of the pair `q` are positive.
-    pub fn is_full(&self, q: u16) -> bool
-        requires { q < length self.now.pairs }
-        ensures { IsTrue result ↔ IsFull self.now q }
+    /// The first of `count` pairs, from the pair `from` on, of which all facets are positive: how many come before it.
+    pub fn first_full(&self, from: u32, count: u32) -> Option<u32>
+        requires { from + count ≤ length self.now.pairs }
+        ensures full { IfSome result (λ j. (j < count) × IsFull self.now (from + j)) }
+        ensures first { (k : ℕ) → k < count → IsFull self.now (from + k) → IsSomeAnd result (λ j. j ≤ k) }
     {
-        self.counts.is_full(q)
+        self.counts.first_full(from, count)
     }
 
     /// The graph in which an arc stands where all facets of some pair of pieces are positive.

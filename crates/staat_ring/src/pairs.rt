@@ -1,6 +1,6 @@
 // How many facets of each ordered pair of pieces are positive.
-ghost use Rattle.std.specs.Prelude.{◌≡◌, ℕ, ◌+◌, ◌*◌, ◌<◌, ◌≤◌, ◌^◌, ◌↔◌, ◌==◌, All, IfOk, IsTrue, false};
-ghost use Rattle.std.specs.Prelude.{if◌then◌else◌, length, not, replicate, slice_set, true};
+ghost use Rattle.std.specs.Prelude.{◌≡◌, ℕ, ◌+◌, ◌*◌, ◌<◌, ◌≤◌, ◌^◌, ◌↔◌, ◌==◌, All, IfOk, IfSome, IsSomeAnd};
+ghost use Rattle.std.specs.Prelude.{IsTrue, false, if◌then◌else◌, length, not, replicate, slice_set, true};
 ghost use Rattle.staat_model.specs.Sets.{IsNonempty};
 ghost use Rattle.staat_graph.specs.Graphs.{IsStrong};
 ghost use Rattle.staat_ring.specs.BlockCounts.{IsGraphOf, part_pairs};
@@ -163,13 +163,20 @@ impl PairCounts {
         told
     }
 
-    /// Whether all facets of the pair are positive.
-    pub fn is_full(&self, q: u16) -> bool
-        requires { q < length self.now }
-        ensures { IsTrue result ↔ ((pair_at self.now q).wanted ≤ (pair_at self.now q).positive) }
+    /// The first of `count` pairs, from the pair `from` on, of which all facets are positive: how many come before it.
+    pub fn first_full(&self, from: u32, count: u32) -> Option<u32>
+        requires { from + count ≤ length self.now }
+        ensures full { IfSome result (λ j. (j < count) × IsTrue (is_full (pair_at self.now (from + j)))) }
+        ensures first { (k : ℕ) → k < count → IsTrue (is_full (pair_at self.now (from + k)))
+            → IsSomeAnd result (λ j. j ≤ k) }
     {
-        let pair = self.pairs[q as usize];
-        pair.wanted <= pair.positive
+        for j in 0..count {
+            let pair = self.pairs[(from + j) as usize];
+            if pair.wanted <= pair.positive {
+                return Some(j);
+            }
+        }
+        None
     }
 
     /// The graph in which an arc stands where some pair blocks.
