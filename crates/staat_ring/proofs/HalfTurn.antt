@@ -22,6 +22,7 @@ use Rattle.staat_model.specs.Circles.{axis_beside}
 use Rattle.staat_model.specs.Planes.{axes}
 use Rattle.staat_pairs.specs.Tables.{AreTablePlanes}
 use Rattle.staat_ring.specs.declared.entry.Entry.{Entry}
+use Rattle.staat_ring.specs.declared.keys.Key.{Key}
 use Rattle.staat_ring.specs.Builds.{AreUpper, IsUpper, IsUpperEntry, key_entry, ray}
 use Rattle.staat_ring.specs.Order.{HasEntryOfPlane, IsTransitive, CrossesBefore, facet_of, order_det, AreInOrder, IsBreak, IsInserted, IsOrderOf, entry_at, no_entry}
 use Rattle.staat_ring.specs.Rings.{facet_by}
@@ -231,8 +232,8 @@ uppers_moved planes c g axis n old new p u = record {
   all = λ k lt ne. has_plane old new k (λ x. Contains-permutation old new x p) (u.all k lt ne);
 }
 
-pub keys_within : (planes : List V3) (c : ℕ) (g axis : V3) (n : ℕ) (keys : List (ℤ × ℕ × Bool)) → AreUpper planes c g axis n (map key_entry keys) → All (λ (k : ℤ × ℕ × Bool). k.1 < length planes) keys
-keys_within planes c g axis n keys u = All-from_members (λ (k : ℤ × ℕ × Bool). k.1 < length planes) keys (λ k hk. (u.each (key_entry k) (Contains-map key_entry keys k hk)).within)
+pub keys_within : (planes : List V3) (c : ℕ) (g axis : V3) (n : ℕ) (keys : List Key) → AreUpper planes c g axis n (map key_entry keys) → All (λ (k : Key). (key_entry k).plane < length planes) keys
+keys_within planes c g axis n keys u = All-from_members (λ (k : Key). (key_entry k).plane < length planes) keys (λ k hk. (u.each (key_entry k) (Contains-map key_entry keys k hk)).within)
 
 -- ---- an entry that is put at its place leaves the others in order
 

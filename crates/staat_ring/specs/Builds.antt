@@ -1,11 +1,13 @@
 -- The entries of a circle while it is built, and its stops.
-use Rattle.std.specs.Prelude.{◌≡◌, ◌≢◌, ◌⊎◌, ℕ, ◌<◌, ◌≤◌, ℤ, Bool, not, List, [], ◌∷◌, ◌++◌, map, Contains, length}
+use Rattle.std.specs.Prelude.{◌≡◌, ◌≢◌, ◌⊎◌, ℕ, ◌/◌, ◌%◌, ◌<◌, ◌≤◌, nat_eq, not, List, [], ◌∷◌, ◌++◌, map, Contains, length}
 use Rattle.std.specs.Prelude.{pos, ◌<ℤ◌, slice_index_or}
 use Rattle.std.specs.List.{between}
 use Rattle.staat_vec.specs.declared.vector.V3.{V3}
 use Rattle.staat_vec.specs.Vectors.{cross, det}
 use Rattle.staat_vec.specs.Primitives.{primitive}
+use Rattle.staat_limits.specs.declared.limits.TheConstants.{MOST_PLANES}
 use Rattle.staat_ring.specs.declared.entry.Entry.{Entry}
+use Rattle.staat_ring.specs.declared.keys.Key.{Key}
 use Rattle.staat_ring.specs.Order.{HasEntryOfPlane, facet_of}
 use Rattle.staat_ring.specs.Rings.{Ring}
 
@@ -29,8 +31,8 @@ pub record AreUpper (planes : List V3) (c : ℕ) (g axis : V3) (n : ℕ) (es : L
   pub all : (k : ℕ) → k < n → k ≢ c → HasEntryOfPlane es k
 
 -- the entry of a key
-abbrev pub key_entry : ℤ × ℕ × Bool → Entry
-key_entry k = record { plane = k.1; turned = k.2 }
+abbrev pub key_entry : Key → Entry
+key_entry k = record { plane = k.word / 2 % MOST_PLANES; turned = nat_eq (k.word % 2) 1 }
 
 -- ---- the stops
 

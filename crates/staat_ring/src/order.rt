@@ -1,5 +1,5 @@
 // The order of the entries of a circle, and where its stops end.
-ghost use Rattle.std.specs.Prelude.{◌≡◌, ◌↔◌, ℕ, ◌<◌, ℤ, All, Bool, IfOk, IsTrue, OnOk, length, map, pos};
+ghost use Rattle.std.specs.Prelude.{◌≡◌, ◌↔◌, ◌<◌, All, IfOk, IsTrue, OnOk, length, map, pos};
 ghost use Rattle.staat_vec.specs.Vectors.{IsWithin, det, sign};
 ghost use Rattle.staat_vec.specs.declared.vector.TheConstants.{NORMAL};
 ghost use Rattle.staat_vec.specs.declared.words.TheConstants.{BROAD};
@@ -115,20 +115,13 @@ fn insert(turn: &Turn, es: &mut Vec<Entry>, e: Entry) -> Result<(), OutOfMemory>
 
 /// The entries of the keys in the order of their crossings, and of their planes where they cross in one vertex.
 pub fn in_order(alloc: Global, turn: &Turn, keys: &[Key]) -> Result<Vec<Entry>, OutOfMemory>
-    requires keys { All (λ (k : ℤ × ℕ × Bool). k.1 < length turn.now.table.now.planes) keys.now }
+    requires keys { All (λ k. (key_entry k).plane < length turn.now.table.now.planes) keys.now }
     ensures { IfOk result (λ v. IsOrderOf turn.now.table.now.planes turn.now.g (map key_entry keys.now) v.items) }
 {
     // there comes the opposite half circle behind
     let mut entries = Vec::with_capacity(alloc, keys.len().saturating_mul(2))?;
     for key in keys {
-        insert(
-            turn,
-            &mut entries,
-            Entry {
-                plane: key.1,
-                turned: key.2,
-            },
-        )?;
+        insert(turn, &mut entries, key.entry())?;
     }
     Ok(entries)
 }
