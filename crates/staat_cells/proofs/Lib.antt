@@ -7,12 +7,14 @@ pub mod OneCell
 pub mod SomeCells
 pub mod PointCells
 pub mod OppositePoints
+pub mod OppositeCells
 pub mod TableRules
 pub mod Grouping
 pub mod SignOrder
 pub mod Composing
 pub mod Words
 pub mod IncidenceOrder
+pub mod Mirrors
 pub mod VertexSigns
 pub mod EdgeIncidences
 pub mod Zeros

@@ -1,6 +1,6 @@
 -- Loops that list incidences cell by cell, and those of a vertex plane by plane.
 use Rattle.std.proofs.Common.{◌≡◌, ◌⊎◌, ◌↔◌, inl, inr, ℕ, ◌<◌, sym, ap, subst, ◌∙◌, arith, List, length, get_or, map}
-use Rattle.std.proofs.Common.{⊎_elim, refl, [], ◌∷◌, ◌++◌, Contains}
+use Rattle.std.proofs.Common.{◌≤◌, ⊎_elim, refl, [], ◌∷◌, ◌++◌, Contains}
 use Rattle.std.proofs.lemmas.List.{get_or-map, length-map}
 use Rattle.staat_vec.specs.declared.vector.V3.{V3}
 use Rattle.staat_vec.specs.declared.vector.Sign.TheVariants.{Neg, Pos, Zero}
@@ -13,7 +13,7 @@ use Rattle.staat_cells.specs.Packing.{incidence_cmp, incidence_of}
 use Rattle.staat_cells.specs.Beside.{filled, beside}
 use Rattle.staat_cells.specs.Stages.{cell_at, words_of, HaveSigns, IsEdgeIncidence, IsFilledIncidence}
 use Rattle.staat_cells.specs.Stages.{IsOwnIncidence, IsIncidence, GrewByAll, IsBesideIncidence}
-use Rattle.staat_cells.proofs.Growing.{Below, grown_both, grown_first, grown_same, none_below}
+use Rattle.staat_cells.proofs.Growing.{Below, grown_both, grown_first, grown_same, none_below, through}
 use Rattle.staat_planes.proofs.Gaining.{adds_nothing}
 use Rattle.staat_vec.specs.Lists.{Lists}
 use Rattle.std.proofs.lemmas.List.Elements.{Contains-append_left, Contains-push, Contains-push_cases}
@@ -115,6 +115,18 @@ pub sorted_all : (P : Incidence → Type 0) (F : Incidence → ℕ → Type 0) (
     → Lists incidence_cmp (Contains found) sorted → Lists incidence_cmp P sorted
 sorted_all P F found sorted k grew all = lists_as (Contains found) P sorted
     (λ x. grown_first (grown_same (grew x) (all x)) (Contains-nothing x))
+
+-- what was listed of the first n of m cells
+pub first_listed : (P : Incidence → Type 0) (F : Incidence → ℕ → Type 0) (found : List Incidence) (n m : ℕ) → n ≤ m
+    → GrewByAll (λ x. Below (F x) n) [] found → ((x : Incidence) → Below (F x) m ↔ P x)
+    → ((x : Incidence) (k : ℕ) → F x k → x.of ≡ k) → (x : Incidence) → Contains found x ↔ (P x × (x.of < n))
+first_listed P F found n m le grew all of x = through (grown_first (grew x) (Contains-nothing x)) (from, to)
+  where
+    from : Below (F x) n → P x × (x.of < n)
+    from (k, lt, f) = ((all x).0 (k, omega (arith, lt, le), f), subst (λ j. j < n) (sym (of x k f)) lt)
+
+    to : P x × (x.of < n) → Below (F x) n
+    to (p, lt) = let (k, past, f) = (all x).1 p in (k, subst (λ j. j < n) (of x k f) lt, f)
 
 -- ---- incidences that stand where the cells do
 

@@ -15,7 +15,7 @@ sign_flipped (pos zero) = refl
 sign_flipped (pos (suc n)) = refl
 sign_flipped (negsuc n) = refl
 
-signs_flipped : (planes : List V3) (u : V3) → signs_of planes (negative u) ≡ map flipped (signs_of planes u)
+pub signs_flipped : (planes : List V3) (u : V3) → signs_of planes (negative u) ≡ map flipped (signs_of planes u)
 signs_flipped [] u = refl
 signs_flipped (n ∷ planes) u =
     let first : sign (dot n (negative u)) ≡ flipped (sign (dot n u)) = ap sign (dot_negative n u) ∙ sign_flipped (dot n u) in

@@ -75,12 +75,12 @@ point_has_vertex planes s apart cell point =
 
 -- ---- one vertex for each list of signs
 
-zero_turned : (a b : ℤ) → a ≡ neg_ℤ b → sign a ≡ sign b → b ≡ pos 0
+pub zero_turned : (a b : ℤ) → a ≡ neg_ℤ b → sign a ≡ sign b → b ≡ pos 0
 zero_turned a (pos zero) e s = refl
 zero_turned a (pos (suc n)) e s = let wrong : sign (neg_ℤ (pos (suc n))) ≡ Pos = ap sign (sym e) ∙ s in cc
 zero_turned a (negsuc n) e s = let wrong : sign (neg_ℤ (negsuc n)) ≡ Neg = ap sign (sym e) ∙ s in cc
 
-axes_zero : (planes : List V3) (v : V3) → HoldsAxes planes → ((g : V3) → Contains planes g → dot g v ≡ pos 0) → v ≡ origin
+pub axes_zero : (planes : List V3) (v : V3) → HoldsAxes planes → ((g : V3) → Contains planes g → dot g v ≡ pos 0) → v ≡ origin
 axes_zero planes v axes f =
     let ρ = values (v ∷ []) [] in
     let o : Ex = num (pos 0) in

@@ -1,5 +1,6 @@
 pub mod Beside
 pub mod Packing
+pub mod Mirrors
 pub mod Compositions
 pub mod Stages
 pub mod ZeroSigns

@@ -14,7 +14,7 @@ ghost use Rattle.staat_cells.specs.Stages.{IsIncidence};
 
 use crate::cell::Cell;
 use crate::incidence::Incidence;
-use crate::order::in_order;
+use crate::order::{in_order_with_mirrors, mirror_sum};
 use crate::zero_signs::{incidence_towards, zeros_of};
 use staat_vec::{NORMAL, Normal, OutOfMemory, V3, cross_normal, neg};
 use std::alloc::Global;
@@ -107,7 +107,7 @@ fn push_edge_incidences(
 }
 
 /// The incidences of vertices towards the edges that end there, in their order, from those with the signs of the
-/// vertices.
+/// vertices. Those of the first half are found, and the others are their opposites.
 pub(crate) fn edge_incidences(
     alloc: Global,
     planes: &[Normal],
@@ -121,9 +121,10 @@ pub(crate) fn edge_incidences(
     ensures { IfOk result (λ found. Lists incidence_cmp (IsIncidence planes.now Edge (map entry_of points.now))
         found.items) }
 {
+    let sum = mirror_sum(alloc, planes, points.len())?;
     let mut incidences = Vec::with_capacity(alloc, points.len().saturating_mul(4))?;
-    for k in 0..points.len() {
+    for k in 0..points.len() / 2 {
         push_edge_incidences(alloc, planes, &points[k], own[k], k, &mut incidences)?;
     }
-    Ok(in_order(incidences))
+    in_order_with_mirrors(sum, incidences)
 }

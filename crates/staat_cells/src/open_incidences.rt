@@ -1,5 +1,8 @@
 // The incidences of edges: the open cells on whose border they are.
 ghost use Rattle.std.specs.Prelude.{◌≡◌, ◌++◌, [], ◌∷◌, IfOk, List, OnOk, map};
+ghost use Rattle.staat_model.specs.declared.tree.Kind.TheVariants.{Edge};
+ghost use Rattle.staat_model.specs.Cells.{AreCellsOf};
+ghost use Rattle.staat_pairs.specs.Tables.{AreTablePlanes};
 ghost use Rattle.staat_vec.specs.declared.vector.Sign.{Sign as SignValue};
 ghost use Rattle.staat_vec.specs.declared.vector.Sign.TheVariants.{Neg, Pos};
 ghost use Rattle.staat_vec.specs.Lists.{Lists};
@@ -10,9 +13,10 @@ ghost use Rattle.staat_cells.specs.Stages.{HaveSigns, IsFilledIncidence};
 
 use crate::cell::Cell;
 use crate::incidence::Incidence;
-use crate::order::in_order;
+use crate::order::{in_order_with_mirrors, mirror_sum};
 use crate::zero_signs::incidence_filled;
-use staat_vec::{OutOfMemory, Sign};
+use staat_vec::{Normal, OutOfMemory, Sign};
+use std::alloc::Global;
 
 // adds both incidences of the edge with the number k, from one with its signs
 fn push_both(own: Incidence, k: usize, incidences: &mut Vec<Incidence>) -> Result<(), OutOfMemory>
@@ -26,19 +30,25 @@ fn push_both(own: Incidence, k: usize, incidences: &mut Vec<Incidence>) -> Resul
     Ok(())
 }
 
-/// Both incidences of each edge, in their order, from those with the signs of the edges. They take the place of what was
-/// listed: there is room for them where the ends of the edges were.
+/// Both incidences of each edge, in their order, from those with the signs of the edges: those of the first half are
+/// found, and the others are their opposites. They take the place of what was listed: there is room for them where the
+/// ends of the edges were.
 pub(crate) fn open_incidences(
+    alloc: Global,
+    planes: &[Normal],
     mut incidences: Vec<Incidence>,
     edges: &[Cell],
     own: &[Incidence],
 ) -> Result<Vec<Incidence>, OutOfMemory>
-    requires { HaveSigns (map entry_of edges.now) own.now }
+    requires planes { AreTablePlanes planes.now }
+    requires edges { AreCellsOf planes.now Edge (map entry_of edges.now) }
+    requires own { HaveSigns (map entry_of edges.now) own.now }
     ensures { IfOk result (λ found. Lists incidence_cmp (IsFilledIncidence (map entry_of edges.now)) found.items) }
 {
+    let sum = mirror_sum(alloc, planes, edges.len())?;
     incidences.clear();
-    for k in 0..edges.len() {
+    for k in 0..edges.len() / 2 {
         push_both(own[k], k, &mut incidences)?;
     }
-    Ok(in_order(incidences))
+    in_order_with_mirrors(sum, incidences)
 }

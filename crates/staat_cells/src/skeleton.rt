@@ -37,7 +37,7 @@ impl Skeleton {
         let ends = edge_incidences(alloc, planes, &points, &own)?;
         let edges = composed_cells(alloc, Kind::Edge, &points, &ends)?;
         let own = begun(alloc, &ends)?;
-        let incidences = open_incidences(ends, &edges, &own)?;
+        let incidences = open_incidences(alloc, planes, ends, &edges, &own)?;
         Ok(Skeleton {
             points,
             edges,

@@ -1,13 +1,23 @@
-use Rattle.std.proofs.Common.{◌≡◌, arith, length, map, subst, sym, Contains}
+use Rattle.std.proofs.Common.{◌≡◌, ℕ, ◌<◌, ◌/◌, ◌∙◌, ap, arith, List, [], length, map, subst, sym, Contains}
 use Rattle.std.proofs.lemmas.List.{length-map}
-use Rattle.staat_model.specs.declared.tree.Kind.TheVariants.{Edge}
-use Rattle.staat_model.specs.Cells.{CellEntry, signs_of}
+use Rattle.std.proofs.lemmas.Result.{IfOk-weaker}
+use Rattle.staat_vec.specs.Lists.{Lists}
+use Rattle.staat_vec.specs.declared.vector.V3.{V3}
+use Rattle.staat_model.specs.declared.tree.Kind.TheVariants.{Edge, Point}
+use Rattle.staat_model.specs.Cells.{AreCellsOf, CellEntry, signs_of}
+use Rattle.staat_pairs.specs.Tables.{AreTablePlanes}
+use Rattle.staat_cells.specs.declared.cell.Cell.{Cell}
+use Rattle.staat_cells.specs.declared.incidence.Incidence.{Incidence}
+use Rattle.staat_cells.specs.Mirrors.{IsOfPair, mirror_sum}
+use Rattle.staat_cells.specs.Packing.{incidence_cmp}
 use Rattle.staat_model.specs.Planes.{vertices}
 use Rattle.staat_cells.specs.Compositions.{entry_of}
 use Rattle.staat_cells.specs.Stages.{GrewByAll, IsEdgeIncidence, IsIncidence}
 use Rattle.staat_cells.proofs.MadeUpCells.{point_in}
-use Rattle.staat_cells.proofs.Growing.{grown_more}
-use Rattle.staat_cells.proofs.ListedIncidences.{IsEdgeAt, edges_all, entry_is, grew_none, listed_is, own_at, own_place, sorted_all}
+use Rattle.staat_cells.proofs.Growing.{Below, grown_more}
+use Rattle.staat_cells.proofs.Mirrors.{IsHalfOf}
+use Rattle.staat_cells.proofs.OppositeCells.{edge_half}
+use Rattle.staat_cells.proofs.ListedIncidences.{IsEdgeAt, entry_is, grew_none, listed_is, lists_as, own_at, own_place}
 use Rattle.staat_cells.proofs.edge_incidences.edge_incidences.Goals as goal
 
 pub loop-k-init : goal.loop-k-init
@@ -15,29 +25,31 @@ loop-k-init c =
     grew_none (IsEdgeAt c.args.planes.now (map entry_of c.args.points.now)) c.in_ok-incidences.incidences.items c.in_ok-incidences.ensures.items
 
 pub bounds-own-k : goal.bounds-own-k
-bounds-own-k c = own_place c.args.points.now c.args.own.now c.requires.own c.loop-k.k c.loop-k-test.true
+bounds-own-k c = own_place c.args.points.now c.args.own.now c.requires.own c.loop-k.k (omega (arith, c.loop-k-test.true))
 
 pub push_edge_incidences-requires-clause-vertex : goal.push_edge_incidences-requires-clause-vertex
 push_edge_incidences-requires-clause-vertex c =
     let points = c.args.points.now in
     let k = c.loop-k.k in
+    let lt : k < length points = omega (arith, c.loop-k-test.true) in
     subst (λ (e : CellEntry). Contains (vertices c.args.planes.now) e.d)
-    (entry_is points k c.index-points-k.result c.loop-k-test.true c.index-points-k.is)
+    (entry_is points k c.index-points-k.result lt c.index-points-k.is)
     (point_in c.args.planes.now c.requires.planes (map entry_of points) c.requires.points k
-    (listed_is points k c.loop-k-test.true)).0
+    (listed_is points k lt)).0
 
 pub push_edge_incidences-requires-clause-signs : goal.push_edge_incidences-requires-clause-signs
 push_edge_incidences-requires-clause-signs c =
     let points = c.args.points.now in
     let k = c.loop-k.k in
+    let lt : k < length points = omega (arith, c.loop-k-test.true) in
     subst (λ (e : CellEntry). e.signs ≡ signs_of c.args.planes.now e.d)
-    (entry_is points k c.index-points-k.result c.loop-k-test.true c.index-points-k.is)
+    (entry_is points k c.index-points-k.result lt c.index-points-k.is)
     (sym (point_in c.args.planes.now c.requires.planes (map entry_of points) c.requires.points k
-    (listed_is points k c.loop-k-test.true)).1)
+    (listed_is points k lt)).1)
 
 pub push_edge_incidences-requires-clause-own : goal.push_edge_incidences-requires-clause-own
 push_edge_incidences-requires-clause-own c =
-    own_at c.args.points.now c.args.own.now c.requires.own c.loop-k.k c.index-points-k.result c.loop-k-test.true
+    own_at c.args.points.now c.args.own.now c.requires.own c.loop-k.k c.index-points-k.result (omega (arith, c.loop-k-test.true))
     c.index-points-k.is
 
 pub loop-k-preserved : goal.loop-k-preserved
@@ -46,17 +58,34 @@ loop-k-preserved c =
     let k = c.loop-k.k in
     let grew = subst (λ (e : CellEntry). GrewByAll (IsEdgeIncidence planes e.d k) c.loop-k.incidences.items
     c.push_edge_incidences.new.incidences.items)
-    (sym (entry_is c.args.points.now k c.index-points-k.result c.loop-k-test.true c.index-points-k.is))
+    (sym (entry_is c.args.points.now k c.index-points-k.result (omega (arith, c.loop-k-test.true)) c.index-points-k.is))
     c.in_ok-push_edge_incidences.ensures in
     λ x. grown_more (IsEdgeAt planes (map entry_of c.args.points.now) x) k (c.loop-k.invariant x) (grew x)
 
+-- what was found is half of all
+found_half : (planes : List V3) (are : AreTablePlanes planes) (points : List Cell) (found : List Incidence) (h : ℕ) (sum : Incidence)
+    → AreCellsOf planes Point (map entry_of points) → h ≡ length points / 2
+    → GrewByAll (λ x. Below (IsEdgeAt planes (map entry_of points) x) h) [] found → sum ≡ mirror_sum planes (length points)
+    → IsHalfOf sum (IsIncidence planes Edge (map entry_of points)) found
+found_half planes are points found h sum listed is grew sum_is =
+    let cells = map entry_of points in
+    let long = length-map points entry_of in
+    subst (λ s. IsHalfOf s (IsIncidence planes Edge cells) found) (ap (mirror_sum planes) long ∙ sym sum_is)
+    (edge_half planes are Point cells listed found h (is ∙ ap (λ n. n / 2) (sym long)) grew
+    (λ k lt. sym (point_in planes are cells listed k lt).1))
+
+pub in_order_with_mirrors-requires : goal.in_order_with_mirrors-requires
+in_order_with_mirrors-requires c =
+    (found_half c.args.planes.now c.requires.planes c.args.points.now c.loop-k.incidences.items c.loop-k.k c.in_ok-sum.sum
+    c.requires.points (omega (arith, c.loop-k-test.false, c.loop-k.auto.k-end)) c.loop-k.invariant c.in_ok-sum.ensures).have
+
 pub returns : goal.returns
 returns c =
-    let planes = c.args.planes.now in
     let cells = map entry_of c.args.points.now in
-    let all : c.loop-k.k ≡ length cells =
-    omega (arith, c.loop-k-test.false, c.loop-k.auto.k-end, length-map c.args.points.now entry_of) in
-    sorted_all (IsIncidence planes Edge cells) (IsEdgeAt planes cells) c.loop-k.incidences.items c.in_order.result.items c.loop-k.k
-    c.loop-k.invariant (λ x. edges_all cells c.loop-k.k all x planes
-    (λ k lt. sym (point_in planes c.requires.planes cells c.requires.points k lt).1))
-    c.in_order.ensures
+    let half = found_half c.args.planes.now c.requires.planes c.args.points.now c.loop-k.incidences.items c.loop-k.k c.in_ok-sum.sum
+    c.requires.points (omega (arith, c.loop-k-test.false, c.loop-k.auto.k-end)) c.loop-k.invariant c.in_ok-sum.ensures in
+    IfOk-weaker c.in_order_with_mirrors.result
+    (λ found. Lists incidence_cmp (IsOfPair c.in_ok-sum.sum c.loop-k.incidences.items) found.items)
+    (λ found. Lists incidence_cmp (IsIncidence c.args.planes.now Edge cells) found.items)
+    (λ found. lists_as (IsOfPair c.in_ok-sum.sum c.loop-k.incidences.items) (IsIncidence c.args.planes.now Edge cells) found.items half.all)
+    c.in_order_with_mirrors.ensures

@@ -48,8 +48,21 @@ composed_cells-requires-clause-signs c =
     subst HaveEqualLengths (sym c.deref-3.ensures.value)
     (equal_lengths c.args.planes.now c.requires.planes Point c.in_ok-points.points.items c.in_ok-points.ensures.points)
 
-pub open_incidences-requires : goal.open_incidences-requires
-open_incidences-requires c =
+pub open_incidences-requires-clause-edges : goal.open_incidences-requires-clause-edges
+open_incidences-requires-clause-edges c =
+    let planes = c.args.planes.now in
+    let points = c.in_ok-points.points.items in
+    let ends = c.in_ok-ends.ends.items in
+    let lists = subst (λ (l : List Cell). Lists incidence_cmp (IsIncidence planes Edge (map entry_of l)) ends)
+    c.deref.ensures.value c.in_ok-ends.ensures in
+    let made = ap (map entry_of) c.deref-6.ensures.value ∙ c.in_ok-edges.ensures ∙ (λ i.
+    let l = c.deref-4.ensures.value i in composed_up_to Edge (map entry_of (c.deref-3.ensures.value i)) l (length l)) in
+    kind_listed planes c.requires.planes c.requires.few Edge points ends
+    (edges_made_up planes c.requires.planes (map entry_of points) c.in_ok-points.ensures.points) lists
+    c.deref-6.result.now made
+
+pub open_incidences-requires-clause-own : goal.open_incidences-requires-clause-own
+open_incidences-requires-clause-own c =
     let planes = c.args.planes.now in
     let points = c.in_ok-points.points.items in
     let ends = c.in_ok-ends.ends.items in

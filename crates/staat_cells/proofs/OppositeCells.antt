@@ -1,0 +1,285 @@
+-- The cells of the opposite directions: where they stand, and their incidences.
+use Rattle.std.proofs.Common.{◌≡◌, ◌⊎◌, inl, inr, ⊎_elim, ℕ, ◌+◌, ◌*◌, ◌-◌, ◌<◌, refl, sym, ap, subst, ◌∙◌, arith}
+use Rattle.std.proofs.Common.{List, [], ◌∷◌, length, get_or, map, reverse, take, drop, Contains, ◌/◌}
+use Rattle.std.proofs.lemmas.List.{drop-map, take-map}
+use Rattle.std.specs.Ordering.{nat_cmp, ordering_then}
+use Rattle.std.proofs.lemmas.List.{get_or-map, get_or-reverse, length-map, length-reverse}
+use Rattle.staat_vec.specs.declared.vector.V3.{V3}
+use Rattle.staat_vec.specs.declared.vector.Sign.{Sign}
+use Rattle.staat_vec.specs.declared.vector.Sign.TheVariants.{Neg, Zero, Pos}
+use Rattle.staat_vec.specs.Vectors.{dot, negative, sign}
+use Rattle.staat_vec.proofs.Naturals.{same_or}
+use Rattle.staat_vec.proofs.Unique.{same_list}
+use Rattle.staat_vec.proofs.VecRing.{dot_negative}
+use Rattle.staat_vec.proofs.VectorLaws.{negative_some}
+use Rattle.staat_model.specs.declared.tree.Kind.{Kind}
+use Rattle.staat_model.specs.declared.tree.Kind.TheVariants.{Edge}
+use Rattle.staat_model.specs.Cells.{AreCellsOf, CellEntry, IsBorder, IsCell, kind_by_count, kind_of, sign_place}
+use Rattle.staat_model.specs.Cells.{signs_cmp, signs_of}
+use Rattle.staat_model.proofs.CellLemmas.{zeros, zeros-cons}
+use Rattle.staat_pairs.specs.Tables.{AreTablePlanes}
+use Rattle.staat_cells.specs.declared.incidence.Incidence.{Incidence}
+use Rattle.staat_cells.specs.Beside.{filled, then_sign}
+use Rattle.staat_cells.specs.Compositions.{no_cell}
+use Rattle.staat_cells.specs.Mirrors.{IsUpTo, mirror_sum, mirrored}
+use Rattle.staat_cells.specs.Packing.{incidence_of, packed, packed_after}
+use Rattle.staat_cells.specs.Stages.{GrewByAll, IsFilledIncidence, IsIncidence, cell_at, flipped}
+use Rattle.staat_cells.proofs.Grouping.{cell_length}
+use Rattle.staat_cells.proofs.MadeUpCells.{entry_at}
+use Rattle.staat_cells.proofs.Beside.{at_plane}
+use Rattle.staat_cells.proofs.Growing.{Below}
+use Rattle.staat_cells.proofs.ListedIncidences.{IsEdgeAt, IsFilledAt, edges_all, filled_all, first_listed}
+use Rattle.staat_cells.proofs.Mirrors.{IsHalfOf, IsMirroredIn, half_listed, image_in, image_of, images_ascend, nat_mirror}
+use Rattle.staat_cells.proofs.OppositePoints.{signs_flipped}
+use Rattle.staat_cells.proofs.SignOrder.{signs_exact, signs_total}
+use Rattle.staat_cells.proofs.TableRules.{holds_axes}
+use Rattle.staat_cells.proofs.VertexSigns.{axes_zero, zero_turned}
+use Rattle.staat_cells.proofs.Words.{place_small}
+
+-- ---- flipped signs
+
+abbrev pub turned : List Sign → List Sign
+turned = map flipped
+
+flipped_twice : (x : Sign) → flipped (flipped x) ≡ x
+flipped_twice Neg = refl
+flipped_twice Zero = refl
+flipped_twice Pos = refl
+
+pub turned_twice : (s : List Sign) → turned (turned s) ≡ s
+turned_twice [] = refl
+turned_twice (x ∷ s) = λ i. flipped_twice x i ∷ turned_twice s i
+
+place_flipped : (x : Sign) → sign_place (flipped x) ≡ 2 - sign_place x
+place_flipped Neg = refl
+place_flipped Zero = refl
+place_flipped Pos = refl
+
+turned_order : (s t : List Sign) → length s ≡ length t → signs_cmp (turned s) (turned t) ≡ signs_cmp t s
+turned_order [] [] e = refl
+turned_order [] (y ∷ t) e = absurd (omega arith)
+turned_order (x ∷ s) [] e = absurd (omega arith)
+turned_order (x ∷ s) (y ∷ t) e =
+    let first : nat_cmp (sign_place (flipped x)) (sign_place (flipped y)) ≡ nat_cmp (sign_place y) (sign_place x) =
+    (λ i. nat_cmp (place_flipped x i) (place_flipped y i)) ∙ nat_mirror 2 (sign_place x) (sign_place y) (place_small x) (place_small y) in
+    let rest = turned_order s t (omega arith) in
+    λ i. ordering_then (first i) (rest i)
+
+zeros_turned : (s : List Sign) → zeros (turned s) ≡ zeros s
+zeros_turned [] = refl
+zeros_turned (Neg ∷ s) = zeros_turned s
+zeros_turned (Zero ∷ s) = zeros-cons Zero (turned s) ∙ ap (λ n. 1 + n) (zeros_turned s) ∙ sym (zeros-cons Zero s)
+zeros_turned (Pos ∷ s) = zeros_turned s
+
+border_turned : (f s : List Sign) → IsBorder f s → IsBorder (turned f) (turned s)
+border_turned [] [] b = b
+border_turned [] (t ∷ s) b = b
+border_turned (g ∷ f) [] b = b
+border_turned (g ∷ f) (t ∷ s) (e, b) =
+    (⊎_elim (λ same. inl (ap flipped same)) (λ zero. inr (ap flipped zero)) e, border_turned f s b)
+
+filled_flipped : (x t : Sign) → flipped (then_sign x t) ≡ then_sign (flipped x) (flipped t)
+filled_flipped Neg t = refl
+filled_flipped Zero t = refl
+filled_flipped Pos t = refl
+
+filled_turned : (t : Sign) (s : List Sign) → turned (filled t s) ≡ filled (flipped t) (turned s)
+filled_turned t [] = refl
+filled_turned t (x ∷ s) = λ i. filled_flipped x t i ∷ filled_turned t s i
+
+-- ---- the numbers of both
+
+packed_turned : (a b : ℕ) (s : List Sign) → packed_after a s + packed_after b (turned s) ≡ packed_after (a + b) (map (λ x. Pos) s)
+packed_turned a b [] = refl
+packed_turned a b (x ∷ s) =
+    let q = place_flipped x in
+    let p = place_small x in
+    let e : a * 4 + sign_place x + (b * 4 + sign_place (flipped x)) ≡ (a + b) * 4 + 2 = omega (arith, q, p) in
+    packed_turned (a * 4 + sign_place x) (b * 4 + sign_place (flipped x)) s ∙ ap (λ n. packed_after n (map (λ x. Pos) s)) e
+
+all_positive : (planes : List V3) (s : List Sign) → length s ≡ length planes → map (λ (x : Sign). Pos) s ≡ map (λ (n : V3). Pos) planes
+all_positive [] [] e = refl
+all_positive [] (x ∷ s) e = absurd (omega arith)
+all_positive (n ∷ planes) [] e = absurd (omega arith)
+all_positive (n ∷ planes) (x ∷ s) e = let rest = all_positive planes s (omega arith) in λ i. Pos ∷ rest i
+
+part_of : {X : Type 0} (f : X → Sign) (n : ℕ) (s : List X) → take 64 (drop n (map f s)) ≡ map f (take 64 (drop n s))
+part_of f n s = ap (take 64) (drop-map f n s) ∙ take-map f 64 (drop n s)
+
+word_turned : (planes : List V3) (s : List Sign) (n : ℕ) → length s ≡ length planes
+    → packed (take 64 (drop n s)) + packed (take 64 (drop n (turned s))) ≡ packed (take 64 (drop n (map (λ (p : V3). Pos) planes)))
+word_turned planes s n long =
+    ap (λ t. packed (take 64 (drop n s)) + packed t) (part_of flipped n s) ∙ packed_turned 0 0 (take 64 (drop n s))
+    ∙ ap packed (sym (part_of (λ x. Pos) n s) ∙ ap (λ l. take 64 (drop n l)) (all_positive planes s long))
+
+module _ (planes : List V3) (count k : ℕ) (s : List Sign) (long : length s ≡ length planes) (lt : k < count) where
+  abbrev pub sum : Incidence
+  sum = mirror_sum planes count
+
+  pub incidence_up_to : IsUpTo sum (incidence_of s k)
+  incidence_up_to =
+      let a = word_turned planes s 0 long in
+      let b = word_turned planes s 64 long in
+      let c = word_turned planes s 128 long in
+      let d = word_turned planes s 192 long in
+      record { a = omega (arith, a); b = omega (arith, b); c = omega (arith, c); d = omega (arith, d); of = omega (arith, lt) }
+
+  left : (x y z : ℕ) → x + y ≡ z → z - x ≡ y
+  left x y z e = omega (arith, e)
+
+  pub incidence_mirrored : mirrored sum (incidence_of s k) ≡ incidence_of (turned s) (count - 1 - k)
+  incidence_mirrored = λ i. record {
+    a = left _ _ _ (word_turned planes s 0 long) i;
+    b = left _ _ _ (word_turned planes s 64 long) i;
+    c = left _ _ _ (word_turned planes s 128 long) i;
+    d = left _ _ _ (word_turned planes s 192 long) i;
+    of = count - 1 - k;
+  }
+
+-- ---- where they stand
+
+cell_turned : (planes : List V3) (s : List Sign) → IsCell planes s → IsCell planes (turned s)
+cell_turned planes s cell = record {
+  d = negative cell.d;
+  nonzero = negative_some cell.d cell.nonzero;
+  is = signs_flipped planes cell.d ∙ ap turned cell.is;
+}
+
+kind_turned : (s : List Sign) → kind_of (turned s) ≡ kind_of s
+kind_turned s = ap kind_by_count (zeros_turned s)
+
+module _ (planes : List V3) (are : AreTablePlanes planes) where
+  never_same : (s : List Sign) → IsCell planes s → turned s ≡ s → ⊥
+  never_same s cell e =
+      let d = cell.d in
+      let same : signs_of planes (negative d) ≡ signs_of planes d = signs_flipped planes d ∙ ap turned cell.is ∙ e ∙ sym cell.is in
+      cell.nonzero (axes_zero planes d (holds_axes planes are) (λ g c. zero_turned (dot g (negative d)) (dot g d)
+      (dot_negative g d) (at_plane (λ n. sign (dot n (negative d))) (λ n. sign (dot n d)) planes g same c)))
+
+  module _ (kind : Kind) (cells : List CellEntry) (listed : AreCellsOf planes kind cells) where
+    abbrev signs : List (List Sign)
+    signs = map (λ (c : CellEntry). c.signs) cells
+
+    turned_in : (s : List Sign) → Contains signs s → Contains signs (turned s)
+    turned_in s c =
+        let (cell, by_count) = listed.signs.each s c in
+        listed.signs.all (turned s) (cell_turned planes s cell, kind_turned s ∙ by_count)
+
+    signs_mirrored : signs ≡ map turned (reverse signs)
+    signs_mirrored = same_list signs_cmp signs_total signs_exact signs (map turned (reverse signs)) listed.signs.ascending
+        (images_ascend turned signs_cmp signs listed.signs.ascending (λ s t s_in t_in e. turned_order t s (long t t_in ∙ sym (long s s_in)) ∙ e))
+        (λ s c. subst (Contains (map turned (reverse signs))) (turned_twice s) (image_in turned signs (turned s) (turned_in s c)))
+        (λ s c. let (t, t_in, e) = image_of turned signs s c in subst (Contains signs) e (turned_in t t_in))
+      where
+        long : (s : List Sign) → Contains signs s → length s ≡ length planes
+        long s c = cell_length planes s (listed.signs.each s c).0
+
+    pub opposite_at : (k : ℕ) → k < length cells → (cell_at cells (length cells - 1 - k)).signs ≡ turned (cell_at cells k).signs
+    opposite_at k lt =
+        let of = λ (c : CellEntry). c.signs in
+        let m = length cells - 1 - k in
+        let n = length-map cells of in
+        let r = length-reverse signs in
+        let back : length signs - 1 - m ≡ k = omega (arith, lt, n) in
+        sym (get_or-map of cells m no_cell [] (omega (arith, lt))) ∙ ap (λ l. get_or l m []) signs_mirrored
+        ∙ get_or-map turned (reverse signs) m [] [] (omega (arith, lt, n, r))
+        ∙ ap turned (get_or-reverse signs m [] (omega (arith, lt, n)) ∙ ap (λ j. get_or signs j []) back
+        ∙ get_or-map of cells k no_cell [] lt)
+
+    pub never_odd : (h : ℕ) → length cells ≡ 2 * h + 1 → ⊥
+    never_odd h odd =
+        let lt : h < length cells = omega (arith, odd) in
+        let here : length cells - 1 - h ≡ h = omega (arith, odd) in
+        never_same (cell_at cells h).signs (entry_at planes kind cells listed h lt).cell
+        (sym (opposite_at h lt) ∙ ap (λ m. (cell_at cells m).signs) here)
+
+    -- ---- their incidences
+
+    pub edge_mirrored : (x : Incidence) → IsIncidence planes Edge cells x
+        → IsMirroredIn (mirror_sum planes (length cells)) (IsIncidence planes Edge cells) x
+    edge_mirrored x s =
+        let u = s.under in
+        let count = length cells in
+        let long = cell_length planes s.signs u.cell in
+        let is = ap (mirrored (mirror_sum planes count)) s.is ∙ incidence_mirrored planes count x.of s.signs long u.listed in
+        record {
+          up_to = subst (IsUpTo (mirror_sum planes count)) (sym s.is) (incidence_up_to planes count x.of s.signs long u.listed);
+          image = record {
+            signs = turned s.signs;
+            under = record {
+              cell = cell_turned planes s.signs u.cell;
+              by_count = kind_turned s.signs ∙ u.by_count;
+              listed = let lt = u.listed in omega (arith, lt);
+              border = subst (λ f. IsBorder f (turned s.signs)) (sym (opposite_at x.of u.listed)) (border_turned (cell_at cells x.of).signs s.signs u.border);
+            };
+            is = is;
+          };
+        }
+
+    pub open_mirrored : (x : Incidence) → IsFilledIncidence cells x
+        → IsMirroredIn (mirror_sum planes (length cells)) (IsFilledIncidence cells) x
+    open_mirrored x f = elim f.is [
+      | inl e ↦ filled_mirrored Neg e (λ is. inr is)
+      | inr e ↦ filled_mirrored Pos e (λ is. inl is)
+    ]
+      where
+        s : List Sign
+        s = (cell_at cells x.of).signs
+
+        count : ℕ
+        count = length cells
+
+        sum_is : Incidence
+        sum_is = mirror_sum planes count
+
+        across : List Sign
+        across = (cell_at cells (count - 1 - x.of)).signs
+
+        filled_mirrored : (t : Sign) → x ≡ incidence_of (filled t s) x.of
+            → (mirrored sum_is x ≡ incidence_of (filled (flipped t) across) (count - 1 - x.of)
+            → (mirrored sum_is x ≡ incidence_of (filled Neg across) (count - 1 - x.of))
+            ⊎ (mirrored sum_is x ≡ incidence_of (filled Pos across) (count - 1 - x.of)))
+            → IsMirroredIn sum_is (IsFilledIncidence cells) x
+        filled_mirrored t e which =
+            let lt = f.listed in
+            let long = length-map s (λ x. then_sign x t) ∙ cell_length planes s (entry_at planes kind cells listed x.of lt).cell in
+            record {
+              up_to = subst (IsUpTo sum_is) (sym e) (incidence_up_to planes count x.of (filled t s) long lt);
+              image = record {
+                listed = omega (arith, lt);
+                is = which (ap (mirrored sum_is) e ∙ incidence_mirrored planes count x.of (filled t s) long lt
+                    ∙ ap (λ g. incidence_of g (count - 1 - x.of)) (filled_turned t s ∙ ap (filled (flipped t)) (sym (opposite_at x.of lt))));
+              };
+            }
+
+    -- ---- those of the first half
+
+    half_long : (h : ℕ) → h ≡ length cells / 2 → length cells ≡ 2 * h
+    half_long h is = elim (same_or (length cells) (2 * h + 1)) [
+      | inl odd ↦ absurd (never_odd h odd)
+      | inr other ↦ omega (arith, is, other)
+    ]
+
+    pub edge_half : (found : List Incidence) (h : ℕ) → h ≡ length cells / 2
+        → GrewByAll (λ x. Below (IsEdgeAt planes cells x) h) [] found
+        → ((k : ℕ) → k < length cells → (cell_at cells k).signs ≡ signs_of planes (cell_at cells k).d)
+        → IsHalfOf (mirror_sum planes (length cells)) (IsIncidence planes Edge cells) found
+    edge_half found h is grew at =
+        let long = half_long h is in
+        half_listed (mirror_sum planes (length cells)) (IsIncidence planes Edge cells) found h
+        (λ x p. let lt = p.under.listed in omega (arith, lt, long)) edge_mirrored
+        (first_listed (IsIncidence planes Edge cells) (IsEdgeAt planes cells) found h (length cells) (omega (arith, long)) grew
+        (λ x. edges_all cells (length cells) refl x planes at) (λ x k e. ap (λ (y : Incidence). y.of) e.is))
+
+    pub open_half : (found : List Incidence) (h : ℕ) → h ≡ length cells / 2
+        → GrewByAll (λ x. Below (IsFilledAt cells x) h) [] found
+        → IsHalfOf (mirror_sum planes (length cells)) (IsFilledIncidence cells) found
+    open_half found h is grew =
+        let long = half_long h is in
+        half_listed (mirror_sum planes (length cells)) (IsFilledIncidence cells) found h
+        (λ x p. let lt = p.listed in omega (arith, lt, long)) open_mirrored
+        (first_listed (IsFilledIncidence cells) (IsFilledAt cells) found h (length cells) (omega (arith, long)) grew
+        (filled_all cells (length cells) refl) (λ x k e. elim e [
+          | inl is ↦ ap (λ (y : Incidence). y.of) is
+          | inr is ↦ ap (λ (y : Incidence). y.of) is
+        ]))
