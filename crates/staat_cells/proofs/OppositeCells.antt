@@ -1,5 +1,5 @@
 -- The cells of the opposite directions: where they stand, and their incidences.
-use Rattle.std.proofs.Common.{◌≡◌, ◌⊎◌, inl, inr, ⊎_elim, ℕ, ◌+◌, ◌*◌, ◌-◌, ◌<◌, refl, sym, ap, subst, ◌∙◌, arith}
+use Rattle.std.proofs.Common.{◌≡◌, inl, inr, ⊎_elim, ℕ, ◌+◌, ◌*◌, ◌-◌, ◌<◌, ◌↔◌, refl, sym, ap, subst, ◌∙◌, arith}
 use Rattle.std.proofs.Common.{List, [], ◌∷◌, length, get_or, map, reverse, take, drop, Contains, ◌/◌}
 use Rattle.std.proofs.lemmas.List.{drop-map, take-map}
 use Rattle.std.specs.Ordering.{nat_cmp, ordering_then}
@@ -13,22 +13,20 @@ use Rattle.staat_vec.proofs.Unique.{same_list}
 use Rattle.staat_vec.proofs.VecRing.{dot_negative}
 use Rattle.staat_vec.proofs.VectorLaws.{negative_some}
 use Rattle.staat_model.specs.declared.tree.Kind.{Kind}
-use Rattle.staat_model.specs.declared.tree.Kind.TheVariants.{Edge}
 use Rattle.staat_model.specs.Cells.{AreCellsOf, CellEntry, IsBorder, IsCell, kind_by_count, kind_of, sign_place}
 use Rattle.staat_model.specs.Cells.{signs_cmp, signs_of}
 use Rattle.staat_model.proofs.CellLemmas.{zeros, zeros-cons}
 use Rattle.staat_pairs.specs.Tables.{AreTablePlanes}
 use Rattle.staat_cells.specs.declared.incidence.Incidence.{Incidence}
-use Rattle.staat_cells.specs.Beside.{filled, then_sign}
 use Rattle.staat_cells.specs.Compositions.{no_cell}
 use Rattle.staat_cells.specs.Mirrors.{IsUpTo, mirror_sum, mirrored}
 use Rattle.staat_cells.specs.Packing.{incidence_of, packed, packed_after}
-use Rattle.staat_cells.specs.Stages.{GrewByAll, IsFilledIncidence, IsIncidence, cell_at, flipped}
+use Rattle.staat_cells.specs.Stages.{GrewByAll, IsIncidence, cell_at, flipped}
 use Rattle.staat_cells.proofs.Grouping.{cell_length}
 use Rattle.staat_cells.proofs.MadeUpCells.{entry_at}
 use Rattle.staat_cells.proofs.Beside.{at_plane}
 use Rattle.staat_cells.proofs.Growing.{Below}
-use Rattle.staat_cells.proofs.ListedIncidences.{IsEdgeAt, IsFilledAt, edges_all, filled_all, first_listed}
+use Rattle.staat_cells.proofs.ListedIncidences.{first_listed}
 use Rattle.staat_cells.proofs.Mirrors.{IsHalfOf, IsMirroredIn, half_listed, image_in, image_of, images_ascend, nat_mirror}
 use Rattle.staat_cells.proofs.OppositePoints.{signs_flipped}
 use Rattle.staat_cells.proofs.SignOrder.{signs_exact, signs_total}
@@ -77,15 +75,6 @@ border_turned [] (t ∷ s) b = b
 border_turned (g ∷ f) [] b = b
 border_turned (g ∷ f) (t ∷ s) (e, b) =
     (⊎_elim (λ same. inl (ap flipped same)) (λ zero. inr (ap flipped zero)) e, border_turned f s b)
-
-filled_flipped : (x t : Sign) → flipped (then_sign x t) ≡ then_sign (flipped x) (flipped t)
-filled_flipped Neg t = refl
-filled_flipped Zero t = refl
-filled_flipped Pos t = refl
-
-filled_turned : (t : Sign) (s : List Sign) → turned (filled t s) ≡ filled (flipped t) (turned s)
-filled_turned t [] = refl
-filled_turned t (x ∷ s) = λ i. filled_flipped x t i ∷ filled_turned t s i
 
 -- ---- the numbers of both
 
@@ -195,9 +184,9 @@ module _ (planes : List V3) (are : AreTablePlanes planes) where
 
     -- ---- their incidences
 
-    pub edge_mirrored : (x : Incidence) → IsIncidence planes Edge cells x
-        → IsMirroredIn (mirror_sum planes (length cells)) (IsIncidence planes Edge cells) x
-    edge_mirrored x s =
+    incidence_image : (upper : Kind) (x : Incidence) → IsIncidence planes upper cells x
+        → IsMirroredIn (mirror_sum planes (length cells)) (IsIncidence planes upper cells) x
+    incidence_image upper x s =
         let u = s.under in
         let count = length cells in
         let long = cell_length planes s.signs u.cell in
@@ -216,70 +205,22 @@ module _ (planes : List V3) (are : AreTablePlanes planes) where
           };
         }
 
-    pub open_mirrored : (x : Incidence) → IsFilledIncidence cells x
-        → IsMirroredIn (mirror_sum planes (length cells)) (IsFilledIncidence cells) x
-    open_mirrored x f = elim f.is [
-      | inl e ↦ filled_mirrored Neg e (λ is. inr is)
-      | inr e ↦ filled_mirrored Pos e (λ is. inl is)
-    ]
-      where
-        s : List Sign
-        s = (cell_at cells x.of).signs
-
-        count : ℕ
-        count = length cells
-
-        sum_is : Incidence
-        sum_is = mirror_sum planes count
-
-        across : List Sign
-        across = (cell_at cells (count - 1 - x.of)).signs
-
-        filled_mirrored : (t : Sign) → x ≡ incidence_of (filled t s) x.of
-            → (mirrored sum_is x ≡ incidence_of (filled (flipped t) across) (count - 1 - x.of)
-            → (mirrored sum_is x ≡ incidence_of (filled Neg across) (count - 1 - x.of))
-            ⊎ (mirrored sum_is x ≡ incidence_of (filled Pos across) (count - 1 - x.of)))
-            → IsMirroredIn sum_is (IsFilledIncidence cells) x
-        filled_mirrored t e which =
-            let lt = f.listed in
-            let long = length-map s (λ x. then_sign x t) ∙ cell_length planes s (entry_at planes kind cells listed x.of lt).cell in
-            record {
-              up_to = subst (IsUpTo sum_is) (sym e) (incidence_up_to planes count x.of (filled t s) long lt);
-              image = record {
-                listed = omega (arith, lt);
-                is = which (ap (mirrored sum_is) e ∙ incidence_mirrored planes count x.of (filled t s) long lt
-                    ∙ ap (λ g. incidence_of g (count - 1 - x.of)) (filled_turned t s ∙ ap (filled (flipped t)) (sym (opposite_at x.of lt))));
-              };
-            }
-
-    -- ---- those of the first half
-
     half_long : (h : ℕ) → h ≡ length cells / 2 → length cells ≡ 2 * h
     half_long h is = elim (same_or (length cells) (2 * h + 1)) [
       | inl odd ↦ absurd (never_odd h odd)
       | inr other ↦ omega (arith, is, other)
     ]
 
-    pub edge_half : (found : List Incidence) (h : ℕ) → h ≡ length cells / 2
-        → GrewByAll (λ x. Below (IsEdgeAt planes cells x) h) [] found
-        → ((k : ℕ) → k < length cells → (cell_at cells k).signs ≡ signs_of planes (cell_at cells k).d)
-        → IsHalfOf (mirror_sum planes (length cells)) (IsIncidence planes Edge cells) found
-    edge_half found h is grew at =
-        let long = half_long h is in
-        half_listed (mirror_sum planes (length cells)) (IsIncidence planes Edge cells) found h
-        (λ x p. let lt = p.under.listed in omega (arith, lt, long)) edge_mirrored
-        (first_listed (IsIncidence planes Edge cells) (IsEdgeAt planes cells) found h (length cells) (omega (arith, long)) grew
-        (λ x. edges_all cells (length cells) refl x planes at) (λ x k e. ap (λ (y : Incidence). y.of) e.is))
-
-    pub open_half : (found : List Incidence) (h : ℕ) → h ≡ length cells / 2
-        → GrewByAll (λ x. Below (IsFilledAt cells x) h) [] found
-        → IsHalfOf (mirror_sum planes (length cells)) (IsFilledIncidence cells) found
-    open_half found h is grew =
-        let long = half_long h is in
-        half_listed (mirror_sum planes (length cells)) (IsFilledIncidence cells) found h
-        (λ x p. let lt = p.listed in omega (arith, lt, long)) open_mirrored
-        (first_listed (IsFilledIncidence cells) (IsFilledAt cells) found h (length cells) (omega (arith, long)) grew
-        (filled_all cells (length cells) refl) (λ x k e. elim e [
-          | inl is ↦ ap (λ (y : Incidence). y.of) is
-          | inr is ↦ ap (λ (y : Incidence). y.of) is
-        ]))
+    -- what was found at the cells of the first half
+    pub half_found : (upper : Kind) (P : Incidence → Type 0) (F : Incidence → ℕ → Type 0) (found : List Incidence) (h count : ℕ)
+        (sum : Incidence) → count ≡ length cells → h ≡ count / 2 → sum ≡ mirror_sum planes count
+        → GrewByAll (λ x. Below (F x) h) [] found → ((x : Incidence) (k : ℕ) → F x k → x.of ≡ k)
+        → ((x : Incidence) → Below (F x) (length cells) ↔ P x) → ((x : Incidence) → P x ↔ IsIncidence planes upper cells x)
+        → IsHalfOf sum P found
+    half_found upper P F found h count sum count_is half sum_is grew of all same =
+        let long = half_long h (half ∙ ap (λ n. n / 2) count_is) in
+        subst (λ s. IsHalfOf s P found) (sym (sum_is ∙ ap (mirror_sum planes) count_is))
+        (half_listed (mirror_sum planes (length cells)) P found h
+        (λ x p. let lt = ((same x).0 p).under.listed in omega (arith, lt, long))
+        (λ x p. let m = incidence_image upper x ((same x).0 p) in record { up_to = m.up_to; image = (same _).1 m.image })
+        (first_listed P F found h (length cells) (omega (arith, long)) grew all of))
