@@ -6,7 +6,7 @@ use Rattle.std.specs.Prelude.{int_lt, if◌then◌else◌}
 use Rattle.std.specs.Int.{div_ceil}
 use Rattle.std.proofs.lemmas.Int.{ints}
 use Rattle.std.proofs.lemmas.Grind.{div_ceil_times}
-use Rattle.std.proofs.Math.Nat.{mul-le-mul_left, mul-le-mul_right}
+use Rattle.std.proofs.Math.Nat.{mul-le-mul_right}
 use Rattle.staat_vec.specs.declared.vector.V3.{V3}
 use Rattle.staat_vec.specs.Vectors.{origin, vector}
 use Rattle.staat_explode.specs.declared.axis.Axis.{Axis}
@@ -45,11 +45,6 @@ fewest (pos g) step k some h = by_order (div_ceil g step) (div_ceil_times g step
       where
         by_lt : (a b : ℕ) → (b + 1 ≤ a → a ≤ b) → a ≤ b
         by_lt a b f = grind arith
-
--- no more than the gap is wide
-pub few_rounds : (gap : ℤ) (step : ℕ) → 1 ≤ step → rounds gap step ≤ unsigned_abs gap
-few_rounds (negsuc g) step some = omega arith
-few_rounds (pos g) step some = fewest (pos g) step g some (omega (arith, ints, mul-le-mul_left g some))
 
 pub axis_some : (d : V3) → d ≢ origin → component (axis_of d) d ≢ pos 0
 axis_some d = go d.x d.y d.z

@@ -28,10 +28,6 @@ pub data SaysListingWithin (limits : Limits) (name bytes : List ℕ) : Found (Li
       part_list_within limits.parts limits.pieces bytes ≡ Ok parts →
       found ≡ Ok parts → SaysListingWithin limits name bytes found
 
--- the same of the list of an assembly
-abbrev pub SaysListing : List ℕ → List ℕ → Found (List ListedPart) → Type 0
-SaysListing name bytes found = SaysListingWithin ASSEMBLY name bytes found
-
 -- What the step finds that learns the names. Without a part list each file is a part of its own.
 abbrev pub IsListingOfWithin : Limits → Files → Input → Found (List ListedPart) → Type 0
 IsListingOfWithin limits files (input.Manifest name) found =

@@ -6,7 +6,6 @@ use Rattle.staat_model.specs.declared.assembly.Part.{Part}
 use Rattle.staat_model.specs.Pieces.{IsPiece}
 use Rattle.staat_manifest.specs.declared.listing.ListedPart.{ListedPart}
 use Rattle.staat_input.specs.declared.limits.Limits.{Limits}
-use Rattle.staat_input.specs.declared.limits.TheConstants.Limits.{ASSEMBLY}
 
 -- at most so many parts and pieces, a piece or more in each part, and no part moved by more than a coordinate
 pub record IsFewWithin (limits : Limits) (named : List ListedPart) : Type 0 where
@@ -15,10 +14,6 @@ pub record IsFewWithin (limits : Limits) (named : List ListedPart) : Type 0 wher
   pub each : All (λ part. 1 ≤ length part.pieces) named
   pub placed : All (λ part. IsWithin POINT part.at) named
   pub pieces : sum_by (λ part. length part.pieces) named ≤ limits.pieces
-
--- as many as an assembly may have
-abbrev pub IsFew : List ListedPart → Type 0
-IsFew named = IsFewWithin ASSEMBLY named
 
 -- each part has the pieces that were named for it, as many as there are names
 pub record AreRead (named : List ListedPart) (parts : List Part) : Type 0 where

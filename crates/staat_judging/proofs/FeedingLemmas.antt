@@ -1,7 +1,7 @@
 -- What a reader was fed of a file.
 use Rattle.std.proofs.Common.{◌≡◌, ◌∙◌, refl, sym, ap, subst, arith, ℕ, ◌+◌, ◌<◌, ◌≤◌}
 use Rattle.std.proofs.Common.{List, [], ◌∷◌, ◌++◌, length, take, append-nil, Option, Some, None, false, Ok, Err}
-use Rattle.std.specs.Prelude.{Result, IfErr, IfSome, IsErrAnd, IsSomeAnd}
+use Rattle.std.specs.Prelude.{Result, IfErr, IfSome, IsSomeAnd}
 use Rattle.std.specs.Io.KnownBytes.{Consumes, IsAtEnd}
 use Rattle.std.proofs.KnownBytes.{Consumes-all, Consumes-nil, Consumes-trans}
 use Rattle.std.specs.Option.{option_and_then}
@@ -133,12 +133,6 @@ pub found_fed : {X : Type 0} (Says : List ℕ → Found X → Type 0) (told : Sh
     → Follows (IsTakenWithin TEXT_LIMIT files name Says) r
 found_fed Says told files name WasFed r fit file says = found_within TEXT_LIMIT Says told files name file.text r
     fit file.whole_is file.fed.within (says file.text file.fed)
-
--- the same fault as an answer
-pub follows_failed : {X : Type 0} (P : Found X → Type 0) (f : Fault) (r : Result X Fault) → Follows P (Err f)
-    → IsErrAnd r (λ e. e ≡ f) → Follows P r
-follows_failed P f (Ok x) h fails = absurd fails
-follows_failed P f (Err e) h fails = subst (λ g. Follows P (Err g)) (sym fails) h
 
 -- what holds of want of memory holds of an answer with no other fault
 pub memory_alone : {X : Type 0} (P : Fault → Type 0) (r : Result X Fault) → P OutOfMemory

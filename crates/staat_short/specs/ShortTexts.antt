@@ -6,7 +6,6 @@ use Rattle.std.specs.Ordering.{nat_cmp}
 use Rattle.staat_vec.specs.declared.vector.V3.{V3}
 use Rattle.staat_model.specs.Certificates.{arc_cmp}
 use Rattle.staat_holds.specs.declared.hold.Hold.{Hold}
-use Rattle.staat_cert.specs.TextLines.{IsCutShort, IsFirstBadOf}
 use Rattle.staat_short.specs.declared.short.ShortNode.{ShortNode}
 use Rattle.staat_short.specs.declared.short.ShortNode.TheVariants.{Leaf, Split, Group}
 use Rattle.staat_short.specs.declared.short.ShortAnswer.{ShortAnswer}
@@ -97,11 +96,3 @@ pub record IsShortInOrder (c : ShortCertificate) : Type 0 where
 pub record IsShortTextOf (bytes : List ℕ) (c : ShortCertificate) : Type 0 where
   pub form : IsShortInOrder c
   pub is : bytes ≡ short_text c
-
--- line number k, counted from 1, is the first bad one
-abbrev pub IsFirstBadShortLine : List ℕ → ℕ → Type 0
-IsFirstBadShortLine = IsFirstBadOf IsShortTextOf
-
--- the bytes are no certificate's text and have no bad line: they end too soon
-abbrev pub EndsTooSoon : List ℕ → Type 0
-EndsTooSoon = IsCutShort IsShortTextOf

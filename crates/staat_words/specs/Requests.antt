@@ -223,10 +223,6 @@ abbrev pub IsInputWithin : ℕ → Input → Type 0
 IsInputWithin most (Manifest name) = ⊤
 IsInputWithin most (Files names) = (1 ≤ length names) × (length names ≤ most)
 
--- as many files as an assembly may have parts
-abbrev pub IsInput : Input → Type 0
-IsInput input = IsInputWithin MOST_PARTS input
-
 -- how great the numbers of what is asked are at most, and that a direction is not zero
 abbrev pub IsAskedWithin : ℕ → Asked → Type 0
 IsAskedWithin most asked = (asked.digits ≤ MOST_DIGITS) × IsInputWithin most asked.input
