@@ -93,9 +93,9 @@ fn put_arcs(
 {
     arcs.clear();
     for ends in pairs {
-        let arc = at.least_arc(*ends);
+        let (arc, slot) = at.least_arc(*ends);
         arcs.push(arc)?;
-        key.push(at.table.slot(arc))?;
+        key.push(slot)?;
     }
     Ok(())
 }

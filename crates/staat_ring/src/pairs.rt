@@ -170,8 +170,10 @@ impl PairCounts {
         ensures first { (k : ℕ) → k < count → IsTrue (is_full (pair_at self.now (from + k)))
             → IsSomeAnd result (λ j. j ≤ k) }
     {
+        let start = from as usize;
+        let row = &self.pairs[start..start + count as usize];
         for j in 0..count {
-            let pair = self.pairs[(from + j) as usize];
+            let pair = row[j as usize];
             if pair.wanted <= pair.positive {
                 return Some(j);
             }

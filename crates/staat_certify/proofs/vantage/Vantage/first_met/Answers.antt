@@ -28,19 +28,19 @@ module _ (parts : List Part) (t : Table) (s : Signed) (d : V3) (stands : StandsA
 pub first_full-requires : goal.first_full-requires
 first_full-requires c =
     let least = c.pieces.ensures.least in
-    let h = within c.args.self.now.sound.now c.args.self.now.table.now c.args.self.now.signs.now c.args.self.now.d c.requires.at c.args.a c.args.i c.args.b c.slot-from.result c.slot-from.ensures.is
+    let h = within c.args.self.now.sound.now c.args.self.now.table.now c.args.self.now.signs.now c.args.self.now.d c.requires.at c.args.a c.args.i c.args.b c.args.from c.requires.from
     c.requires.across (c.pieces.result - 1) (omega (arith, least, c.pieces.ensures.is)) in
     omega (arith, least, h)
 
 pub returns-clause-ahead : goal.returns-clause-ahead
 returns-clause-ahead c = IfSome_then c.first_full.result c.first_full.ensures.full (λ j full.
-    (full_is c.args.self.now.sound.now c.args.self.now.table.now c.args.self.now.signs.now c.args.self.now.d c.requires.at c.args.a c.args.i c.args.b c.slot-from.result c.slot-from.ensures.is
-    c.requires.across c.slot-from.ensures.table j (subst (λ n. j < n) c.pieces.ensures.is full.0)).0 full.1)
+    (full_is c.args.self.now.sound.now c.args.self.now.table.now c.args.self.now.signs.now c.args.self.now.d c.requires.at c.args.a c.args.i c.args.b c.args.from c.requires.from
+    c.requires.across c.set-set.ensures.rules j (subst (λ n. j < n) c.pieces.ensures.is full.0)).0 full.1)
 
 pub returns-clause-first : goal.returns-clause-first
 returns-clause-first c h e =
     let t = c.args.self.now.table.now in
     c.first_full.ensures.first h.j (subst (λ n. h.j < n) (sym c.pieces.ensures.is) h.across.j_is)
-    ((full_is c.args.self.now.sound.now t c.args.self.now.signs.now c.args.self.now.d c.requires.at c.args.a c.args.i c.args.b c.slot-from.result c.slot-from.ensures.is
-    c.requires.across c.slot-from.ensures.table h.j h.across.j_is).1
+    ((full_is c.args.self.now.sound.now t c.args.self.now.signs.now c.args.self.now.d c.requires.at c.args.a c.args.i c.args.b c.args.from c.requires.from
+    c.requires.across c.set-set.ensures.rules h.j h.across.j_is).1
     (subst (λ i. All (λ n. pos 0 <ℤ dot n c.args.self.now.d) (facets_of t (arc_of c.args.a i c.args.b h.j))) e h.ahead))
