@@ -1,8 +1,8 @@
 -- The half turn from the first vertex of a circle, and entries that are put in their order on it.
 use Rattle.std.proofs.Common.{◌≡◌, ◌≢◌, ◌⊎◌, ◌↔◌, inl, inr, ⊎_elim, ℕ, zero, suc, ◌+◌, ◌<◌, Bool, true, false, not, arith, ap, sym, subst, ◌∙◌, refl, List, [], ◌∷◌, ◌++◌, get_or, length, All, Contains, ℤ, pos, neg_ℤ, ◌<ℤ◌, ◌-◌, ◌≤◌}
-use Rattle.std.specs.Prelude.{IsPermutation, Some, map, slice_get}
+use Rattle.std.specs.Prelude.{IsPermutation, Some, slice_get}
 use Rattle.std.proofs.lemmas.Int.{ints}
-use Rattle.std.proofs.lemmas.List.Elements.{Contains-append_left, Contains-push, Contains-push_cases}
+use Rattle.std.proofs.lemmas.List.Elements.{Contains-append_left, Contains-get_or, Contains-push, Contains-push_cases}
 use Rattle.std.proofs.lemmas.List.Sorted.{Contains-permutation, IsPermutation-sym, IsPermutation-insert}
 use Rattle.std.proofs.lemmas.Option.{get_or_from_slice_get, slice_get-get_or, slice_get_within}
 use Rattle.staat_vec.specs.declared.vector.V3.{V3}
@@ -10,7 +10,6 @@ use Rattle.staat_vec.specs.Primitives.{content, primitive}
 use Rattle.staat_vec.specs.Vectors.{cross, det, dot, negative, origin, sign}
 use Rattle.staat_vec.proofs.Canons.{negative-negative}
 use Rattle.staat_vec.proofs.Integers.{zero_not_positive, zero_not_negative}
-use Rattle.staat_vec.proofs.ListLaws.{Contains-map}
 use Rattle.staat_vec.proofs.Naturals.{lt_one_more_cases, le_from_not_lt, lt_from_le, same_or, trichotomy}
 use Rattle.staat_vec.proofs.Primitives.{primitive-is, primitive-negative}
 use Rattle.staat_vec.proofs.Ring.{opp, ring}
@@ -22,9 +21,8 @@ use Rattle.staat_model.specs.Circles.{axis_beside}
 use Rattle.staat_model.specs.Planes.{axes}
 use Rattle.staat_pairs.specs.Tables.{AreTablePlanes}
 use Rattle.staat_ring.specs.declared.entry.Entry.{Entry}
-use Rattle.staat_ring.specs.declared.keys.Key.{Key}
-use Rattle.staat_ring.specs.Builds.{AreUpper, IsUpper, IsUpperEntry, key_entry, ray}
-use Rattle.staat_ring.specs.Order.{HasEntryOfPlane, IsTransitive, CrossesBefore, facet_of, order_det, AreInOrder, IsBreak, IsInserted, IsOrderOf, entry_at, no_entry}
+use Rattle.staat_ring.specs.Builds.{AreUpper, IsUpper, IsUpperEntry, ray}
+use Rattle.staat_ring.specs.Order.{HasEntryOfPlane, IsTransitive, CrossesBefore, facet_of, order_det, AreInOrder, IsBreak, IsInserted, IsOrderOf, Rises, entry_at, no_entry}
 use Rattle.staat_ring.specs.Rings.{facet_by}
 use Rattle.staat_planes.specs.PairOrder.{plane_at}
 use Rattle.staat_ring.proofs.Steps.{IsPoint, same_ray, three, content_divides, side_is, primitive_on, turn_back, turn_negative_right, turn_same, turn_trans, turn}
@@ -232,8 +230,8 @@ uppers_moved planes c g axis n old new p u = record {
   all = λ k lt ne. has_plane old new k (λ x. Contains-permutation old new x p) (u.all k lt ne);
 }
 
-pub keys_within : (planes : List V3) (c : ℕ) (g axis : V3) (n : ℕ) (keys : List Key) → AreUpper planes c g axis n (map key_entry keys) → All (λ (k : Key). (key_entry k).plane < length planes) keys
-keys_within planes c g axis n keys u = All-from_members (λ (k : Key). (key_entry k).plane < length planes) keys (λ k hk. (u.each (key_entry k) (Contains-map key_entry keys k hk)).within)
+pub uppers_within : (planes : List V3) (c : ℕ) (g axis : V3) (n : ℕ) (es : List Entry) → AreUpper planes c g axis n es → All (λ (e : Entry). e.plane < length planes) es
+uppers_within planes c g axis n es u = All-from_members (λ (e : Entry). e.plane < length planes) es (λ e he. (u.each e he).within)
 
 -- ---- an entry that is put at its place leaves the others in order
 
@@ -307,6 +305,29 @@ module _ (es : List Entry) (e : Entry) (i : ℕ) (le : i ≤ length es) where
 
 pub order_within : (planes : List V3) (g : V3) (m : ℕ) (es new : List Entry) → IsOrderOf planes g es new → ((e : Entry) → Contains es e → e.plane < m) → All (λ e. e.plane < m) new
 order_within planes g m es new o small = All-from_members (λ e. e.plane < m) new (λ e c. small e (o.only e c))
+
+abbrev pub RisesBelow : List V3 → V3 → List Entry → ℕ → Type 0
+RisesBelow planes g es n = (k : ℕ) → k + 1 < n → CrossesBefore planes g (entry_at es k) (entry_at es (k + 1))
+
+pub rises_more : (planes : List V3) (g : V3) (es : List Entry) (n : ℕ) → RisesBelow planes g es n → CrossesBefore planes g (entry_at es (n - 1)) (entry_at es n) → RisesBelow planes g es (n + 1)
+rises_more planes g es n rises last k lt = ⊎_elim {C = CrossesBefore planes g (entry_at es k) (entry_at es (k + 1))} (rises k)
+    (λ q. subst (λ j. CrossesBefore planes g (entry_at es k) (entry_at es j)) (sym q) (subst (λ j. CrossesBefore planes g (entry_at es j) (entry_at es n)) (omega (arith, q)) last)) (lt_one_more_cases (k + 1) n lt)
+
+-- entries of which each precedes the next one
+pub order_own : (planes : List V3) (g : V3) (es : List Entry) → Rises planes g es → IsOrderOf planes g es es
+order_own planes g es rises = record {
+  only = λ e c. c;
+  each = λ e c. record { turned = e.turned; listed = c };
+  rises = λ t i k lt small. subst (λ j. CrossesBefore planes g (entry_at es i) (entry_at es j)) (omega (arith, lt)) (later t i (k - i - 1) (omega (arith, lt, small)));
+}
+  where
+    here : (k : ℕ) → k < length es → Contains es (entry_at es k)
+    here k = Contains-get_or es k no_entry
+
+    later : IsTransitive planes g es → (i n : ℕ) → i + n + 1 < length es → CrossesBefore planes g (entry_at es i) (entry_at es (i + n + 1))
+    later t i zero lt = subst (λ j. CrossesBefore planes g (entry_at es i) (entry_at es j)) (omega arith) (rises i (omega (arith, lt)))
+    later t i (suc n) lt = t (entry_at es i) (entry_at es (i + n + 1)) (entry_at es (i + suc n + 1)) (here i (omega (arith, lt))) (here (i + n + 1) (omega (arith, lt))) (here (i + suc n + 1) lt)
+        (later t i n (omega (arith, lt))) (subst (λ j. CrossesBefore planes g (entry_at es (i + n + 1)) (entry_at es j)) (omega arith) (rises (i + n + 1) (omega (arith, lt))))
 
 pub order_more : (planes : List V3) (g : V3) (e : Entry) (es done old new : List Entry) → done ≡ es ++ e ∷ [] → IsInserted planes g e old new → IsOrderOf planes g es old → IsOrderOf planes g done new
 order_more planes g e es done old new is (inr (has, same)) o = subst (λ (ds : List Entry). IsOrderOf planes g ds new) (sym is) (subst (λ (v : List Entry). IsOrderOf planes g (es ++ e ∷ []) v) (sym same) (record {

@@ -27,7 +27,7 @@ fn linked_arrays(alloc: Global, table: &PlaneTable) -> Result<RingArrays, OutOfM
 impl Rings {
     /// The rings of the planes of a table, all of them linked.
     ///
-    /// For n planes it takes about 3 n n determinants of normals, and sorts n lists of n whole numbers; no two vertices
+    /// For n planes it takes about 2 n n determinants of normals, and sorts n lists of n whole numbers; no two vertices
     /// are multiplied.
     pub fn build(alloc: Global, table: &PlaneTable) -> Result<Rings, OutOfMemory>
         ensures made { IfOk result (WereMadeFrom table.now.planes) }

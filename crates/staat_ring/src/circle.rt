@@ -6,8 +6,8 @@ ghost use Rattle.staat_ring.specs.WholeCircles.{IsWholeCircle, stop_at, vertex_a
 
 use crate::entry::Entry;
 use crate::half_circle::axis_beside;
-use crate::keys::keys_of;
-use crate::order::{Turn, ends_of, in_order};
+use crate::keys::{entries_of, keys_of};
+use crate::order::{Turn, divided};
 use crate::stop_list::Stops;
 use crate::vertex::Vertex;
 use staat_planes::PlaneTable;
@@ -27,10 +27,10 @@ pub fn circle_of(alloc: Global, table: &PlaneTable, c: u32) -> Result<Stops, Out
     let g = table.plane(c);
     let _axis = table.plane(axis_beside(c));
     let keys = keys_of(alloc, table, c)?;
+    let entries = entries_of(alloc, keys.as_slice())?;
     let turn = Turn::around(table, g);
-    let entries = in_order(alloc, &turn, keys.as_slice())?;
-    let ends = ends_of(alloc, &turn, entries.as_slice())?;
-    Stops::around(entries, ends)
+    let half = divided(alloc, &turn, entries)?;
+    Stops::around(half.entries, half.ends)
 }
 
 /// The circle of a plane of a table: its vertices in the turning sense about the normal of the plane, from the crossing

@@ -42,8 +42,8 @@ impl Key {
         }
     }
 
-    /// The entry.
-    pub fn entry(self) -> Entry
+    // the entry
+    fn entry(self) -> Entry
         ensures { result ≡ key_entry self }
     {
         Entry {
@@ -151,4 +151,16 @@ pub fn keys_of(alloc: Global, table: &PlaneTable, c: u32) -> Result<Vec<Key>, Ou
     }
     keys.sort_unstable();
     Ok(keys)
+}
+
+/// The entries of keys.
+pub fn entries_of(alloc: Global, keys: &[Key]) -> Result<Vec<Entry>, OutOfMemory>
+    ensures { IfOk result (λ v. v.items ≡ map key_entry keys.now) }
+{
+    // there comes the opposite half circle behind
+    let mut entries = Vec::with_capacity(alloc, keys.len().saturating_mul(2))?;
+    for key in keys {
+        entries.push(key.entry())?;
+    }
+    Ok(entries)
 }

@@ -1,14 +1,13 @@
 // The order of the entries of a circle, and where its stops end.
-ghost use Rattle.std.specs.Prelude.{◌≡◌, ◌↔◌, ◌<◌, All, IfOk, IsTrue, OnOk, length, map, pos};
+ghost use Rattle.std.specs.Prelude.{◌≡◌, ◌↔◌, ◌<◌, ℤ, All, IfOk, IsTrue, List, OnOk, length, pos};
+ghost use Rattle.staat_vec.specs.declared.vector.V3.{V3 as Vector};
 ghost use Rattle.staat_vec.specs.Vectors.{IsWithin, det, sign};
 ghost use Rattle.staat_vec.specs.declared.vector.TheConstants.{NORMAL};
 ghost use Rattle.staat_vec.specs.declared.words.TheConstants.{BROAD};
 ghost use Rattle.staat_planes.specs.PairOrder.{plane_at};
-ghost use Rattle.staat_ring.specs.Builds.{key_entry};
-ghost use Rattle.staat_ring.specs.Order.{AreStopEnds, CrossesBefore, IsInserted, IsOrderOf, IsPlace, order_det};
+ghost use Rattle.staat_ring.specs.Order.{AreStopEnds, CrossesBefore, IsInserted, IsOrderOf, IsPlace, Rises, order_det};
 
 use crate::entry::Entry;
-use crate::keys::Key;
 use staat_planes::PlaneTable;
 use staat_vec::{BROAD, NORMAL, Normal, OutOfMemory, Sign, V3, are_within, order_on};
 use std::alloc::Global;
@@ -70,12 +69,11 @@ fn order_of(turn: &Turn, e: Entry, f: Entry) -> Sign
 }
 
 // whether the crossing of `e` comes before that of `f`, or they cross on one line and the plane of `e` is less
-fn precedes(turn: &Turn, e: Entry, f: Entry) -> bool
-    requires e { e.plane < length turn.now.table.now.planes }
-    requires f { f.plane < length turn.now.table.now.planes }
-    ensures { IsTrue result ↔ CrossesBefore turn.now.table.now.planes turn.now.g e f }
+fn is_before(order: Sign, e: Entry, f: Entry) -> bool
+    ensures { (planes : List Vector) (g : Vector) → order ≡ sign (order_det planes g e f)
+        → IsTrue result ↔ CrossesBefore planes g e f }
 {
-    match order_of(turn, e, f) {
+    match order {
         Sign::Pos => true,
         Sign::Zero => e.plane < f.plane,
         Sign::Neg => false,
@@ -91,7 +89,8 @@ fn place_in(turn: &Turn, es: &[Entry], e: Entry) -> usize
 {
     let mut i = es.len();
     'back: while i > 0 {
-        if !precedes(turn, e, es[i - 1]) {
+        let f = es[i - 1];
+        if !is_before(order_of(turn, e, f), e, f) {
             return i;
         }
         i -= 1;
@@ -113,39 +112,75 @@ fn insert(turn: &Turn, es: &mut Vec<Entry>, e: Entry) -> Result<(), OutOfMemory>
     Ok(())
 }
 
-/// The entries of the keys in the order of their crossings, and of their planes where they cross in one vertex.
-pub fn in_order(alloc: Global, turn: &Turn, keys: &[Key]) -> Result<Vec<Entry>, OutOfMemory>
-    requires keys { All (λ k. (key_entry k).plane < length turn.now.table.now.planes) keys.now }
-    ensures { IfOk result (λ v. IsOrderOf turn.now.table.now.planes turn.now.g (map key_entry keys.now) v.items) }
+// the entries in the order of their crossings, and of their planes where they cross in one vertex
+fn in_order(alloc: Global, turn: &Turn, es: &[Entry]) -> Result<Vec<Entry>, OutOfMemory>
+    requires es { All (λ e. e.plane < length turn.now.table.now.planes) es.now }
+    ensures { IfOk result (λ v. IsOrderOf turn.now.table.now.planes turn.now.g es.now v.items) }
 {
-    // there comes the opposite half circle behind
-    let mut entries = Vec::with_capacity(alloc, keys.len().saturating_mul(2))?;
-    for key in keys {
-        insert(turn, &mut entries, key.entry())?;
+    let mut entries = Vec::with_capacity(alloc, es.len().saturating_mul(2))?;
+    for e in es {
+        insert(turn, &mut entries, *e)?;
     }
     Ok(entries)
 }
 
-// whether two entries cross on one line
-fn on_one_line(turn: &Turn, e: Entry, f: Entry) -> bool
-    requires e { e.plane < length turn.now.table.now.planes }
-    requires f { f.plane < length turn.now.table.now.planes }
-    ensures { IsTrue result ↔ (order_det turn.now.table.now.planes turn.now.g e f ≡ pos 0) }
-{
-    matches!(order_of(turn, e, f), Sign::Zero)
+// where the stops of entries end, if these are in order, and whether each precedes the next one
+#[derive(Drop)]
+struct Run {
+    ends: Vec<usize>,
+    rises: bool,
 }
 
-/// Where the stops of entries in order end.
-pub fn ends_of(alloc: Global, turn: &Turn, es: &[Entry]) -> Result<Vec<usize>, OutOfMemory>
+// whether a number is 0 that has this sign
+fn is_zero(order: Sign) -> bool
+    ensures { (z : ℤ) → order ≡ sign z → IsTrue result ↔ (z ≡ pos 0) }
+{
+    matches!(order, Sign::Zero)
+}
+
+fn run_of(alloc: Global, turn: &Turn, es: &[Entry]) -> Result<Run, OutOfMemory>
     requires es { All (λ e. e.plane < length turn.now.table.now.planes) es.now }
-    ensures { IfOk result (λ v. AreStopEnds turn.now.table.now.planes turn.now.g es.now v.items) }
+    ensures ends { IfOk result (λ r. AreStopEnds turn.now.table.now.planes turn.now.g es.now r.ends.items) }
+    ensures rises { IfOk result (λ r. IsTrue r.rises → Rises turn.now.table.now.planes turn.now.g es.now) }
 {
     let mut ends = Vec::with_capacity(alloc, es.len().saturating_mul(2))?;
+    let mut rises = true;
     for i in 1..es.len() {
-        if !on_one_line(turn, es[i - 1], es[i]) {
+        let order = order_of(turn, es[i - 1], es[i]);
+        if !is_before(order, es[i - 1], es[i]) {
+            rises = false;
+        }
+        if !is_zero(order) {
             ends.push(i)?;
         }
     }
     ends.push(es.len())?;
-    Ok(ends)
+    Ok(Run { ends, rises })
+}
+
+/// Entries in the order of their crossings, and of their planes where they cross in one vertex, and where their stops
+/// end.
+#[derive(Drop)]
+pub struct HalfCircle {
+    pub entries: Vec<Entry>,
+    pub ends: Vec<usize>,
+}
+
+/// The entries in order, with the ends of their stops. Mostly they are in order as they come, and then each is compared
+/// but once.
+pub fn divided(alloc: Global, turn: &Turn, es: Vec<Entry>) -> Result<HalfCircle, OutOfMemory>
+    requires es { All (λ e. e.plane < length turn.now.table.now.planes) es.items }
+    ensures order { IfOk result (λ d. IsOrderOf turn.now.table.now.planes turn.now.g es.items d.entries.items) }
+    ensures ends { IfOk result (λ d. AreStopEnds turn.now.table.now.planes turn.now.g d.entries.items d.ends.items) }
+{
+    let run = run_of(alloc, turn, es.as_slice())?;
+    if run.rises {
+        return Ok(HalfCircle {
+            entries: es,
+            ends: run.ends,
+        });
+    }
+    let entries = in_order(alloc, turn, es.as_slice())?;
+    let ends = run_of(alloc, turn, entries.as_slice())?.ends;
+    Ok(HalfCircle { entries, ends })
 }
