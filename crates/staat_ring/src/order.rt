@@ -1,5 +1,5 @@
 // The order of the entries of a circle, and where its stops end.
-ghost use Rattle.std.specs.Prelude.{◌≡◌, ◌↔◌, ◌<◌, ℤ, All, IfOk, IsTrue, List, OnOk, length, pos};
+ghost use Rattle.std.specs.Prelude.{◌≡◌, ◌↔◌, ℕ, ◌<◌, ℤ, All, IfOk, IsTrue, List, OnOk, length, pos};
 ghost use Rattle.staat_vec.specs.declared.vector.V3.{V3 as Vector};
 ghost use Rattle.staat_vec.specs.Vectors.{IsWithin, det, sign};
 ghost use Rattle.staat_vec.specs.declared.vector.TheConstants.{NORMAL};
@@ -54,18 +54,28 @@ fn plane_order(turn: &Turn, i: u32, j: u32) -> Sign
     }
 }
 
-// The sign of the determinant by which two entries are ordered. Where one of them alone is turned, it changes, as it
-// does where the two planes are exchanged.
+// The planes of two entries by whose determinant they are ordered: exchanged where one of them alone is turned, since
+// either changes its sign.
+fn planes_in_turn(e: Entry, f: Entry) -> (u32, u32)
+    ensures order { (planes : List Vector) (g : Vector)
+        → det g (plane_at planes result.0) (plane_at planes result.1) ≡ order_det planes g e f }
+    ensures within { (m : ℕ) → e.plane < m → f.plane < m → (result.0 < m) × (result.1 < m) }
+{
+    if e.turned == f.turned {
+        (e.plane, f.plane)
+    } else {
+        (f.plane, e.plane)
+    }
+}
+
+// the sign of the determinant by which two entries are ordered
 fn order_of(turn: &Turn, e: Entry, f: Entry) -> Sign
     requires e { e.plane < length turn.now.table.now.planes }
     requires f { f.plane < length turn.now.table.now.planes }
     ensures { result ≡ sign (order_det turn.now.table.now.planes turn.now.g e f) }
 {
-    if e.turned == f.turned {
-        plane_order(turn, e.plane, f.plane)
-    } else {
-        plane_order(turn, f.plane, e.plane)
-    }
+    let (i, j) = planes_in_turn(e, f);
+    plane_order(turn, i, j)
 }
 
 // whether the crossing of `e` comes before that of `f`, or they cross on one line and the plane of `e` is less
