@@ -24,14 +24,12 @@ pub fn is_opposite(g: V3, axis: V3, h: V3, across: i128) -> bool
     requires across { across ≡ det g axis h }
     ensures { IsUpper g axis (facet_by result h) }
 {
-    if across > 0 {
-        false
-    } else if across < 0 {
-        true
-    } else {
+    if across == 0 {
         !is_same(
             primitive(cross_normal(g, h)),
             primitive(cross_normal(g, axis)),
         )
+    } else {
+        across < 0
     }
 }
