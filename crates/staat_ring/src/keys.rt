@@ -27,7 +27,7 @@ const PLANES: u64 = MOST_PLANES as u64;
 // the hint of a crossing that is a quarter turn from the axis
 const QUARTER: u64 = 1 << 24;
 
-// a number of so many bits times that one fits a word
+// a word holds the product of that hint and a number of so many bits
 const BITS: u32 = 40;
 
 impl Key {
