@@ -1,6 +1,6 @@
 -- The cells of the opposite directions: where they stand, and their incidences.
-use Rattle.std.proofs.Common.{◌≡◌, inl, inr, ⊎_elim, ℕ, ◌+◌, ◌*◌, ◌-◌, ◌<◌, ◌↔◌, refl, sym, ap, subst, ◌∙◌, arith}
-use Rattle.std.proofs.Common.{List, [], ◌∷◌, length, get_or, map, reverse, take, drop, Contains, ◌/◌}
+use Rattle.std.proofs.Common.{◌≡◌, ◌⊎◌, inl, inr, ⊎_elim, ℕ, ◌+◌, ◌*◌, ◌-◌, ◌<◌, ◌↔◌, refl, sym, ap, subst, ◌∙◌, arith}
+use Rattle.std.proofs.Common.{List, [], ◌∷◌, ◌++◌, length, get_or, map, reverse, take, drop, Contains, ◌/◌}
 use Rattle.std.proofs.lemmas.List.{drop-map, take-map}
 use Rattle.std.specs.Ordering.{nat_cmp, ordering_then}
 use Rattle.std.proofs.lemmas.List.{get_or-map, get_or-reverse, length-map, length-reverse}
@@ -8,7 +8,8 @@ use Rattle.staat_vec.specs.declared.vector.V3.{V3}
 use Rattle.staat_vec.specs.declared.vector.Sign.{Sign}
 use Rattle.staat_vec.specs.declared.vector.Sign.TheVariants.{Neg, Zero, Pos}
 use Rattle.staat_vec.specs.Vectors.{dot, negative, sign}
-use Rattle.staat_vec.proofs.Naturals.{same_or}
+use Rattle.staat_vec.proofs.Naturals.{lt_or_le, same_or}
+use Rattle.staat_vec.specs.Lists.{Lists}
 use Rattle.staat_vec.proofs.Unique.{same_list}
 use Rattle.staat_vec.proofs.VecRing.{dot_negative}
 use Rattle.staat_vec.proofs.VectorLaws.{negative_some}
@@ -19,15 +20,15 @@ use Rattle.staat_model.proofs.CellLemmas.{zeros, zeros-cons}
 use Rattle.staat_pairs.specs.Tables.{AreTablePlanes}
 use Rattle.staat_cells.specs.declared.incidence.Incidence.{Incidence}
 use Rattle.staat_cells.specs.Compositions.{no_cell}
-use Rattle.staat_cells.specs.Mirrors.{IsUpTo, mirror_sum, mirrored}
-use Rattle.staat_cells.specs.Packing.{incidence_of, packed, packed_after}
+use Rattle.staat_cells.specs.Mirrors.{lesser, mirror_sum, mirrored}
+use Rattle.staat_cells.specs.Packing.{incidence_cmp, incidence_of, packed, packed_after}
 use Rattle.staat_cells.specs.Stages.{GrewByAll, IsIncidence, cell_at, flipped}
 use Rattle.staat_cells.proofs.Grouping.{cell_length}
 use Rattle.staat_cells.proofs.MadeUpCells.{entry_at}
 use Rattle.staat_cells.proofs.Beside.{at_plane}
 use Rattle.staat_cells.proofs.Growing.{Below}
 use Rattle.staat_cells.proofs.ListedIncidences.{first_listed}
-use Rattle.staat_cells.proofs.Mirrors.{IsHalfOf, IsMirroredIn, half_listed, image_in, image_of, images_ascend, nat_mirror}
+use Rattle.staat_cells.proofs.Mirrors.{IsMirroredIn, IsUpTo, image_in, image_of, images_ascend, mirrors_listed, nat_mirror}
 use Rattle.staat_cells.proofs.OppositePoints.{signs_flipped}
 use Rattle.staat_cells.proofs.SignOrder.{signs_exact, signs_total}
 use Rattle.staat_cells.proofs.TableRules.{holds_axes}
@@ -102,10 +103,7 @@ word_turned planes s n long =
     ∙ ap packed (sym (part_of (λ x. Pos) n s) ∙ ap (λ l. take 64 (drop n l)) (all_positive planes s long))
 
 module _ (planes : List V3) (count k : ℕ) (s : List Sign) (long : length s ≡ length planes) (lt : k < count) where
-  abbrev pub sum : Incidence
-  sum = mirror_sum planes count
-
-  pub incidence_up_to : IsUpTo sum (incidence_of s k)
+  pub incidence_up_to : IsUpTo (mirror_sum planes count) (incidence_of s k)
   incidence_up_to =
       let a = word_turned planes s 0 long in
       let b = word_turned planes s 64 long in
@@ -116,7 +114,7 @@ module _ (planes : List V3) (count k : ℕ) (s : List Sign) (long : length s ≡
   left : (x y z : ℕ) → x + y ≡ z → z - x ≡ y
   left x y z e = omega (arith, e)
 
-  pub incidence_mirrored : mirrored sum (incidence_of s k) ≡ incidence_of (turned s) (count - 1 - k)
+  pub incidence_mirrored : mirrored (mirror_sum planes count) (incidence_of s k) ≡ incidence_of (turned s) (count - 1 - k)
   incidence_mirrored = λ i. record {
     a = left _ _ _ (word_turned planes s 0 long) i;
     b = left _ _ _ (word_turned planes s 64 long) i;
@@ -185,24 +183,19 @@ module _ (planes : List V3) (are : AreTablePlanes planes) where
     -- ---- their incidences
 
     incidence_image : (upper : Kind) (x : Incidence) → IsIncidence planes upper cells x
-        → IsMirroredIn (mirror_sum planes (length cells)) (IsIncidence planes upper cells) x
+        → IsIncidence planes upper cells (mirrored (mirror_sum planes (length cells)) x)
     incidence_image upper x s =
         let u = s.under in
-        let count = length cells in
         let long = cell_length planes s.signs u.cell in
-        let is = ap (mirrored (mirror_sum planes count)) s.is ∙ incidence_mirrored planes count x.of s.signs long u.listed in
         record {
-          up_to = subst (IsUpTo (mirror_sum planes count)) (sym s.is) (incidence_up_to planes count x.of s.signs long u.listed);
-          image = record {
-            signs = turned s.signs;
-            under = record {
-              cell = cell_turned planes s.signs u.cell;
-              by_count = kind_turned s.signs ∙ u.by_count;
-              listed = let lt = u.listed in omega (arith, lt);
-              border = subst (λ f. IsBorder f (turned s.signs)) (sym (opposite_at x.of u.listed)) (border_turned (cell_at cells x.of).signs s.signs u.border);
-            };
-            is = is;
+          signs = turned s.signs;
+          under = record {
+            cell = cell_turned planes s.signs u.cell;
+            by_count = kind_turned s.signs ∙ u.by_count;
+            listed = let lt = u.listed in omega (arith, lt);
+            border = subst (λ f. IsBorder f (turned s.signs)) (sym (opposite_at x.of u.listed)) (border_turned (cell_at cells x.of).signs s.signs u.border);
           };
+          is = ap (mirrored (mirror_sum planes (length cells))) s.is ∙ incidence_mirrored planes (length cells) x.of s.signs long u.listed;
         }
 
     half_long : (h : ℕ) → h ≡ length cells / 2 → length cells ≡ 2 * h
@@ -211,16 +204,41 @@ module _ (planes : List V3) (are : AreTablePlanes planes) where
       | inr other ↦ omega (arith, is, other)
     ]
 
-    -- what was found at the cells of the first half
-    pub half_found : (upper : Kind) (P : Incidence → Type 0) (F : Incidence → ℕ → Type 0) (found : List Incidence) (h count : ℕ)
+    -- all incidences, from those of the first half of the cells
+    pub all_listed : (upper : Kind) (P : Incidence → Type 0) (F : Incidence → ℕ → Type 0) (found half : List Incidence) (h count : ℕ)
         (sum : Incidence) → count ≡ length cells → h ≡ count / 2 → sum ≡ mirror_sum planes count
         → GrewByAll (λ x. Below (F x) h) [] found → ((x : Incidence) (k : ℕ) → F x k → x.of ≡ k)
         → ((x : Incidence) → Below (F x) (length cells) ↔ P x) → ((x : Incidence) → P x ↔ IsIncidence planes upper cells x)
-        → IsHalfOf sum P found
-    half_found upper P F found h count sum count_is half sum_is grew of all same =
-        let long = half_long h (half ∙ ap (λ n. n / 2) count_is) in
-        subst (λ s. IsHalfOf s P found) (sym (sum_is ∙ ap (mirror_sum planes) count_is))
-        (half_listed (mirror_sum planes (length cells)) P found h
-        (λ x p. let lt = ((same x).0 p).under.listed in omega (arith, lt, long))
-        (λ x p. let m = incidence_image upper x ((same x).0 p) in record { up_to = m.up_to; image = (same _).1 m.image })
-        (first_listed P F found h (length cells) (omega (arith, long)) grew all of))
+        → Lists incidence_cmp (Contains (map (lesser sum) found)) half → Lists incidence_cmp P (half ++ map (mirrored sum) (reverse half))
+    all_listed upper P F found half h count sum count_is h_is sum_is grew of all same = mirrors_listed sum P mirrors found half
+        (λ x c. ((found_is x).0 c).0) one
+      where
+        long : length cells ≡ 2 * h
+        long = half_long h (h_is ∙ ap (λ n. n / 2) count_is)
+
+        is : mirror_sum planes (length cells) ≡ sum
+        is = sym (sum_is ∙ ap (mirror_sum planes) count_is)
+
+        found_is : (x : Incidence) → Contains found x ↔ (P x × (x.of < h))
+        found_is = first_listed P F found h (length cells) (omega (arith, long)) grew all of
+
+        mirrors : (x : Incidence) → P x → IsMirroredIn sum P x
+        mirrors x p =
+            let s = (same x).0 p in
+            let lt = s.under.listed in
+            let of_is = ap (λ (y : Incidence). y.of) is in
+            record {
+              up_to = subst (λ t. IsUpTo t x) is (subst (IsUpTo (mirror_sum planes (length cells))) (sym s.is)
+                  (incidence_up_to planes (length cells) x.of s.signs (cell_length planes s.signs s.under.cell) lt));
+              image = subst (λ t. P (mirrored t x)) is ((same _).1 (incidence_image upper x s));
+              other = λ e. let equal = ap (λ (y : Incidence). y.of) e in omega (arith, equal, lt, long, of_is);
+            }
+
+        one : (x : Incidence) → P x → Contains found x ⊎ Contains found (mirrored sum x)
+        one x p =
+            let lt = ((same x).0 p).under.listed in
+            let of_is = ap (λ (y : Incidence). y.of) is in
+            elim (lt_or_le x.of h) [
+              | inl early ↦ inl ((found_is x).1 (p, early))
+              | inr late ↦ inr ((found_is (mirrored sum x)).1 ((mirrors x p).image, omega (arith, late, lt, long, of_is)))
+            ]

@@ -1,5 +1,5 @@
 -- Incidences and those of the opposite cells, their mirror images: the numbers of both have the same sum.
-use Rattle.std.specs.Prelude.{◌≡◌, ◌≢◌, ◌⊎◌, ◌-◌, ◌≤◌, ℕ, Contains, List, if◌then◌else◌, map}
+use Rattle.std.specs.Prelude.{◌-◌, ℕ, List, if◌then◌else◌, map}
 use Rattle.std.specs.Ordering.{is_lt}
 use Rattle.staat_vec.specs.declared.vector.V3.{V3}
 use Rattle.staat_vec.specs.declared.vector.Sign.TheVariants.{Pos}
@@ -23,20 +23,3 @@ mirrored sum x = record {
 -- the lesser of x and its mirror image
 abbrev pub lesser : Incidence → Incidence → Incidence
 lesser sum x = if is_lt (incidence_cmp x (mirrored sum x)) then x else mirrored sum x
-
--- the numbers of x are at most those of sum
-pub record IsUpTo (sum x : Incidence) : Type 0 where
-  pub a : x.a ≤ sum.a
-  pub b : x.b ≤ sum.b
-  pub c : x.c ≤ sum.c
-  pub d : x.d ≤ sum.d
-  pub of : x.of ≤ sum.of
-
--- x has a mirror image, which is not x itself
-pub record HasMirror (sum x : Incidence) : Type 0 where
-  pub up_to : IsUpTo sum x
-  pub other : x ≢ mirrored sum x
-
--- x is listed, or the mirror image of one that is
-abbrev pub IsOfPair : Incidence → List Incidence → Incidence → Type 0
-IsOfPair sum xs x = (y : Incidence) × Contains xs y × ((x ≡ y) ⊎ (x ≡ mirrored sum y))

@@ -14,7 +14,7 @@ ghost use Rattle.staat_cells.specs.Stages.{IsIncidence};
 
 use crate::cell::Cell;
 use crate::incidence::Incidence;
-use crate::order::{in_order_with_mirrors, mirror_sum};
+use crate::order::{lesser_in_order, mirror_sum, push_mirrors};
 use crate::zero_signs::{incidence_towards, zeros_of};
 use staat_vec::{NORMAL, Normal, OutOfMemory, V3, cross_normal, neg};
 use std::alloc::Global;
@@ -126,5 +126,7 @@ pub(crate) fn edge_incidences(
     for k in 0..points.len() / 2 {
         push_edge_incidences(alloc, planes, &points[k], own[k], k, &mut incidences)?;
     }
-    in_order_with_mirrors(sum, incidences)
+    let mut found = lesser_in_order(sum, incidences);
+    push_mirrors(sum, &mut found)?;
+    Ok(found)
 }

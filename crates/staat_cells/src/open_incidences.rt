@@ -13,7 +13,7 @@ ghost use Rattle.staat_cells.specs.Stages.{HaveSigns, IsFilledIncidence};
 
 use crate::cell::Cell;
 use crate::incidence::Incidence;
-use crate::order::{in_order_with_mirrors, mirror_sum};
+use crate::order::{lesser_in_order, mirror_sum, push_mirrors};
 use crate::zero_signs::incidence_filled;
 use staat_vec::{Normal, OutOfMemory, Sign};
 use std::alloc::Global;
@@ -50,5 +50,7 @@ pub(crate) fn open_incidences(
     for k in 0..edges.len() / 2 {
         push_both(own[k], k, &mut incidences)?;
     }
-    in_order_with_mirrors(sum, incidences)
+    let mut found = lesser_in_order(sum, incidences);
+    push_mirrors(sum, &mut found)?;
+    Ok(found)
 }

@@ -1,10 +1,10 @@
 // Incidences in order. A cell and the cell of the opposite directions stand at one place of their list, the one from the
 // beginning and the other from the end: so one incidence of each two opposite ones is sorted, and the other follows from
 // it, since the numbers of both have the same sum.
-ghost use Rattle.std.specs.Prelude.{◌≡◌, ◌++◌, All, Contains, IfOk, OnOk, map, reverse};
+ghost use Rattle.std.specs.Prelude.{◌≡◌, ◌++◌, Contains, IfOk, OnOk, map, reverse};
 ghost use Rattle.staat_vec.specs.declared.vector.Sign.TheVariants.{Pos};
 ghost use Rattle.staat_vec.specs.Lists.{Lists};
-ghost use Rattle.staat_cells.specs.Mirrors.{IsOfPair, HasMirror, lesser, mirror_sum, mirrored};
+ghost use Rattle.staat_cells.specs.Mirrors.{lesser, mirror_sum, mirrored};
 ghost use Rattle.staat_cells.specs.Packing.{incidence_cmp};
 
 use crate::incidence::{Incidence, incidence_of};
@@ -74,8 +74,11 @@ fn keep_low(sum: Incidence, incidences: &mut Vec<Incidence>)
     }
 }
 
-// adds the opposites, from the last on
-fn push_mirrors(sum: Incidence, incidences: &mut Vec<Incidence>) -> Result<(), OutOfMemory>
+/// Adds the opposites, from the last on.
+pub(crate) fn push_mirrors(
+    sum: Incidence,
+    incidences: &mut Vec<Incidence>,
+) -> Result<(), OutOfMemory>
     ensures { OnOk result (incidences.new.items
         ≡ incidences.old.items ++ map (mirrored sum) (reverse incidences.old.items)) }
 {
@@ -87,16 +90,10 @@ fn push_mirrors(sum: Incidence, incidences: &mut Vec<Incidence>) -> Result<(), O
     Ok(())
 }
 
-/// The incidences and their opposites, ascending and each once.
-pub(crate) fn in_order_with_mirrors(
-    sum: Incidence,
-    mut incidences: Vec<Incidence>,
-) -> Result<Vec<Incidence>, OutOfMemory>
-    requires { All (HasMirror sum) incidences.items }
-    ensures { IfOk result (λ found. Lists incidence_cmp (IsOfPair sum incidences.items) found.items) }
+/// The lesser of each incidence and its opposite, ascending and each once.
+pub(crate) fn lesser_in_order(sum: Incidence, mut incidences: Vec<Incidence>) -> Vec<Incidence>
+    ensures { Lists incidence_cmp (Contains (map (lesser sum) incidences.items)) result.items }
 {
     keep_low(sum, &mut incidences);
-    let mut found = in_order(incidences);
-    push_mirrors(sum, &mut found)?;
-    Ok(found)
+    in_order(incidences)
 }

@@ -1,21 +1,17 @@
-use Rattle.std.proofs.Common.{◌≡◌, refl, ℕ, ◌<◌, ◌/◌, ap, arith, List, [], length, map, subst, sym, Contains}
+use Rattle.std.proofs.Common.{◌≡◌, refl, ◌<◌, ap, arith, length, map, subst, sym, Contains}
 use Rattle.std.proofs.lemmas.List.{length-map}
-use Rattle.std.proofs.lemmas.Result.{IfOk-weaker}
-use Rattle.staat_vec.specs.declared.vector.V3.{V3}
+use Rattle.staat_vec.specs.Lists.{Lists}
 use Rattle.staat_model.specs.declared.tree.Kind.TheVariants.{Edge, Point}
-use Rattle.staat_model.specs.Cells.{AreCellsOf, CellEntry, signs_of}
-use Rattle.staat_pairs.specs.Tables.{AreTablePlanes}
-use Rattle.staat_cells.specs.declared.cell.Cell.{Cell}
+use Rattle.staat_model.specs.Cells.{CellEntry, signs_of}
 use Rattle.staat_cells.specs.declared.incidence.Incidence.{Incidence}
-use Rattle.staat_cells.specs.Mirrors.{IsOfPair, mirror_sum}
 use Rattle.staat_model.specs.Planes.{vertices}
 use Rattle.staat_cells.specs.Compositions.{entry_of}
+use Rattle.staat_cells.specs.Packing.{incidence_cmp}
 use Rattle.staat_cells.specs.Stages.{GrewByAll, IsEdgeIncidence, IsIncidence}
 use Rattle.staat_cells.proofs.MadeUpCells.{point_in}
-use Rattle.staat_cells.proofs.Growing.{Below, grown_more, itself}
-use Rattle.staat_cells.proofs.Mirrors.{IsHalfOf}
-use Rattle.staat_cells.proofs.OppositeCells.{half_found}
-use Rattle.staat_cells.proofs.ListedIncidences.{IsEdgeAt, edges_all, entry_is, grew_none, listed_is, lists_as, own_at, own_place}
+use Rattle.staat_cells.proofs.Growing.{grown_more, itself}
+use Rattle.staat_cells.proofs.OppositeCells.{all_listed}
+use Rattle.staat_cells.proofs.ListedIncidences.{IsEdgeAt, edges_all, entry_is, grew_none, listed_is, own_at, own_place}
 use Rattle.staat_cells.proofs.edge_incidences.edge_incidences.Goals as goal
 
 pub loop-k-init : goal.loop-k-init
@@ -60,27 +56,16 @@ loop-k-preserved c =
     c.in_ok-push_edge_incidences.ensures in
     λ x. grown_more (IsEdgeAt planes (map entry_of c.args.points.now) x) k (c.loop-k.invariant x) (grew x)
 
-half : (planes : List V3) → AreTablePlanes planes → (points : List Cell) (found : List Incidence) (h : ℕ) (sum : Incidence)
-    → AreCellsOf planes Point (map entry_of points) → h ≡ length points / 2
-    → GrewByAll (λ x. Below (IsEdgeAt planes (map entry_of points) x) h) [] found → sum ≡ mirror_sum planes (length points)
-    → IsHalfOf sum (IsIncidence planes Edge (map entry_of points)) found
-half planes are points found h sum listed is grew sum_is =
-    let cells = map entry_of points in
-    half_found planes are Point cells listed Edge (IsIncidence planes Edge cells) (IsEdgeAt planes cells) found h (length points) sum
-    (sym (length-map points entry_of)) is sum_is grew (λ x k e. ap (λ (y : Incidence). y.of) e.is)
-    (λ x. edges_all cells (length cells) refl x planes (λ k lt. sym (point_in planes are cells listed k lt).1)) (λ x. itself)
-
-pub in_order_with_mirrors-requires : goal.in_order_with_mirrors-requires
-in_order_with_mirrors-requires c =
-    (half c.args.planes.now c.requires.planes c.args.points.now c.loop-k.incidences.items c.loop-k.k c.in_ok-sum.sum
-    c.requires.points (omega (arith, c.loop-k-test.false, c.loop-k.auto.k-end)) c.loop-k.invariant c.in_ok-sum.ensures).have
-
 pub returns : goal.returns
 returns c =
     let planes = c.args.planes.now in
-    let found = c.loop-k.incidences.items in
-    let sum = c.in_ok-sum.sum in
-    IfOk-weaker c.in_order_with_mirrors.result _ _ (λ all. lists_as (IsOfPair sum found) (IsIncidence planes Edge (map entry_of c.args.points.now)) all.items
-    (half planes c.requires.planes c.args.points.now found c.loop-k.k sum c.requires.points
-    (omega (arith, c.loop-k-test.false, c.loop-k.auto.k-end)) c.loop-k.invariant c.in_ok-sum.ensures).all)
-    c.in_order_with_mirrors.ensures
+    let points = c.args.points.now in
+    let cells = map entry_of points in
+    subst (Lists incidence_cmp (IsIncidence planes Edge cells)) (sym c.in_ok-push_mirrors.ensures)
+    (all_listed planes c.requires.planes Point cells c.requires.points Edge (IsIncidence planes Edge cells) (IsEdgeAt planes cells)
+    c.loop-k.incidences.items c.lesser_in_order-found.result.items c.loop-k.k (length points) c.in_ok-sum.sum
+    (sym (length-map points entry_of)) (omega (arith, c.loop-k-test.false, c.loop-k.auto.k-end)) c.in_ok-sum.ensures
+    c.loop-k.invariant (λ x k e. ap (λ (y : Incidence). y.of) e.is)
+    (λ x. edges_all cells (length cells) refl x planes
+    (λ k lt. sym (point_in planes c.requires.planes cells c.requires.points k lt).1))
+    (λ x. itself) c.lesser_in_order-found.ensures)
