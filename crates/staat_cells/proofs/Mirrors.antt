@@ -1,7 +1,7 @@
 -- Incidences and their mirror images in order; and the mirror images of what has a property.
 use Rattle.std.proofs.Common.{◌≡◌, ◌≢◌, ℕ, ◌∙◌, sym, ap, subst, ◌⊎◌, inl, inr, ⊎_elim, ◌-◌, ◌<◌, ◌≤◌}
 use Rattle.std.proofs.Common.{refl, arith, List, [], ◌∷◌, ◌++◌, map, reverse, Contains}
-use Rattle.std.specs.Ordering.{nat_cmp, ordering_then, ordering_reverse}
+use Rattle.std.specs.Ordering.{nat_cmp, ordering_reverse}
 use Rattle.std.specs.declared.cmp.Ordering.{Ordering}
 use Rattle.std.specs.declared.cmp.Ordering.TheVariants.{Less, Equal, Greater}
 use Rattle.std.specs.Cmp.{nat_cmp_is}
@@ -54,68 +54,39 @@ nat_mirror s x y up_x up_y = by_order (trichotomy y x)
     by_order (inr (inl e)) = sym (nat_cmp_is (s - x) (s - y) Equal (omega arith)) ∙ nat_cmp_is y x Equal e
     by_order (inr (inr gt)) = sym (nat_cmp_is (s - x) (s - y) Greater (omega arith)) ∙ nat_cmp_is y x Greater gt
 
-left_back : (s x : ℕ) → x ≤ s → s - (s - x) ≡ x
-left_back s x le = omega arith
-
 turned_back : (x y : Incidence) → incidence_cmp x y ≡ Greater → incidence_cmp y x ≡ Less
 turned_back x y e = incidence_total.antisymm y x ∙ ap ordering_reverse e
 
-module _ (sum : Incidence) where
-  -- the numbers of x are at most those of sum
-  pub record IsUpTo (x : Incidence) : Type 0 where
-    pub a : x.a ≤ sum.a
-    pub b : x.b ≤ sum.b
-    pub c : x.c ≤ sum.c
-    pub d : x.d ≤ sum.d
-    pub of : x.of ≤ sum.of
-
-  cmp_mirror : (x y : Incidence) → IsUpTo x → IsUpTo y → incidence_cmp (mirrored sum x) (mirrored sum y) ≡ incidence_cmp y x
-  cmp_mirror x y u v =
-      let a = nat_mirror sum.a x.a y.a u.a v.a in
-      let b = nat_mirror sum.b x.b y.b u.b v.b in
-      let c = nat_mirror sum.c x.c y.c u.c v.c in
-      let d = nat_mirror sum.d x.d y.d u.d v.d in
-      let of = nat_mirror sum.of x.of y.of u.of v.of in
-      λ i. ordering_then (a i) (ordering_then (b i) (ordering_then (c i) (ordering_then (d i) (of i))))
-
-  back : (x : Incidence) → IsUpTo x → mirrored sum (mirrored sum x) ≡ x
-  back x u = λ i. record {
-    a = left_back sum.a x.a u.a i;
-    b = left_back sum.b x.b u.b i;
-    c = left_back sum.c x.c u.c i;
-    d = left_back sum.d x.d u.d i;
-    of = left_back sum.of x.of u.of i;
-  }
-
-  -- x has a mirror image with P, which is not x itself
-  pub record IsMirroredIn (P : Incidence → Type 0) (x : Incidence) : Type 0 where
-    pub up_to : IsUpTo x
+module _ (sum : Incidence) (P : Incidence → Type 0) where
+  -- the mirror image of x has P and is not x, and x is its mirror image
+  pub record IsMirrored (x : Incidence) : Type 0 where
     pub image : P (mirrored sum x)
+    pub back : mirrored sum (mirrored sum x) ≡ x
     pub other : x ≢ mirrored sum x
 
-  module _ (P : Incidence → Type 0) (mirrors : (x : Incidence) → P x → IsMirroredIn P x) where
+  module _ (mirrors : (x : Incidence) → P x → IsMirrored x)
+      (turns : (x y : Incidence) → P x → P y → incidence_cmp (mirrored sum x) (mirrored sum y) ≡ incidence_cmp y x) where
     -- x has P, and comes before its mirror image
     record IsLow (x : Incidence) : Type 0 where
       pub has : P x
       pub before : incidence_cmp x (mirrored sum x) ≡ Less
 
     -- the lesser of y and its mirror image
-    record IsLesser (y x : Incidence) : Type 0 where
-      pub low : IsLow x
-      pub which : (x ≡ y) ⊎ (x ≡ mirrored sum y)
-
-    lesser_is : (y : Incidence) → P y → IsLesser y (lesser sum y)
+    lesser_is : (y : Incidence) → P y → IsLow (lesser sum y) × ((lesser sum y ≡ y) ⊎ (lesser sum y ≡ mirrored sum y))
     lesser_is y p = by_order (incidence_cmp y (mirrored sum y)) refl
       where
-        m : IsMirroredIn P y
-        m = mirrors y p
+        found : (x : Incidence) → x ≡ lesser sum y → IsLow x → (x ≡ y) ⊎ (x ≡ mirrored sum y)
+            → IsLow (lesser sum y) × ((lesser sum y ≡ y) ⊎ (lesser sum y ≡ mirrored sum y))
+        found x is low which = subst (λ z. IsLow z × ((z ≡ y) ⊎ (z ≡ mirrored sum y))) is (low, which)
 
-        by_order : (o : Ordering) → incidence_cmp y (mirrored sum y) ≡ o → IsLesser y (lesser sum y)
-        by_order Less e = subst (IsLesser y) (rw e refl) (record { low = record { has = p; before = e }; which = inl refl })
-        by_order Equal e = absurd (m.other (incidence_exact y (mirrored sum y) e))
+        by_order : (o : Ordering) → incidence_cmp y (mirrored sum y) ≡ o
+            → IsLow (lesser sum y) × ((lesser sum y ≡ y) ⊎ (lesser sum y ≡ mirrored sum y))
+        by_order Less e = found y (rw e refl) (record { has = p; before = e }) (inl refl)
+        by_order Equal e = absurd ((mirrors y p).other (incidence_exact y (mirrored sum y) e))
         by_order Greater e =
-            let turned = ap (incidence_cmp (mirrored sum y)) (back y m.up_to) ∙ turned_back y (mirrored sum y) e in
-            subst (IsLesser y) (rw e refl) (record { low = record { has = m.image; before = turned }; which = inr refl })
+            let m = mirrors y p in
+            let before = ap (incidence_cmp (mirrored sum y)) m.back ∙ turned_back y (mirrored sum y) e in
+            found (mirrored sum y) (rw e refl) (record { has = m.image; before = before }) (inr refl)
 
     -- what is low comes before all mirror images of what is
     below_images : (x z : Incidence) → IsLow x → IsLow z → incidence_cmp x (mirrored sum z) ≡ Less
@@ -124,37 +95,36 @@ module _ (sum : Incidence) where
         by_order : (o : Ordering) → incidence_cmp x z ≡ o → incidence_cmp x (mirrored sum z) ≡ Less
         by_order Less e = incidence_total.trans x z (mirrored sum z) e z_low.before
         by_order Equal e = ap (λ w. incidence_cmp w (mirrored sum z)) (incidence_exact x z e) ∙ z_low.before
-        by_order Greater e = incidence_total.trans x (mirrored sum x) (mirrored sum z) x_low.before
-            (cmp_mirror x z (mirrors x x_low.has).up_to (mirrors z z_low.has).up_to ∙ turned_back x z e)
+        by_order Greater e = incidence_total.trans x (mirrored sum x) (mirrored sum z) x_low.before (turns x z x_low.has z_low.has ∙ turned_back x z e)
 
     -- the lesser of what was found, and then their mirror images, where of each two images with P one was found
     pub mirrors_listed : (found half : List Incidence) → ((x : Incidence) → Contains found x → P x)
         → ((x : Incidence) → P x → Contains found x ⊎ Contains found (mirrored sum x))
-        → Lists incidence_cmp (Contains (map (lesser sum) found)) half
-        → Lists incidence_cmp P (half ++ map (mirrored sum) (reverse half))
+        → Lists incidence_cmp (Contains (map (lesser sum) found)) half → Lists incidence_cmp P (half ++ map (mirrored sum) (reverse half))
     mirrors_listed found half have one lists = record {
       ascending = sorted_join incidence_cmp half images lists.ascending
-          (images_ascend (mirrored sum) incidence_cmp half lists.ascending
-          (λ x y x_in y_in e. cmp_mirror y x (mirrors y (low y y_in).has).up_to (mirrors x (low x x_in).has).up_to ∙ e))
+          (images_ascend (mirrored sum) incidence_cmp half lists.ascending (λ x y x_in y_in e. turns y x (low y y_in).has (low x x_in).has ∙ e))
           (λ x y x_in y_in. let (z, z_in, e) = image_of (mirrored sum) half y y_in in
           subst (λ w. incidence_cmp x w ≡ Less) e (below_images x z (low x x_in) (low z z_in)));
       each = λ x c. ⊎_elim {C = P x} (λ h. (low x h).has)
           (λ h. let (z, z_in, e) = image_of (mirrored sum) half x h in subst P e (mirrors z (low z z_in).has).image)
           (Contains-append_cases half images x c);
-      all = λ x p. ⊎_elim {C = Contains (half ++ images) x} (λ h. (both x h).0)
-          (λ h. subst (Contains (half ++ images)) (back x (mirrors x p).up_to) (both (mirrored sum x) h).1) (one x p);
+      all = λ x p. ⊎_elim {C = In x} (λ h. (both x h).0) (λ h. subst In (mirrors x p).back (both (mirrored sum x) h).1) (one x p);
     }
       where
         images : List Incidence
         images = map (mirrored sum) (reverse half)
 
+        In : Incidence → Type 0
+        In = Contains (half ++ images)
+
         low : (x : Incidence) → Contains half x → IsLow x
         low x c =
             let (y, y_in, e) = Contains-from_map (lesser sum) found x (lists.each x c) in
-            subst IsLow e (lesser_is y (have y y_in)).low
+            subst IsLow e (lesser_is y (have y y_in)).0
 
-        both : (y : Incidence) → Contains found y → Contains (half ++ images) y × Contains (half ++ images) (mirrored sum y)
-        both y y_in = by (lesser_is y (have y y_in)).which
+        both : (y : Incidence) → Contains found y → In y × In (mirrored sum y)
+        both y y_in = by (lesser_is y (have y y_in)).1
           where
             z : Incidence
             z = lesser sum y
@@ -162,15 +132,12 @@ module _ (sum : Incidence) where
             z_in : Contains half z
             z_in = lists.all z (Contains-map (lesser sum) found y y_in)
 
-            early : Contains (half ++ images) z
+            early : In z
             early = Contains-append_left half images z z_in
 
-            late : Contains (half ++ images) (mirrored sum z)
+            late : In (mirrored sum z)
             late = Contains-append_right half images (mirrored sum z) (image_in (mirrored sum) half z z_in)
 
-            by : (z ≡ y) ⊎ (z ≡ mirrored sum y) → Contains (half ++ images) y × Contains (half ++ images) (mirrored sum y)
-            by (inl e) = (subst (Contains (half ++ images)) e early, subst (λ w. Contains (half ++ images) (mirrored sum w)) e late)
-            by (inr e) = (
-              subst (Contains (half ++ images)) (ap (mirrored sum) e ∙ back y (mirrors y (have y y_in)).up_to) late,
-              subst (Contains (half ++ images)) e early,
-            )
+            by : (z ≡ y) ⊎ (z ≡ mirrored sum y) → In y × In (mirrored sum y)
+            by (inl e) = (subst In e early, subst (λ w. In (mirrored sum w)) e late)
+            by (inr e) = (subst In (ap (mirrored sum) e ∙ (mirrors y (have y y_in)).back) late, subst In e early)

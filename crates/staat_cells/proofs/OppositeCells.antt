@@ -1,5 +1,5 @@
 -- The cells of the opposite directions: where they stand, and their incidences.
-use Rattle.std.proofs.Common.{◌≡◌, ◌⊎◌, inl, inr, ⊎_elim, ℕ, ◌+◌, ◌*◌, ◌-◌, ◌<◌, ◌↔◌, refl, sym, ap, subst, ◌∙◌, arith}
+use Rattle.std.proofs.Common.{◌≡◌, ◌⊎◌, inl, inr, ⊎_elim, ℕ, ◌+◌, ◌*◌, ◌-◌, ◌<◌, ◌≤◌, ◌↔◌, refl, sym, ap, subst, ◌∙◌, arith}
 use Rattle.std.proofs.Common.{List, [], ◌∷◌, ◌++◌, length, get_or, map, reverse, take, drop, Contains, ◌/◌}
 use Rattle.std.proofs.lemmas.List.{drop-map, take-map}
 use Rattle.std.specs.Ordering.{nat_cmp, ordering_then}
@@ -28,12 +28,12 @@ use Rattle.staat_cells.proofs.MadeUpCells.{entry_at}
 use Rattle.staat_cells.proofs.Beside.{at_plane}
 use Rattle.staat_cells.proofs.Growing.{Below}
 use Rattle.staat_cells.proofs.ListedIncidences.{first_listed}
-use Rattle.staat_cells.proofs.Mirrors.{IsMirroredIn, IsUpTo, image_in, image_of, images_ascend, mirrors_listed, nat_mirror}
+use Rattle.staat_cells.proofs.Mirrors.{IsMirrored, image_in, image_of, images_ascend, mirrors_listed, nat_mirror}
 use Rattle.staat_cells.proofs.OppositePoints.{signs_flipped}
 use Rattle.staat_cells.proofs.SignOrder.{signs_exact, signs_total}
 use Rattle.staat_cells.proofs.TableRules.{holds_axes}
 use Rattle.staat_cells.proofs.VertexSigns.{axes_zero, zero_turned}
-use Rattle.staat_cells.proofs.Words.{place_small}
+use Rattle.staat_cells.proofs.Words.{incidence_order, place_small}
 
 -- ---- flipped signs
 
@@ -102,26 +102,18 @@ word_turned planes s n long =
     ap (λ t. packed (take 64 (drop n s)) + packed t) (part_of flipped n s) ∙ packed_turned 0 0 (take 64 (drop n s))
     ∙ ap packed (sym (part_of (λ x. Pos) n s) ∙ ap (λ l. take 64 (drop n l)) (all_positive planes s long))
 
-module _ (planes : List V3) (count k : ℕ) (s : List Sign) (long : length s ≡ length planes) (lt : k < count) where
-  pub incidence_up_to : IsUpTo (mirror_sum planes count) (incidence_of s k)
-  incidence_up_to =
-      let a = word_turned planes s 0 long in
-      let b = word_turned planes s 64 long in
-      let c = word_turned planes s 128 long in
-      let d = word_turned planes s 192 long in
-      record { a = omega (arith, a); b = omega (arith, b); c = omega (arith, c); d = omega (arith, d); of = omega (arith, lt) }
+left : (x y z : ℕ) → x + y ≡ z → z - x ≡ y
+left x y z e = omega (arith, e)
 
-  left : (x y z : ℕ) → x + y ≡ z → z - x ≡ y
-  left x y z e = omega (arith, e)
-
-  pub incidence_mirrored : mirrored (mirror_sum planes count) (incidence_of s k) ≡ incidence_of (turned s) (count - 1 - k)
-  incidence_mirrored = λ i. record {
-    a = left _ _ _ (word_turned planes s 0 long) i;
-    b = left _ _ _ (word_turned planes s 64 long) i;
-    c = left _ _ _ (word_turned planes s 128 long) i;
-    d = left _ _ _ (word_turned planes s 192 long) i;
-    of = count - 1 - k;
-  }
+incidence_mirrored : (planes : List V3) (count k : ℕ) (s : List Sign) → length s ≡ length planes
+    → mirrored (mirror_sum planes count) (incidence_of s k) ≡ incidence_of (turned s) (count - 1 - k)
+incidence_mirrored planes count k s long = λ i. record {
+  a = left _ _ _ (word_turned planes s 0 long) i;
+  b = left _ _ _ (word_turned planes s 64 long) i;
+  c = left _ _ _ (word_turned planes s 128 long) i;
+  d = left _ _ _ (word_turned planes s 192 long) i;
+  of = count - 1 - k;
+}
 
 -- ---- where they stand
 
@@ -173,72 +165,89 @@ module _ (planes : List V3) (are : AreTablePlanes planes) where
         ∙ ap turned (get_or-reverse signs m [] (omega (arith, lt, n)) ∙ ap (λ j. get_or signs j []) back
         ∙ get_or-map of cells k no_cell [] lt)
 
-    pub never_odd : (h : ℕ) → length cells ≡ 2 * h + 1 → ⊥
-    never_odd h odd =
-        let lt : h < length cells = omega (arith, odd) in
-        let here : length cells - 1 - h ≡ h = omega (arith, odd) in
-        never_same (cell_at cells h).signs (entry_at planes kind cells listed h lt).cell
-        (sym (opposite_at h lt) ∙ ap (λ m. (cell_at cells m).signs) here)
-
-    -- ---- their incidences
-
-    incidence_image : (upper : Kind) (x : Incidence) → IsIncidence planes upper cells x
-        → IsIncidence planes upper cells (mirrored (mirror_sum planes (length cells)) x)
-    incidence_image upper x s =
-        let u = s.under in
-        let long = cell_length planes s.signs u.cell in
-        record {
-          signs = turned s.signs;
-          under = record {
-            cell = cell_turned planes s.signs u.cell;
-            by_count = kind_turned s.signs ∙ u.by_count;
-            listed = let lt = u.listed in omega (arith, lt);
-            border = subst (λ f. IsBorder f (turned s.signs)) (sym (opposite_at x.of u.listed)) (border_turned (cell_at cells x.of).signs s.signs u.border);
-          };
-          is = ap (mirrored (mirror_sum planes (length cells))) s.is ∙ incidence_mirrored planes (length cells) x.of s.signs long u.listed;
-        }
-
     half_long : (h : ℕ) → h ≡ length cells / 2 → length cells ≡ 2 * h
     half_long h is = elim (same_or (length cells) (2 * h + 1)) [
-      | inl odd ↦ absurd (never_odd h odd)
+      | inl odd ↦
+          let lt : h < length cells = omega (arith, odd) in
+          let here : length cells - 1 - h ≡ h = omega (arith, odd) in
+          absurd (never_same (cell_at cells h).signs (entry_at planes kind cells listed h lt).cell
+          (sym (opposite_at h lt) ∙ ap (λ m. (cell_at cells m).signs) here))
       | inr other ↦ omega (arith, is, other)
     ]
 
-    -- all incidences, from those of the first half of the cells
-    pub all_listed : (upper : Kind) (P : Incidence → Type 0) (F : Incidence → ℕ → Type 0) (found half : List Incidence) (h count : ℕ)
-        (sum : Incidence) → count ≡ length cells → h ≡ count / 2 → sum ≡ mirror_sum planes count
-        → GrewByAll (λ x. Below (F x) h) [] found → ((x : Incidence) (k : ℕ) → F x k → x.of ≡ k)
-        → ((x : Incidence) → Below (F x) (length cells) ↔ P x) → ((x : Incidence) → P x ↔ IsIncidence planes upper cells x)
-        → Lists incidence_cmp (Contains (map (lesser sum) found)) half → Lists incidence_cmp P (half ++ map (mirrored sum) (reverse half))
-    all_listed upper P F found half h count sum count_is h_is sum_is grew of all same = mirrors_listed sum P mirrors found half
-        (λ x c. ((found_is x).0 c).0) one
-      where
-        long : length cells ≡ 2 * h
-        long = half_long h (h_is ∙ ap (λ n. n / 2) count_is)
+    -- ---- their incidences
 
-        is : mirror_sum planes (length cells) ≡ sum
-        is = sym (sum_is ∙ ap (mirror_sum planes) count_is)
+    module _ (upper : Kind) (few : length planes ≤ 256) where
+      abbrev P : Incidence → Type 0
+      P = IsIncidence planes upper cells
 
-        found_is : (x : Incidence) → Contains found x ↔ (P x × (x.of < h))
-        found_is = first_listed P F found h (length cells) (omega (arith, long)) grew all of
+      abbrev image : Incidence → Incidence
+      image = mirrored (mirror_sum planes (length cells))
 
-        mirrors : (x : Incidence) → P x → IsMirroredIn sum P x
-        mirrors x p =
-            let s = (same x).0 p in
-            let lt = s.under.listed in
-            let of_is = ap (λ (y : Incidence). y.of) is in
-            record {
-              up_to = subst (λ t. IsUpTo t x) is (subst (IsUpTo (mirror_sum planes (length cells))) (sym s.is)
-                  (incidence_up_to planes (length cells) x.of s.signs (cell_length planes s.signs s.under.cell) lt));
-              image = subst (λ t. P (mirrored t x)) is ((same _).1 (incidence_image upper x s));
-              other = λ e. let equal = ap (λ (y : Incidence). y.of) e in omega (arith, equal, lt, long, of_is);
-            }
+      long : (x : Incidence) (s : P x) → length s.signs ≡ length planes
+      long x s = cell_length planes s.signs s.under.cell
 
-        one : (x : Incidence) → P x → Contains found x ⊎ Contains found (mirrored sum x)
-        one x p =
-            let lt = ((same x).0 p).under.listed in
-            let of_is = ap (λ (y : Incidence). y.of) is in
-            elim (lt_or_le x.of h) [
-              | inl early ↦ inl ((found_is x).1 (p, early))
-              | inr late ↦ inr ((found_is (mirrored sum x)).1 ((mirrors x p).image, omega (arith, late, lt, long, of_is)))
-            ]
+      image_is : (x : Incidence) (s : P x) → image x ≡ incidence_of (turned s.signs) (length cells - 1 - x.of)
+      image_is x s = ap image s.is ∙ incidence_mirrored planes (length cells) x.of s.signs (long x s)
+
+      image_has : (x : Incidence) → P x → P (image x)
+      image_has x s =
+          let u = s.under in
+          record {
+            signs = turned s.signs;
+            under = record {
+              cell = cell_turned planes s.signs u.cell;
+              by_count = kind_turned s.signs ∙ u.by_count;
+              listed = let lt = u.listed in omega (arith, lt);
+              border = subst (λ f. IsBorder f (turned s.signs)) (sym (opposite_at x.of u.listed)) (border_turned (cell_at cells x.of).signs s.signs u.border);
+            };
+            is = image_is x s;
+          }
+
+      turns : (x y : Incidence) → P x → P y → incidence_cmp (image x) (image y) ≡ incidence_cmp y x
+      turns x y s t =
+          let same = long x s ∙ sym (long y t) in
+          let s_long = length-map s.signs flipped in
+          let t_long = length-map t.signs flipped in
+          let l = long x s in
+          let x_lt = s.under.listed in
+          let y_lt = t.under.listed in
+          (λ i. incidence_cmp (image_is x s i) (image_is y t i))
+          ∙ incidence_order (turned s.signs) (turned t.signs) (length cells - 1 - x.of) (length cells - 1 - y.of) (s_long ∙ same ∙ sym t_long) (omega (arith, s_long, l, few))
+          ∙ (λ i. ordering_then (turned_order s.signs t.signs same i)
+          (nat_mirror (length cells - 1) x.of y.of (omega (arith, x_lt)) (omega (arith, y_lt)) i))
+          ∙ sym (incidence_order t.signs s.signs y.of x.of (sym same) (omega (arith, same, l, few)))
+          ∙ (λ i. incidence_cmp (sym t.is i) (sym s.is i))
+
+      -- all incidences, from those of the first half of the cells
+      pub all_listed : (F : Incidence → ℕ → Type 0) (found half : List Incidence) (h count : ℕ) (sum : Incidence) → count ≡ length cells
+          → h ≡ count / 2 → sum ≡ mirror_sum planes count → GrewByAll (λ x. Below (F x) h) [] found
+          → ((x : Incidence) (k : ℕ) → F x k → x.of ≡ k) → ((x : Incidence) → Below (F x) (length cells) ↔ P x)
+          → Lists incidence_cmp (Contains (map (lesser sum) found)) half → Lists incidence_cmp P (half ++ map (mirrored sum) (reverse half))
+      all_listed F found half h count sum count_is h_is sum_is grew of all =
+          subst (λ t. Lists incidence_cmp (Contains (map (lesser t) found)) half → Lists incidence_cmp P (half ++ map (mirrored t) (reverse half)))
+          (sym (sum_is ∙ ap (mirror_sum planes) count_is))
+          (mirrors_listed (mirror_sum planes (length cells)) P mirrors turns found half (λ x c. ((found_is x).0 c).0) one)
+        where
+          even : length cells ≡ 2 * h
+          even = half_long h (h_is ∙ ap (λ n. n / 2) count_is)
+
+          found_is : (x : Incidence) → Contains found x ↔ (P x × (x.of < h))
+          found_is = first_listed P F found h (length cells) (omega (arith, even)) grew all of
+
+          mirrors : (x : Incidence) → P x → IsMirrored (mirror_sum planes (length cells)) P x
+          mirrors x s =
+              let lt = s.under.listed in
+              let there : length cells - 1 - (length cells - 1 - x.of) ≡ x.of = omega (arith, lt) in
+              record {
+                image = image_has x s;
+                back = ap image (image_is x s) ∙ incidence_mirrored planes (length cells) (length cells - 1 - x.of) (turned s.signs)
+                    (length-map s.signs flipped ∙ long x s) ∙ (λ i. incidence_of (turned_twice s.signs i) (there i)) ∙ sym s.is;
+                other = λ e. let equal = ap (λ (y : Incidence). y.of) e in omega (arith, equal, lt, even);
+              }
+
+          one : (x : Incidence) → P x → Contains found x ⊎ Contains found (image x)
+          one x s = let lt = s.under.listed in elim (lt_or_le x.of h) [
+            | inl early ↦ inl ((found_is x).1 (s, early))
+            | inr late ↦ inr ((found_is (image x)).1 (image_has x s, omega (arith, late, lt, even)))
+          ]

@@ -34,7 +34,7 @@ use Rattle.staat_vec.proofs.ListLaws.{map_twice}
 use Rattle.staat_cells.specs.declared.skeleton.Skeleton.{Skeleton}
 use Rattle.staat_cells.specs.Skeletons.{IsSkeleton}
 use Rattle.staat_model.proofs.Members.{All-from_members}
-use Rattle.staat_cells.proofs.ListedIncidences.{listed_was, lists_as}
+use Rattle.staat_cells.proofs.ListedIncidences.{listed_was}
 use Rattle.staat_cells.proofs.PointCells.{points_are}
 
 -- what holds of all entries holds of the cells
@@ -197,13 +197,11 @@ module _ (planes : List V3) (are : AreTablePlanes planes) (few : length planes �
 
   pub skeleton_is : (s : Skeleton) → AreCellsOf planes Point (map entry_of s.points.items)
       → AreCellsOf planes Edge (map entry_of s.edges.items)
-      → Lists incidence_cmp (IsFilledIncidence (map entry_of s.edges.items)) s.incidences.items → IsSkeleton planes s
-  skeleton_is s points edges filled =
+      → Lists incidence_cmp (IsIncidence planes Open (map entry_of s.edges.items)) s.incidences.items → IsSkeleton planes s
+  skeleton_is s points edges lists =
       let lower = map entry_of s.edges.items in
       let incidences = s.incidences.items in
       let made_up = opens_made_up planes are lower edges in
-      let lists = lists_as (IsFilledIncidence lower) (IsIncidence planes Open lower) incidences
-      (open_incidences_are planes are lower edges) filled in
       record {
         has = record {
           pairs = lower_pairs Open s.edges.items incidences made_up lists;

@@ -1,6 +1,6 @@
 // The incidences of edges: the open cells on whose border they are.
-ghost use Rattle.std.specs.Prelude.{◌≡◌, ◌++◌, [], ◌∷◌, IfOk, List, OnOk, map};
-ghost use Rattle.staat_model.specs.declared.tree.Kind.TheVariants.{Edge};
+ghost use Rattle.std.specs.Prelude.{◌≡◌, ◌≤◌, ◌++◌, [], ◌∷◌, IfOk, List, OnOk, length, map};
+ghost use Rattle.staat_model.specs.declared.tree.Kind.TheVariants.{Edge, Open};
 ghost use Rattle.staat_model.specs.Cells.{AreCellsOf};
 ghost use Rattle.staat_pairs.specs.Tables.{AreTablePlanes};
 ghost use Rattle.staat_vec.specs.declared.vector.Sign.{Sign as SignValue};
@@ -9,7 +9,7 @@ ghost use Rattle.staat_vec.specs.Lists.{Lists};
 ghost use Rattle.staat_cells.specs.Compositions.{entry_of};
 ghost use Rattle.staat_cells.specs.Packing.{incidence_cmp, incidence_of};
 ghost use Rattle.staat_cells.specs.Beside.{filled};
-ghost use Rattle.staat_cells.specs.Stages.{HaveSigns, IsFilledIncidence};
+ghost use Rattle.staat_cells.specs.Stages.{HaveSigns, IsIncidence};
 
 use crate::cell::Cell;
 use crate::incidence::Incidence;
@@ -41,9 +41,10 @@ pub(crate) fn open_incidences(
     own: &[Incidence],
 ) -> Result<Vec<Incidence>, OutOfMemory>
     requires planes { AreTablePlanes planes.now }
+    requires few { length planes.now ≤ 256 }
     requires edges { AreCellsOf planes.now Edge (map entry_of edges.now) }
     requires own { HaveSigns (map entry_of edges.now) own.now }
-    ensures { IfOk result (λ found. Lists incidence_cmp (IsFilledIncidence (map entry_of edges.now)) found.items) }
+    ensures { IfOk result (λ found. Lists incidence_cmp (IsIncidence planes.now Open (map entry_of edges.now)) found.items) }
 {
     let sum = mirror_sum(alloc, planes, edges.len())?;
     incidences.clear();

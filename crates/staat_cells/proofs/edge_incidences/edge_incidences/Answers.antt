@@ -9,7 +9,7 @@ use Rattle.staat_cells.specs.Compositions.{entry_of}
 use Rattle.staat_cells.specs.Packing.{incidence_cmp}
 use Rattle.staat_cells.specs.Stages.{GrewByAll, IsEdgeIncidence, IsIncidence}
 use Rattle.staat_cells.proofs.MadeUpCells.{point_in}
-use Rattle.staat_cells.proofs.Growing.{grown_more, itself}
+use Rattle.staat_cells.proofs.Growing.{grown_more}
 use Rattle.staat_cells.proofs.OppositeCells.{all_listed}
 use Rattle.staat_cells.proofs.ListedIncidences.{IsEdgeAt, edges_all, entry_is, grew_none, listed_is, own_at, own_place}
 use Rattle.staat_cells.proofs.edge_incidences.edge_incidences.Goals as goal
@@ -62,10 +62,10 @@ returns c =
     let points = c.args.points.now in
     let cells = map entry_of points in
     subst (Lists incidence_cmp (IsIncidence planes Edge cells)) (sym c.in_ok-push_mirrors.ensures)
-    (all_listed planes c.requires.planes Point cells c.requires.points Edge (IsIncidence planes Edge cells) (IsEdgeAt planes cells)
+    (all_listed planes c.requires.planes Point cells c.requires.points Edge c.requires.few (IsEdgeAt planes cells)
     c.loop-k.incidences.items c.lesser_in_order-found.result.items c.loop-k.k (length points) c.in_ok-sum.sum
     (sym (length-map points entry_of)) (omega (arith, c.loop-k-test.false, c.loop-k.auto.k-end)) c.in_ok-sum.ensures
     c.loop-k.invariant (λ x k e. ap (λ (y : Incidence). y.of) e.is)
     (λ x. edges_all cells (length cells) refl x planes
     (λ k lt. sym (point_in planes c.requires.planes cells c.requires.points k lt).1))
-    (λ x. itself) c.lesser_in_order-found.ensures)
+    c.lesser_in_order-found.ensures)

@@ -7,8 +7,8 @@ use Rattle.staat_cells.specs.declared.incidence.Incidence.{Incidence}
 use Rattle.staat_cells.specs.Beside.{filled}
 use Rattle.staat_cells.specs.Compositions.{entry_of}
 use Rattle.staat_cells.specs.Packing.{incidence_cmp, incidence_of}
-use Rattle.staat_cells.specs.Stages.{IsFilledIncidence, cell_at}
-use Rattle.staat_cells.proofs.Growing.{grown_more}
+use Rattle.staat_cells.specs.Stages.{IsIncidence, cell_at}
+use Rattle.staat_cells.proofs.Growing.{grown_more, through}
 use Rattle.staat_cells.proofs.OppositeCells.{all_listed}
 use Rattle.staat_cells.proofs.WholeLists.{open_incidences_are}
 use Rattle.staat_cells.proofs.ListedIncidences.{IsFilledAt, filled_all, grew_none, grew_pair, own_place, own_signs}
@@ -36,10 +36,10 @@ returns c =
     let planes = c.args.planes.now in
     let edges = c.args.edges.now in
     let cells = map entry_of edges in
-    subst (Lists incidence_cmp (IsFilledIncidence cells)) (sym c.in_ok-push_mirrors.ensures)
-    (all_listed planes c.requires.planes Edge cells c.requires.edges Open (IsFilledIncidence cells) (IsFilledAt cells)
+    subst (Lists incidence_cmp (IsIncidence planes Open cells)) (sym c.in_ok-push_mirrors.ensures)
+    (all_listed planes c.requires.planes Edge cells c.requires.edges Open c.requires.few (IsFilledAt cells)
     c.loop-k.incidences.items c.lesser_in_order-found.result.items c.loop-k.k (length edges) c.in_ok-sum.sum
     (sym (length-map edges entry_of)) (omega (arith, c.loop-k-test.false, c.loop-k.auto.k-end)) c.in_ok-sum.ensures
     c.loop-k.invariant (λ x k e. ⊎_elim (ap (λ (y : Incidence). y.of)) (ap (λ (y : Incidence). y.of)) e)
-    (filled_all cells (length cells) refl) (open_incidences_are planes c.requires.planes cells c.requires.edges)
+    (λ x. through (filled_all cells (length cells) refl x) (open_incidences_are planes c.requires.planes cells c.requires.edges x))
     c.lesser_in_order-found.ensures)

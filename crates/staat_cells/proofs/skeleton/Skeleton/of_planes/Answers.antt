@@ -2,14 +2,14 @@ use Rattle.std.proofs.Common.{◌∙◌, All, List, ap, length, map, subst, sym}
 use Rattle.staat_vec.specs.Lists.{Lists}
 use Rattle.staat_vec.specs.declared.vector.TheConstants.{EDGE}
 use Rattle.staat_vec.specs.Vectors.{IsWithin}
-use Rattle.staat_model.specs.declared.tree.Kind.TheVariants.{Edge, Point}
+use Rattle.staat_model.specs.declared.tree.Kind.TheVariants.{Edge, Open, Point}
 use Rattle.staat_model.specs.Cells.{AreCellsOf}
 use Rattle.staat_cells.specs.declared.cell.Cell.{Cell}
 use Rattle.staat_cells.specs.declared.incidence.Incidence.{Incidence}
 use Rattle.staat_cells.specs.declared.skeleton.Skeleton.{Skeleton}
 use Rattle.staat_cells.specs.Compositions.{HaveEqualLengths, HavePairs, begun_up_to, composed_up_to, entry_of}
 use Rattle.staat_cells.specs.Packing.{incidence_cmp}
-use Rattle.staat_cells.specs.Stages.{HaveSigns, IsFilledIncidence, IsIncidence}
+use Rattle.staat_cells.specs.Stages.{HaveSigns, IsIncidence}
 use Rattle.staat_cells.proofs.MadeUpCells.{edges_made_up}
 use Rattle.staat_cells.proofs.WholeLists.{kind_listed, kind_signs, lower_pairs, skeleton_is, equal_lengths}
 use Rattle.staat_cells.proofs.WholeLists.{points_small}
@@ -91,5 +91,5 @@ returns c =
     (kind_listed planes c.requires.planes c.requires.few Edge points ends
     (edges_made_up planes c.requires.planes (map entry_of points) c.in_ok-points.ensures.points) lists
     c.in_ok-edges.edges.items made)
-    (subst (λ (l : List Cell). Lists incidence_cmp (IsFilledIncidence (map entry_of l)) c.in_ok-incidences.incidences.items)
+    (subst (λ (l : List Cell). Lists incidence_cmp (IsIncidence planes Open (map entry_of l)) c.in_ok-incidences.incidences.items)
     c.deref-6.ensures.value c.in_ok-incidences.ensures)
