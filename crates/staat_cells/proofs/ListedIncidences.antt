@@ -11,7 +11,7 @@ use Rattle.staat_cells.specs.declared.incidence.Incidence.{Incidence}
 use Rattle.staat_cells.specs.Compositions.{entry_of, no_cell, no_incidence, composed}
 use Rattle.staat_cells.specs.Packing.{incidence_cmp, incidence_of}
 use Rattle.staat_cells.specs.Beside.{filled, beside}
-use Rattle.staat_cells.specs.Stages.{cell_at, words_of, HaveSigns, IsEdgeIncidence, IsFilledIncidence}
+use Rattle.staat_cells.specs.Stages.{cell_at, words_of, HaveSigns, IsEdgeIncidence}
 use Rattle.staat_cells.specs.Stages.{IsOwnIncidence, IsIncidence, GrewByAll, IsBesideIncidence}
 use Rattle.staat_cells.proofs.Growing.{Below, grown_both, grown_first, grown_same, none_below, through}
 use Rattle.staat_planes.proofs.Gaining.{adds_nothing}
@@ -59,13 +59,6 @@ module _ (cells : List CellEntry) (n : ℕ) (all : n ≡ length cells) (x : Inci
     λ (k, lt, e). let of : x.of ≡ k = ap (λ (s : Incidence). s.of) e in
         record { listed = listed k lt of; is = subst (IsOwnAt cells x) (sym of) e },
     λ o. (x.of, subst (λ m. x.of < m) (sym all) o.listed, o.is),
-  )
-
-  pub filled_all : Below (IsFilledAt cells x) n ↔ IsFilledIncidence cells x
-  filled_all = (
-    λ (k, lt, h). let of : x.of ≡ k = elim h [ inl e ↦ ap (λ (s : Incidence). s.of) e | inr e ↦ ap (λ (s : Incidence). s.of) e ] in
-        record { listed = listed k lt of; is = subst (IsFilledAt cells x) (sym of) h },
-    λ f. (x.of, subst (λ m. x.of < m) (sym all) f.listed, f.is),
   )
 
   module _ (planes : List V3) (at : (k : ℕ) → k < length cells → (cell_at cells k).signs ≡ signs_of planes (cell_at cells k).d) where

@@ -18,12 +18,12 @@ use Rattle.staat_pairs.specs.Tables.{AreTablePlanes}
 use Rattle.staat_cells.specs.Beside.{beside, filled}
 use Rattle.staat_cells.specs.Compositions.{composed_up_to}
 use Rattle.staat_cells.specs.Packing.{incidence_cmp, incidence_of}
-use Rattle.staat_cells.specs.Stages.{IsAxisOff, IsBesideIncidence, IsBesideOn, IsEdgeIncidence, IsFilledIncidence}
+use Rattle.staat_cells.specs.Stages.{IsAxisOff, IsBesideIncidence, IsBesideOn, IsEdgeIncidence}
 use Rattle.staat_cells.specs.Stages.{IsIncidence, IsOwnIncidence, cell_at, point_entry}
 use Rattle.staat_cells.proofs.MadeUpCells.{edges_made_up, point_in, opens_made_up}
 use Rattle.staat_cells.proofs.Grouping.{composed_are_cells}
 use Rattle.staat_cells.proofs.IncidenceOrder.{incidence_exact, incidence_total}
-use Rattle.staat_cells.proofs.ListedIncidences.{IsFilledAt, edges_all, filled_all, own_all}
+use Rattle.staat_cells.proofs.ListedIncidences.{IsFilledAt, edges_all, own_all}
 use Rattle.staat_cells.proofs.PointCells.{points_are}
 use Rattle.staat_vec.proofs.Integers.{zero_or}
 use Rattle.staat_vec.proofs.ListLaws.{only_one}
@@ -123,16 +123,15 @@ module _ (planes : List V3) (are : AreTablePlanes planes) (few : length planes �
   -- ---- open cells
 
   module _ (edges : List CellEntry) (edges_of : AreCellsOf planes Edge edges) where
-    filled_listing : Listing (IsFilledIncidence edges)
-    filled_listing = listing_as (λ x. (filled_all edges (length edges) refl x).0) (λ x. (filled_all edges (length edges) refl x).1)
-        (listing_over (λ k x. IsFilledAt edges x k) (listing_below (length edges))
+    open_listing : Listing (IsIncidence planes Open edges)
+    open_listing =
+        let same = open_incidences_are planes are edges edges_of in
+        listing_as (λ x. (same x).0) (λ x. (same x).1) (listing_over (λ k x. IsFilledAt edges x k) (listing_below (length edges))
         (λ k. listing_pair (incidence_of (filled Neg (cell_at edges k).signs) k) (incidence_of (filled Pos (cell_at edges k).signs) k)))
 
     some_opens : (cells : List CellEntry) × AreCellsOf planes Open cells
     some_opens =
-        let same = open_incidences_are planes are edges edges_of in
-        let (incidences, sorted) = listing_sorted incidence_cmp incidence_total incidence_exact
-        (listing_as (λ x. (same x).0) (λ x. (same x).1) filled_listing) in (
+        let (incidences, sorted) = listing_sorted incidence_cmp incidence_total incidence_exact open_listing in (
           composed_up_to Open edges incidences (length incidences),
           composed_are_cells planes Open edges incidences few sorted (opens_made_up planes are edges edges_of),
         )

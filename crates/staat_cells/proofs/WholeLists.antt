@@ -14,7 +14,7 @@ use Rattle.staat_vec.proofs.Unique.{IsFirst-in, Contains-front, Contains-later}
 use Rattle.staat_model.specs.declared.tree.Kind.{Kind}
 use Rattle.staat_model.specs.declared.tree.Kind.TheVariants.{Edge, Open, Point}
 use Rattle.staat_model.specs.Cells.{kind_of, signs_of, AreCells, AreCellsOf, CellEntry, IsCell, IsEdgeSum, IsEntry}
-use Rattle.staat_model.specs.Cells.{IsOpenSum}
+use Rattle.staat_model.specs.Cells.{IsBorder, IsOpenSum}
 use Rattle.staat_model.specs.Planes.{vertices}
 use Rattle.staat_model.proofs.CellLemmas.{edges_add_up_lemma}
 use Rattle.staat_model.proofs.EndLemmas.{edge_sum_in}
@@ -24,7 +24,7 @@ use Rattle.staat_cells.specs.declared.incidence.Incidence.{Incidence}
 use Rattle.staat_cells.specs.Compositions.{entry_of, no_cell, HaveEqualLengths, begun_up_to, composed_up_to, HavePairs}
 use Rattle.staat_cells.specs.Packing.{incidence_cmp, incidence_of}
 use Rattle.staat_cells.specs.Beside.{filled}
-use Rattle.staat_cells.specs.Stages.{cell_at, IsFilledIncidence, IsIncidence, point_entry, words_of, HaveSigns}
+use Rattle.staat_cells.specs.Stages.{cell_at, IsIncidence, point_entry, words_of, HaveSigns}
 use Rattle.staat_cells.specs.Stages.{IsOwnIncidence}
 use Rattle.staat_cells.proofs.Grouping.{cell_length, AreMadeUp, begun_signs, composed_are_cells, pairs}
 use Rattle.staat_cells.proofs.MadeUpCells.{entry_at, opens_made_up}
@@ -34,7 +34,8 @@ use Rattle.staat_vec.proofs.ListLaws.{map_twice}
 use Rattle.staat_cells.specs.declared.skeleton.Skeleton.{Skeleton}
 use Rattle.staat_cells.specs.Skeletons.{IsSkeleton}
 use Rattle.staat_model.proofs.Members.{All-from_members}
-use Rattle.staat_cells.proofs.ListedIncidences.{listed_was}
+use Rattle.staat_cells.proofs.Growing.{Below}
+use Rattle.staat_cells.proofs.ListedIncidences.{IsFilledAt, listed_was}
 use Rattle.staat_cells.proofs.PointCells.{points_are}
 
 -- what holds of all entries holds of the cells
@@ -124,28 +125,30 @@ module _ (planes : List V3) (are : AreTablePlanes planes) where
 
   -- ---- the incidences of edges
 
-  pub open_incidences_are : (edges : List CellEntry) → AreCellsOf planes Edge edges → (x : Incidence) → IsFilledIncidence edges x ↔ IsIncidence planes Open edges x
-  open_incidences_are edges listed x = (λ f. ⊎_elim (towards f.listed Neg (λ q. cc)) (towards f.listed Pos (λ q. cc)) f.is, back)
+  pub open_incidences_are : (edges : List CellEntry) → AreCellsOf planes Edge edges → (x : Incidence)
+      → Below (IsFilledAt edges x) (length edges) ↔ IsIncidence planes Open edges x
+  open_incidences_are edges listed x = (λ (k, lt, h). ⊎_elim (towards k lt Neg (λ q. cc)) (towards k lt Pos (λ q. cc)) h, back)
     where
-      towards : x.of < length edges → (t : Sign) → t ≢ Zero → x ≡ incidence_of (filled t (cell_at edges x.of).signs) x.of → IsIncidence planes Open edges x
-      towards lt t off e =
-          let c = cell_at edges x.of in
-          let entry = entry_at planes Edge edges listed x.of lt in
-          let (cell, kind, border) = filled_open planes c.signs t some entry.cell entry.by_count off in
-          record { signs = filled t c.signs; under = record { cell = cell; by_count = kind; listed = lt; border = border }; is = e }
+      towards : (k : ℕ) → k < length edges → (t : Sign) → t ≢ Zero → x ≡ incidence_of (filled t (cell_at edges k).signs) k → IsIncidence planes Open edges x
+      towards k lt t off e =
+          let s = filled t (cell_at edges k).signs in
+          let entry = entry_at planes Edge edges listed k lt in
+          let (cell, kind, border) = filled_open planes (cell_at edges k).signs t some entry.cell entry.by_count off in
+          let at : k ≡ x.of = sym (ap (λ (y : Incidence). y.of) e) in
+          let here = subst (λ m. IsBorder (cell_at edges m).signs s) at border in
+          record { signs = s; under = record { cell = cell; by_count = kind; listed = subst (λ m. m < length edges) at lt; border = here }; is = e ∙ ap (incidence_of s) at }
 
-      back : IsIncidence planes Open edges x → IsFilledIncidence edges x
+      back : IsIncidence planes Open edges x → Below (IsFilledAt edges x) (length edges)
       back s =
           let u = s.under in
           let c = cell_at edges x.of in
-          let entry = entry_at planes Edge edges listed x.of u.listed in
-          record {
-            listed = u.listed;
-            is = ⊎_elim {C = (x ≡ incidence_of (filled Neg c.signs) x.of) ⊎ (x ≡ incidence_of (filled Pos c.signs) x.of)}
-                (λ e. inl (s.is ∙ ap (λ l. incidence_of l x.of) e))
-                (λ e. inr (s.is ∙ ap (λ l. incidence_of l x.of) e))
-                (open_filled planes c.signs s.signs some entry.cell entry.by_count u.cell u.by_count u.border);
-          }
+          let entry = entry_at planes Edge edges listed x.of u.listed in (
+            x.of,
+            u.listed,
+            ⊎_elim {C = (x ≡ incidence_of (filled Neg c.signs) x.of) ⊎ (x ≡ incidence_of (filled Pos c.signs) x.of)}
+                (λ e. inl (s.is ∙ ap (λ l. incidence_of l x.of) e)) (λ e. inr (s.is ∙ ap (λ l. incidence_of l x.of) e))
+                (open_filled planes c.signs s.signs some entry.cell entry.by_count u.cell u.by_count u.border),
+          )
 
 module _ (planes : List V3) (are : AreTablePlanes planes) (few : length planes ≤ 256) where
   -- ---- points

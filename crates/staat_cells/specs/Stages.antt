@@ -12,7 +12,7 @@ use Rattle.staat_model.specs.Cells.{kind_of, signs_of, CellEntry, IsBorder, IsCe
 use Rattle.staat_cells.specs.declared.incidence.Incidence.{Incidence}
 use Rattle.staat_cells.specs.Compositions.{no_cell}
 use Rattle.staat_cells.specs.Packing.{incidence_of}
-use Rattle.staat_cells.specs.Beside.{beside, filled}
+use Rattle.staat_cells.specs.Beside.{beside}
 
 -- the cell at a place of a list
 abbrev pub cell_at : List CellEntry → ℕ → CellEntry
@@ -53,12 +53,6 @@ words_of x = record { a = x.a; b = x.b; c = x.c; d = x.d; of = 0 }
 -- at each place the incidence has the signs of the cell there
 abbrev pub HaveSigns : List CellEntry → List Incidence → Type 0
 HaveSigns cells incidences = map words_of incidences ≡ map (λ (c : CellEntry). incidence_of c.signs 0) cells
-
--- one of the two incidences of the edge at its place
-pub record IsFilledIncidence (cells : List CellEntry) (x : Incidence) : Type 0 where
-  pub listed : x.of < length cells
-  pub is : (x ≡ incidence_of (filled Neg (cell_at cells x.of).signs) x.of)
-      ⊎ (x ≡ incidence_of (filled Pos (cell_at cells x.of).signs) x.of)
 
 -- the signs s are beside v on a plane c of cs through v, on one of the two sides of v, which the plane m tells apart
 pub record IsBesideOn (cs planes : List V3) (v m : V3) (s : List Sign) : Type 0 where

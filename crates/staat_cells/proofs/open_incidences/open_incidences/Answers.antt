@@ -1,4 +1,4 @@
-use Rattle.std.proofs.Common.{subst, ⊎_elim, refl, ap, sym, arith, length, map}
+use Rattle.std.proofs.Common.{subst, ⊎_elim, ap, sym, arith, length, map}
 use Rattle.std.proofs.lemmas.List.{length-map}
 use Rattle.staat_vec.specs.declared.vector.Sign.TheVariants.{Neg, Pos}
 use Rattle.staat_vec.specs.Lists.{Lists}
@@ -8,10 +8,10 @@ use Rattle.staat_cells.specs.Beside.{filled}
 use Rattle.staat_cells.specs.Compositions.{entry_of}
 use Rattle.staat_cells.specs.Packing.{incidence_cmp, incidence_of}
 use Rattle.staat_cells.specs.Stages.{IsIncidence, cell_at}
-use Rattle.staat_cells.proofs.Growing.{grown_more, through}
+use Rattle.staat_cells.proofs.Growing.{grown_more}
 use Rattle.staat_cells.proofs.OppositeCells.{all_listed}
 use Rattle.staat_cells.proofs.WholeLists.{open_incidences_are}
-use Rattle.staat_cells.proofs.ListedIncidences.{IsFilledAt, filled_all, grew_none, grew_pair, own_place, own_signs}
+use Rattle.staat_cells.proofs.ListedIncidences.{IsFilledAt, grew_none, grew_pair, own_place, own_signs}
 use Rattle.staat_cells.proofs.open_incidences.open_incidences.Goals as goal
 
 pub loop-k-init : goal.loop-k-init
@@ -41,5 +41,4 @@ returns c =
     c.loop-k.incidences.items c.lesser_in_order-found.result.items c.loop-k.k (length edges) c.in_ok-sum.sum
     (sym (length-map edges entry_of)) (omega (arith, c.loop-k-test.false, c.loop-k.auto.k-end)) c.in_ok-sum.ensures
     c.loop-k.invariant (λ x k e. ⊎_elim (ap (λ (y : Incidence). y.of)) (ap (λ (y : Incidence). y.of)) e)
-    (λ x. through (filled_all cells (length cells) refl x) (open_incidences_are planes c.requires.planes cells c.requires.edges x))
-    c.lesser_in_order-found.ensures)
+    (open_incidences_are planes c.requires.planes cells c.requires.edges) c.lesser_in_order-found.ensures)
