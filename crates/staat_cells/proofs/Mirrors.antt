@@ -124,20 +124,10 @@ module _ (sum : Incidence) (P : Incidence → Type 0) where
             subst IsLow e (lesser_is y (have y y_in)).0
 
         both : (y : Incidence) → Contains found y → In y × In (mirrored sum y)
-        both y y_in = by (lesser_is y (have y y_in)).1
-          where
-            z : Incidence
-            z = lesser sum y
-
-            z_in : Contains half z
-            z_in = lists.all z (Contains-map (lesser sum) found y y_in)
-
-            early : In z
-            early = Contains-append_left half images z z_in
-
-            late : In (mirrored sum z)
-            late = Contains-append_right half images (mirrored sum z) (image_in (mirrored sum) half z z_in)
-
-            by : (z ≡ y) ⊎ (z ≡ mirrored sum y) → In y × In (mirrored sum y)
-            by (inl e) = (subst In e early, subst (λ w. In (mirrored sum w)) e late)
-            by (inr e) = (subst In (ap (mirrored sum) e ∙ (mirrors y (have y y_in)).back) late, subst In e early)
+        both y y_in =
+            let z = lesser sum y in
+            let z_in = lists.all z (Contains-map (lesser sum) found y y_in) in
+            let early = Contains-append_left half images z z_in in
+            let late = Contains-append_right half images (mirrored sum z) (image_in (mirrored sum) half z z_in) in
+            ⊎_elim {C = In y × In (mirrored sum y)} (λ e. (subst In e early, subst (λ w. In (mirrored sum w)) e late))
+            (λ e. (subst In (ap (mirrored sum) e ∙ (mirrors y (have y y_in)).back) late, subst In e early)) (lesser_is y (have y y_in)).1

@@ -82,9 +82,7 @@ border_turned (g ∷ f) (t ∷ s) (e, b) =
 packed_turned : (a b : ℕ) (s : List Sign) → packed_after a s + packed_after b (turned s) ≡ packed_after (a + b) (map (λ x. Pos) s)
 packed_turned a b [] = refl
 packed_turned a b (x ∷ s) =
-    let q = place_flipped x in
-    let p = place_small x in
-    let e : a * 4 + sign_place x + (b * 4 + sign_place (flipped x)) ≡ (a + b) * 4 + 2 = omega (arith, q, p) in
+    let e : a * 4 + sign_place x + (b * 4 + sign_place (flipped x)) ≡ (a + b) * 4 + 2 = omega (arith, place_flipped x, place_small x) in
     packed_turned (a * 4 + sign_place x) (b * 4 + sign_place (flipped x)) s ∙ ap (λ n. packed_after n (map (λ x. Pos) s)) e
 
 all_positive : (planes : List V3) (s : List Sign) → length s ≡ length planes → map (λ (x : Sign). Pos) s ≡ map (λ (n : V3). Pos) planes
@@ -118,11 +116,7 @@ incidence_mirrored planes count k s long = λ i. record {
 -- ---- where they stand
 
 cell_turned : (planes : List V3) (s : List Sign) → IsCell planes s → IsCell planes (turned s)
-cell_turned planes s cell = record {
-  d = negative cell.d;
-  nonzero = negative_some cell.d cell.nonzero;
-  is = signs_flipped planes cell.d ∙ ap turned cell.is;
-}
+cell_turned planes s cell = record { d = negative cell.d; nonzero = negative_some cell.d cell.nonzero; is = signs_flipped planes cell.d ∙ ap turned cell.is }
 
 kind_turned : (s : List Sign) → kind_of (turned s) ≡ kind_of s
 kind_turned s = ap kind_by_count (zeros_turned s)
@@ -193,14 +187,10 @@ module _ (planes : List V3) (are : AreTablePlanes planes) where
       image_has : (x : Incidence) → P x → P (image x)
       image_has x s =
           let u = s.under in
+          let border = subst (λ f. IsBorder f (turned s.signs)) (sym (opposite_at x.of u.listed)) (border_turned (cell_at cells x.of).signs s.signs u.border) in
           record {
             signs = turned s.signs;
-            under = record {
-              cell = cell_turned planes s.signs u.cell;
-              by_count = kind_turned s.signs ∙ u.by_count;
-              listed = let lt = u.listed in omega (arith, lt);
-              border = subst (λ f. IsBorder f (turned s.signs)) (sym (opposite_at x.of u.listed)) (border_turned (cell_at cells x.of).signs s.signs u.border);
-            };
+            under = record { cell = cell_turned planes s.signs u.cell; by_count = kind_turned s.signs ∙ u.by_count; listed = omega (arith, u.listed); border = border };
             is = image_is x s;
           }
 
@@ -208,15 +198,11 @@ module _ (planes : List V3) (are : AreTablePlanes planes) where
       turns x y s t =
           let same = long x s ∙ sym (long y t) in
           let s_long = length-map s.signs flipped in
-          let t_long = length-map t.signs flipped in
-          let l = long x s in
-          let x_lt = s.under.listed in
-          let y_lt = t.under.listed in
           (λ i. incidence_cmp (image_is x s i) (image_is y t i))
-          ∙ incidence_order (turned s.signs) (turned t.signs) (length cells - 1 - x.of) (length cells - 1 - y.of) (s_long ∙ same ∙ sym t_long) (omega (arith, s_long, l, few))
+          ∙ incidence_order (turned s.signs) (turned t.signs) (length cells - 1 - x.of) (length cells - 1 - y.of) (s_long ∙ same ∙ sym (length-map t.signs flipped)) (omega (arith, s_long, long x s, few))
           ∙ (λ i. ordering_then (turned_order s.signs t.signs same i)
-          (nat_mirror (length cells - 1) x.of y.of (omega (arith, x_lt)) (omega (arith, y_lt)) i))
-          ∙ sym (incidence_order t.signs s.signs y.of x.of (sym same) (omega (arith, same, l, few)))
+          (nat_mirror (length cells - 1) x.of y.of (omega (arith, s.under.listed)) (omega (arith, t.under.listed)) i))
+          ∙ sym (incidence_order t.signs s.signs y.of x.of (sym same) (omega (arith, long y t, few)))
           ∙ (λ i. incidence_cmp (sym t.is i) (sym s.is i))
 
       -- all incidences, from those of the first half of the cells
@@ -247,7 +233,7 @@ module _ (planes : List V3) (are : AreTablePlanes planes) where
               }
 
           one : (x : Incidence) → P x → Contains found x ⊎ Contains found (image x)
-          one x s = let lt = s.under.listed in elim (lt_or_le x.of h) [
+          one x s = elim (lt_or_le x.of h) [
             | inl early ↦ inl ((found_is x).1 (s, early))
-            | inr late ↦ inr ((found_is (image x)).1 (image_has x s, omega (arith, late, lt, even)))
+            | inr late ↦ inr ((found_is (image x)).1 (image_has x s, omega (arith, late, s.under.listed, even)))
           ]
