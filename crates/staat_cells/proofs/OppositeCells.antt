@@ -199,7 +199,8 @@ module _ (planes : List V3) (are : AreTablePlanes planes) where
           let same = long x s ∙ sym (long y t) in
           let s_long = length-map s.signs flipped in
           (λ i. incidence_cmp (image_is x s i) (image_is y t i))
-          ∙ incidence_order (turned s.signs) (turned t.signs) (length cells - 1 - x.of) (length cells - 1 - y.of) (s_long ∙ same ∙ sym (length-map t.signs flipped)) (omega (arith, s_long, long x s, few))
+          ∙ incidence_order (turned s.signs) (turned t.signs) (length cells - 1 - x.of) (length cells - 1 - y.of)
+          (s_long ∙ same ∙ sym (length-map t.signs flipped)) (omega (arith, s_long, long x s, few))
           ∙ (λ i. ordering_then (turned_order s.signs t.signs same i)
           (nat_mirror (length cells - 1) x.of y.of (omega (arith, s.under.listed)) (omega (arith, t.under.listed)) i))
           ∙ sym (incidence_order t.signs s.signs y.of x.of (sym same) (omega (arith, long y t, few)))

@@ -9,12 +9,7 @@ images_more : (f : Incidence → Incidence) (old items new : List Incidence) (i 
     → items ≡ old ++ map f (take i (reverse old)) → x ≡ get_or items (n - 1 - i) x → z ≡ f x → new ≡ items ++ z ∷ []
     → new ≡ old ++ map f (take (i + 1) (reverse old))
 images_more f old items new i n x z n_is lt are x_is z_is new_is =
-    let at : x ≡ get_or (reverse old) i x =
-    x_is ∙ ap (λ l. get_or l (n - 1 - i) x) are
-    ∙ get_or_append_left old (map f (take i (reverse old))) x (n - 1 - i) (omega (arith, n_is, lt))
-    ∙ ap (λ m. get_or old (m - 1 - i) x) n_is ∙ sym (get_or-reverse old i x (omega (arith, n_is, lt))) in
-    new_is ∙ (λ j. are j ++ (z_is ∙ ap f at) j ∷ []) ∙ append_assoc old (map f (take i (reverse old))) (f (get_or (reverse old) i x) ∷ [])
-    ∙ ap (λ l. old ++ l) (sym (map_more f (reverse old) i x (omega (arith, n_is, lt, length-reverse old))))
+    grind (arith, append_assoc, get_or_append_left, get_or-reverse, map_more, length-reverse)
 
 pub loop-i-init : goal.loop-i-init
 loop-i-init c = sym (append_nothing c.args.incidences.now.items)
@@ -26,7 +21,4 @@ loop-i-preserved c =
     c.index.ensures c.mirrored-image.ensures c.in_ok-push.ensures.items
 
 pub returns : goal.returns
-returns c =
-    let old = c.args.incidences.now.items in
-    c.loop-i.invariant ∙ ap (λ l. old ++ map (mirrored c.args.sum) l)
-    (take_all c.loop-i.i (reverse old) (let e = length-reverse old in omega (arith, e, c.loop-i-test.false)))
+returns c = grind (arith, take_all, length-reverse)
