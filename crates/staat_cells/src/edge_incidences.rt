@@ -122,7 +122,7 @@ pub(crate) fn edge_incidences(
         found.items) }
 {
     let sum = mirror_sum(alloc, planes, points.len())?;
-    let mut incidences = Vec::with_capacity(alloc, points.len().saturating_mul(4))?;
+    let mut incidences = Vec::with_capacity(alloc, points.len().saturating_mul(5))?;
     for k in 0..points.len() / 2 {
         push_edge_incidences(alloc, planes, &points[k], own[k], k, &mut incidences)?;
     }
