@@ -48,34 +48,26 @@ composed_cells-requires-clause-signs c =
     subst HaveEqualLengths (sym c.deref-3.ensures.value)
     (equal_lengths c.args.planes.now c.requires.planes Point c.in_ok-points.points.items c.in_ok-points.ensures.points)
 
-pub open_incidences-requires-clause-edges : goal.open_incidences-requires-clause-edges
-open_incidences-requires-clause-edges c =
+pub open_incidences-requires : goal.open_incidences-requires
+open_incidences-requires c =
     let planes = c.args.planes.now in
     let points = c.in_ok-points.points.items in
     let ends = c.in_ok-ends.ends.items in
-    let lists = subst (λ (l : List Cell). Lists incidence_cmp (IsIncidence planes Edge (map entry_of l)) ends)
-    c.deref.ensures.value c.in_ok-ends.ensures in
-    let made = ap (map entry_of) c.deref-6.ensures.value ∙ c.in_ok-edges.ensures ∙ (λ i.
-    let l = c.deref-4.ensures.value i in composed_up_to Edge (map entry_of (c.deref-3.ensures.value i)) l (length l)) in
-    kind_listed planes c.requires.planes c.requires.few Edge points ends
-    (edges_made_up planes c.requires.planes (map entry_of points) c.in_ok-points.ensures.points) lists
-    c.deref-6.result.now made
-
-pub open_incidences-requires-clause-own : goal.open_incidences-requires-clause-own
-open_incidences-requires-clause-own c =
-    let planes = c.args.planes.now in
-    let points = c.in_ok-points.points.items in
-    let ends = c.in_ok-ends.ends.items in
+    let edges = c.deref-6.result.now in
     let lists = subst (λ (l : List Cell). Lists incidence_cmp (IsIncidence planes Edge (map entry_of l)) ends)
     c.deref.ensures.value c.in_ok-ends.ensures in
     let made = ap (map entry_of) c.deref-6.ensures.value ∙ c.in_ok-edges.ensures ∙ (λ i.
     let l = c.deref-4.ensures.value i in composed_up_to Edge (map entry_of (c.deref-3.ensures.value i)) l (length l)) in
     let own = c.deref-7.ensures.value ∙ c.in_ok-own.ensures
     ∙ ap (λ (l : List Incidence). begun_up_to l (length l)) c.deref-5.ensures.value in
-    subst (HaveSigns (map entry_of c.deref-6.result.now)) (sym own)
-    (kind_signs planes c.requires.planes c.requires.few Edge points ends
-    (edges_made_up planes c.requires.planes (map entry_of points) c.in_ok-points.ensures.points) lists
-    c.deref-6.result.now made)
+    let made_up = edges_made_up planes c.requires.planes (map entry_of points) c.in_ok-points.ensures.points in
+    record {
+      planes = c.requires.planes;
+      few = c.requires.few;
+      edges = kind_listed planes c.requires.planes c.requires.few Edge points ends made_up lists edges made;
+      own = subst (HaveSigns (map entry_of edges)) (sym own)
+          (kind_signs planes c.requires.planes c.requires.few Edge points ends made_up lists edges made);
+    }
 
 pub returns : goal.returns
 returns c =
