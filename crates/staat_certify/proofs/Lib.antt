@@ -1,6 +1,7 @@
 pub mod SomeMember
 pub mod WallLemmas
 pub mod WitnessLemmas
+pub mod AheadLemmas
 pub mod VisitLemmas
 pub mod ListedLemmas
 pub mod CertificateLemmas

@@ -1,10 +1,10 @@
 -- What a survey of the vertices of a table's planes has found: the directions visited, and their witnesses.
 use Rattle.std.specs.Prelude.{◌≡◌, ◌≢◌, ◌-◌, ℕ, ◌<◌, List, All}
-use Rattle.std.specs.Prelude.{Bool, Contains, IfSome, Option, Some, length, map, slice_get}
+use Rattle.std.specs.Prelude.{Bool, Contains, IfSome, Option, Some, length, map, slice_get, true}
 use Rattle.std.specs.List.Sorted.{IsStrictlySortedBy}
 use Rattle.staat_vec.specs.declared.vector.V3.{V3}
 use Rattle.staat_vec.specs.Primitives.{IsCanon}
-use Rattle.staat_vec.specs.Vectors.{vector_cmp}
+use Rattle.staat_vec.specs.Vectors.{dot, sign, vector_cmp}
 use Rattle.staat_model.specs.declared.assembly.Part.{Part}
 use Rattle.staat_model.specs.declared.certificate.Witness.{Witness}
 use Rattle.staat_model.specs.declared.set.PartSet.{PartSet}
@@ -16,9 +16,12 @@ use Rattle.staat_certify.specs.declared.visits.Found.{Found}
 use Rattle.staat_certify.specs.declared.visit_list.Visit.{Visit}
 use Rattle.staat_certify.specs.declared.witnesses.GraphTrees.{GraphTrees}
 use Rattle.staat_certify.specs.WitnessListings.{AreKeys}
+use Rattle.staat_planes.specs.PairOrder.{plane_at}
+use Rattle.staat_ring.specs.declared.entry.Entry.{Entry}
 use Rattle.staat_ring.specs.Rings.{Ring, crossing}
 use Rattle.staat_ring.specs.CountedSigns.{Signed}
-use Rattle.staat_ring.specs.WholeCircles.{AreSignsAt, vertex_at}
+use Rattle.staat_ring.specs.SignChanges.{stop_sign}
+use Rattle.staat_ring.specs.WholeCircles.{AreSignsAt, stop_at, vertex_at}
 
 -- the parts, some of which are stuck, and the table of these
 pub record IsSurvey (parts : List Part) (t : Table) : Type 0 where
@@ -64,6 +67,12 @@ pub record IsVisitedTo (parts : List Part) (t : Table) (r : Ring) (s : Signed) (
   pub later : 0 < k
   pub signs : AreSignsAt t.planes s (vertex_at t.planes r (k - 1))
   pub names : NamesIfTold parts t.of witnesses (vertex_at t.planes r (k - 1)) told
+
+-- the sign of the plane 0 at the vertex k, if it is told and the plane does not pass there
+abbrev pub IsToldAhead : List V3 → Ring → Option Bool → ℕ → Type 0
+IsToldAhead planes r ahead k = IfSome ahead (λ positive. k < length r.stops → (e : Entry)
+    → slice_get (stop_at r k).entries 0 ≡ Some e → e.plane ≢ 0
+    → sign (dot (plane_at planes 0) (vertex_at planes r k)) ≡ stop_sign true positive)
 
 -- the crossings of the planes below n with all others have been visited
 abbrev pub AreVisitedBelow : List V3 → ℕ → List Visit → ℕ → Type 0

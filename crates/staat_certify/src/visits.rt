@@ -10,8 +10,8 @@ ghost use Rattle.staat_pairs.specs.Tables.{WasMadeFrom};
 ghost use Rattle.staat_ring.specs.Belonging.{BelongTo};
 ghost use Rattle.staat_ring.specs.WholeCircles.{AreSignsAt, HaveSameFull, IsWholeCircle, vertex_at};
 ghost use Rattle.staat_certify.specs.WitnessListings.{EachStandsOnce, AreKeys};
-ghost use Rattle.staat_certify.specs.Visits.{HasFound, HasGone, IsNamed, IsNumberHere, IsSurvey, IsVisitedTo};
-ghost use Rattle.staat_certify.specs.Visits.{KeepsTrees, NamesIfTold, visited_directions};
+ghost use Rattle.staat_certify.specs.Visits.{HasFound, HasGone, IsNamed, IsNumberHere, IsSurvey, IsToldAhead};
+ghost use Rattle.staat_certify.specs.Visits.{IsVisitedTo, KeepsTrees, NamesIfTold, visited_directions};
 ghost use Rattle.staat_certify.specs.Witnesses.{StandsAmong};
 
 use crate::listing::{known_number, number_witness};
@@ -21,7 +21,7 @@ use crate::witnesses::{GraphTrees, WitnessRoom, put_witness, renew_trees};
 use indexmap::IndexSet;
 use staat_model::{Sound, Witness};
 use staat_planes::PlaneTable;
-use staat_ring::{Circle, CountedSigns, Vertex};
+use staat_ring::{Circle, CountedSigns};
 use staat_vec::OutOfMemory;
 use std::alloc::Global;
 
@@ -88,11 +88,39 @@ struct Survey<'a> {
 }
 
 impl<'a> Survey<'a> {
-    // whether the vertex is one of the directions of the version, which has one of two opposite ones or both
-    fn lists(&self, vertex: &Vertex) -> bool
-        ensures { IsTrue result ↔ (self.now.version ≡ 2 → IsCanon vertex.now) }
+    // whether the vertex k of a circle is one of the directions of the version, which has one of two opposite ones or both
+    fn lists(&self, circle: &Circle, k: usize, ahead: Option<bool>) -> bool
+        requires circle { IsWholeCircle self.now.table.now.planes circle.now }
+        requires place { k < length circle.now.stops }
+        requires ahead { IsToldAhead self.now.table.now.planes circle.now ahead k }
+        ensures { IsTrue result ↔ (self.now.version ≡ 2 → IsCanon
+            (vertex_at self.now.table.now.planes circle.now k)) }
     {
-        self.version != 2 || vertex.is_canon()
+        let _set = self.table.set();
+        if self.version != 2 {
+            return true;
+        }
+        match ahead {
+            Some(positive) if circle.first_entry(self.table, k).plane != 0 => positive,
+            _ => circle.vertex(self.table, k).is_canon(),
+        }
+    }
+
+    // Whether the plane 0 is positive at the next vertex, as far as it is told: it changes only where it is passed. The
+    // first component of a vertex is its product with the normal of that plane.
+    fn ahead_of(&self, circle: &Circle, k: usize, ahead: Option<bool>) -> Option<bool>
+        requires circle { IsWholeCircle self.now.table.now.planes circle.now }
+        requires place { k < length circle.now.stops }
+        requires ahead { IsToldAhead self.now.table.now.planes circle.now ahead k }
+        ensures { IsToldAhead self.now.table.now.planes circle.now result (k + 1) }
+    {
+        let _set = self.table.set();
+        let first = circle.first_entry(self.table, k);
+        if first.plane == 0 {
+            Some(first.turned)
+        } else {
+            ahead
+        }
     }
 
     // Gives the planes their signs at the vertex k of a circle, coming from the one before it if `near` says so. Tells
@@ -177,8 +205,10 @@ impl<'a> Survey<'a> {
         let _set = self.table.set();
         let mut near = false;
         let mut told = None;
+        let mut ahead = None;
         for k in 0..circle.len() {
-            let listed = self.lists(&circle.vertex(self.table, k));
+            let listed = self.lists(circle, k, ahead);
+            ahead = self.ahead_of(circle, k, ahead);
             if listed {
                 told = self.visit(circle, k, near, signs, told, found)?;
             }

@@ -28,14 +28,16 @@ loop-k-preserved c =
             near = λ yes. subst (λ (s : Signed). IsVisitedTo parts t r s c.if-listed.found.witnesses.items c.if-listed.told (k + 1)) (sym w.signs-is)
                 (subst (λ (f : Found). IsVisitedTo parts t r w.visit.new.signs f.witnesses.items c.if-listed.told (k + 1)) (sym w.found-is)
                 (subst (λ (told : Option ℕ). IsVisitedTo parts t r w.visit.new.signs w.visit.new.found.witnesses.items told (k + 1)) (sym w.told-is) is.to));
+            ahead = c.ahead_of-ahead.ensures;
           }
       | else-listed w ↦
-          let unlisted : (version ≡ 2 → IsCanon (vertex_at t.planes r k)) → ⊥ = λ canonical. false_test_clash c.lists-listed.result w.if-listed.false (c.lists-listed.ensures.1 (λ two. subst IsCanon (sym c.vertex.ensures) (canonical two))) in
+          let unlisted : (version ≡ 2 → IsCanon (vertex_at t.planes r k)) → ⊥ = λ canonical. false_test_clash c.lists-listed.result w.if-listed.false (c.lists-listed.ensures.1 canonical) in
           record {
             made = subst (BelongTo t) (sym w.signs-is) i.made;
             gone = subst (λ (f : Found). HasGone parts t version f r (k + 1)) (sym w.found-is)
                 (gone_more parts t version c.loop-k.found c.loop-k.found r k (λ v listed. listed) (λ below. i.gone.so_far) (λ canonical. absurd (unlisted canonical)) i.gone);
             near = λ yes. absurd (false≢true (sym w.if-listed.false ∙ yes));
+            ahead = c.ahead_of-ahead.ensures;
           }
     ]
 
