@@ -22,6 +22,9 @@ pub struct GraphTrees {
 }
 
 /// The trees of the graph at the vertex, found anew only where that is not the graph that is kept.
+///
+/// They take much room on the stack, and most vertices need none.
+#[inline(never)]
 pub(crate) fn renew_trees(kept: &mut Option<GraphTrees>, at: &Vantage) -> Trees
     requires at { StandsAmong at.now.sound.now at.now.table.now at.now.signs.now at.now.d }
     requires stuck { IsStuck at.now.sound.now at.now.table.now.of }
