@@ -309,9 +309,11 @@ order_within planes g m es new o small = All-from_members (λ e. e.plane < m) ne
 abbrev pub RisesBelow : List V3 → V3 → List Entry → ℕ → Type 0
 RisesBelow planes g es n = (k : ℕ) → k + 1 < n → CrossesBefore planes g (entry_at es k) (entry_at es (k + 1))
 
-pub rises_more : (planes : List V3) (g : V3) (es : List Entry) (n : ℕ) → RisesBelow planes g es n → CrossesBefore planes g (entry_at es (n - 1)) (entry_at es n) → RisesBelow planes g es (n + 1)
+pub rises_more : (planes : List V3) (g : V3) (es : List Entry) (n : ℕ) → RisesBelow planes g es n
+    → CrossesBefore planes g (entry_at es (n - 1)) (entry_at es n) → RisesBelow planes g es (n + 1)
 rises_more planes g es n rises last k lt = ⊎_elim {C = CrossesBefore planes g (entry_at es k) (entry_at es (k + 1))} (rises k)
-    (λ q. subst (λ j. CrossesBefore planes g (entry_at es k) (entry_at es j)) (sym q) (subst (λ j. CrossesBefore planes g (entry_at es j) (entry_at es n)) (omega (arith, q)) last)) (lt_one_more_cases (k + 1) n lt)
+    (λ q. subst (λ j. CrossesBefore planes g (entry_at es k) (entry_at es j)) (sym q) (subst (λ j. CrossesBefore planes g (entry_at es j) (entry_at es n)) (omega (arith, q)) last))
+    (lt_one_more_cases (k + 1) n lt)
 
 -- entries of which each precedes the next one
 pub order_own : (planes : List V3) (g : V3) (es : List Entry) → Rises planes g es → IsOrderOf planes g es es
@@ -326,7 +328,8 @@ order_own planes g es rises = record {
 
     later : IsTransitive planes g es → (i n : ℕ) → i + n + 1 < length es → CrossesBefore planes g (entry_at es i) (entry_at es (i + n + 1))
     later t i zero lt = subst (λ j. CrossesBefore planes g (entry_at es i) (entry_at es j)) (omega arith) (rises i (omega (arith, lt)))
-    later t i (suc n) lt = t (entry_at es i) (entry_at es (i + n + 1)) (entry_at es (i + suc n + 1)) (here i (omega (arith, lt))) (here (i + n + 1) (omega (arith, lt))) (here (i + suc n + 1) lt)
+    later t i (suc n) lt = t (entry_at es i) (entry_at es (i + n + 1)) (entry_at es (i + suc n + 1))
+        (here i (omega (arith, lt))) (here (i + n + 1) (omega (arith, lt))) (here (i + suc n + 1) lt)
         (later t i n (omega (arith, lt))) (subst (λ j. CrossesBefore planes g (entry_at es (i + n + 1)) (entry_at es j)) (omega arith) (rises (i + n + 1) (omega (arith, lt))))
 
 pub order_more : (planes : List V3) (g : V3) (e : Entry) (es done old new : List Entry) → done ≡ es ++ e ∷ [] → IsInserted planes g e old new → IsOrderOf planes g es old → IsOrderOf planes g done new

@@ -25,5 +25,6 @@ pub returns-then-not-is_before : goal.returns-then-not-is_before
 returns-then-not-is_before c = record {
   within = c.back.invariant.within;
   after = c.back.invariant.after;
-  before = λ k e p. off (sym c.if-not-is_before.true ∙ (c.is_before.ensures c.args.turn.now.table.now.planes c.args.turn.now.g c.order_of.ensures).1 (subst (λ j. CrossesBefore c.args.turn.now.table.now.planes c.args.turn.now.g c.args.e (entry_at c.args.es.now j)) (place k c.back.i e) p));
+  before = λ k e p. off (sym c.if-not-is_before.true ∙ (c.is_before.ensures c.args.turn.now.table.now.planes c.args.turn.now.g c.order_of.ensures).1
+      (subst (λ j. CrossesBefore c.args.turn.now.table.now.planes c.args.turn.now.g c.args.e (entry_at c.args.es.now j)) (place k c.back.i e) p));
 }
