@@ -14,7 +14,7 @@ use crate::line::ShortLine;
 use crate::short::{ShortAnswer, ShortCertificate, ShortNode};
 use staat_cert::LineWriter;
 use staat_holds::Hold;
-use staat_model::{Arc, TextRefusal};
+use staat_model::TextRefusal;
 use staat_vec::Bytes;
 use std::alloc::{AllocError, Global};
 
@@ -46,21 +46,12 @@ fn add_parts(w: &mut LineWriter, parts: &[u32]) -> Result<(), AllocError>
     Ok(())
 }
 
-fn add_pairs(w: &mut LineWriter, pairs: &[Arc]) -> Result<(), AllocError>
-    ensures { IfOk result (λ _. AddsShortLines w.old w.new (map line.Pair pairs.now)) }
-{
-    'pairs: for pair in pairs {
-        add_line(w, ShortLine::Pair(*pair))?;
-    }
-    Ok(())
-}
-
 fn add_hold(w: &mut LineWriter, hold: &Hold) -> Result<(), AllocError>
     ensures { IfOk result (λ _. AddsShortLines w.old w.new (lines_of_hold hold.now)) }
 {
     add_line(w, ShortLine::Hold)?;
     add_parts(w, hold.nodes.as_slice())?;
-    add_pairs(w, hold.pairs.as_slice())
+    w.add_arcs(b"pair".as_slice(), hold.pairs.as_slice())
 }
 
 fn add_holds(w: &mut LineWriter, holds: &[Hold]) -> Result<(), AllocError>

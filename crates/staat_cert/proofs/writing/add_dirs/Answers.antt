@@ -1,14 +1,9 @@
-use Rattle.std.proofs.Common.{map}
-use Rattle.std.proofs.lemmas.List.{map_more}
+use Rattle.std.proofs.lemmas.List.{take_all}
 use Rattle.staat_model.specs.declared.line.Line.TheVariants as line
 use Rattle.staat_model.specs.Lines.{line_text}
-use Rattle.staat_cert.proofs.AddLemmas.{added_all, added_more}
+use Rattle.staat_cert.proofs.AddLemmas.{each_added}
 use Rattle.staat_cert.proofs.writing.add_dirs.Goals as goal
 
-pub dirs-preserved : goal.dirs-preserved
-dirs-preserved c =
-    added_more line_text (map line.Dir) c.args.w.now c.dirs.w c.args.dirs.now c.dirs.dir-index c.add_dir.new.w _
-    (map_more line.Dir c.args.dirs.now c.dirs.dir-index _ c.dirs-test.true) c.dirs.invariant c.in_ok-add_dir.ensures
-
 pub returns : goal.returns
-returns c = added_all line_text (map line.Dir) c.args.w.now c.dirs.w c.args.dirs.now c.dirs.dir-index c.dirs-test.false c.dirs.invariant
+returns c =
+    each_added line_text line.Dir c.args.w.now c.dirs.w c.args.dirs.now (rw (take_all c.dirs.dir-index c.args.dirs.now c.dirs-test.false) at c.dirs.invariant)

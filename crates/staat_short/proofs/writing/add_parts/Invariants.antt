@@ -1,7 +1,8 @@
-use Rattle.std.proofs.Common.{map, take}
+use Rattle.std.proofs.Common.{flat_map, take}
+use Rattle.staat_cert.specs.Writing.{AddsBytes}
 use Rattle.staat_short.specs.declared.line.ShortLine.TheVariants as line
-use Rattle.staat_short.specs.ShortWriting.{AddsShortLines}
+use Rattle.staat_short.specs.ShortLines.{short_line_text}
 use Rattle.staat_short.proofs.writing.add_parts.Given as goal
 
 abbrev pub invariant-parts : goal.invariant-parts
-invariant-parts l = AddsShortLines l.initial.w l.w (map line.Part (take l.p-index l.parts))
+invariant-parts l = AddsBytes l.initial.w l.w (flat_map (λ p. short_line_text (line.Part p)) (take l.p-index l.parts))
