@@ -1,14 +1,20 @@
 -- Steps of the loops that join lists of signs and cells.
 use Rattle.std.proofs.Common.{◌≡◌, ℕ, zero, suc, ◌+◌, ◌<◌, ◌≤◌, ap, arith, sym, ◌∙◌, refl, add-one, append_assoc, List, [], ◌∷◌, ◌++◌}
 use Rattle.std.proofs.Common.{drop, length, get_or, map, take, Bool, false, true, if◌then◌else◌}
-use Rattle.std.specs.Prelude.{slice_set}
+use Rattle.std.proofs.Common.{◌&&◌, eq-eqb, eqb-true}
+use Rattle.std.proofs.lemmas.Nat.{le_or_l, le_or_r}
+use Rattle.std.proofs.lemmas.Nat.Bits.{bit_at-lt, bit_at-zero, bit_at_xor, same_from_bits}
+use Rattle.std.specs.Int.{bit_at}
+use Rattle.std.specs.Int.Bits.{bit_or, bit_xor, xor_self}
+use Rattle.std.specs.Prelude.{nat_eq, slice_set}
+use Rattle.staat_vec.proofs.Truth.{and_split, same_truth}
 use Rattle.std.proofs.lemmas.List.{at_drop_more, drop_all, drop_more, get_or_at, get_or-map, length-take-le, map-append}
 use Rattle.std.proofs.lemmas.List.{set_at, take_all, take_more}
 use Rattle.staat_vec.specs.declared.vector.Sign.{Sign}
 use Rattle.staat_model.specs.Cells.{CellEntry}
 use Rattle.staat_cells.specs.declared.cell.Cell.{Cell}
 use Rattle.staat_cells.specs.declared.incidence.Incidence.{Incidence}
-use Rattle.staat_cells.specs.Compositions.{begins_cell, composed, entry_of, no_cell, no_incidence, told_up_to}
+use Rattle.staat_cells.specs.Compositions.{begins_cell, composed, entry_of, no_cell, no_incidence, same_words, told_up_to}
 use Rattle.staat_cells.specs.Beside.{then_sign}
 use Rattle.staat_cells.specs.Stages.{cell_at}
 use Rattle.staat_vec.proofs.ListLaws.{any_default, append_nothing}
@@ -48,6 +54,28 @@ pub compose_end : (a b items : List Sign) (j : ℕ) → length a ≡ length b �
 compose_end a b items j same le is =
     is ∙ (λ i. take_all j (composed a b) (let long = composed_long a b same in omega (arith, long, le)) i ++ drop_all j a le i)
     ∙ append_nothing (composed a b)
+
+-- ---- words that are compared bit by bit
+
+apart_bits : (x y : ℕ) → nat_eq (bit_xor x y) 0 ≡ nat_eq x y
+apart_bits x y = same_truth (nat_eq (bit_xor x y) 0) (nat_eq x y)
+    (λ e. eq-eqb x y (same_from_bits x y (λ i. let z = ap (λ n. bit_at n i) (eqb-true (bit_xor x y) 0 e) in
+    omega (arith, z, bit_at_xor x y i, bit_at-zero i, bit_at-lt x i, bit_at-lt y i))))
+    (λ e. eq-eqb (bit_xor x y) 0 (ap (λ z. bit_xor z y) (eqb-true x y e) ∙ xor_self y))
+
+both_zero : (x y : ℕ) → nat_eq (bit_or x y) 0 ≡ (nat_eq x 0 && nat_eq y 0)
+both_zero x y = same_truth (nat_eq (bit_or x y) 0) (nat_eq x 0 && nat_eq y 0)
+    (λ e. let z = eqb-true (bit_or x y) 0 e in
+    λ i. eq-eqb x 0 (omega (arith, z, le_or_l x y)) i && eq-eqb y 0 (omega (arith, z, le_or_r x y)) i)
+    (λ e. let (p, q) = and_split (nat_eq x 0) (nat_eq y 0) e in
+    eq-eqb (bit_or x y) 0 (λ i. bit_or (eqb-true x 0 p i) (eqb-true y 0 q i)))
+
+pub words_same : (x y : Incidence)
+    → nat_eq (bit_or (bit_xor x.a y.a) (bit_or (bit_xor x.b y.b) (bit_or (bit_xor x.c y.c) (bit_xor x.d y.d)))) 0 ≡ same_words x y
+words_same x y =
+    let last = both_zero (bit_xor x.c y.c) (bit_xor x.d y.d) ∙ (λ i. apart_bits x.c y.c i && apart_bits x.d y.d i) in
+    let later = both_zero (bit_xor x.b y.b) (bit_or (bit_xor x.c y.c) (bit_xor x.d y.d)) ∙ (λ i. apart_bits x.b y.b i && last i) in
+    both_zero (bit_xor x.a y.a) (bit_or (bit_xor x.b y.b) (bit_or (bit_xor x.c y.c) (bit_xor x.d y.d))) ∙ (λ i. apart_bits x.a y.a i && later i)
 
 -- ---- what is told of the first places at which a cell begins
 

@@ -6,7 +6,6 @@ pub mod WholeLists
 pub mod OneCell
 pub mod SomeCells
 pub mod PointCells
-pub mod OppositePoints
 pub mod OppositeCells
 pub mod TableRules
 pub mod Grouping

@@ -35,11 +35,12 @@ fn composed_signs(alloc: Global, first: &[Sign], second: &[Sign]) -> Result<Vec<
     Ok(signs)
 }
 
-// whether two incidences have the same signs
+// whether two incidences have the same signs: then no bit is in one word alone
+#[tactic(auto, using(crate::proofs::Composing::words_same))]
 fn same_words(x: Incidence, y: Incidence) -> bool
     ensures { result ≡ same_words x y }
 {
-    x.a == y.a && x.b == y.b && x.c == y.c && x.d == y.d
+    (x.a ^ y.a) | ((x.b ^ y.b) | ((x.c ^ y.c) | (x.d ^ y.d))) == 0
 }
 
 // whether no incidence of the same cell stands just before

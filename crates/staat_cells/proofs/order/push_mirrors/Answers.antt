@@ -1,4 +1,4 @@
-use Rattle.std.proofs.Common.{◌≡◌, ◌∙◌, ◌-◌, ◌+◌, ◌<◌, ℕ, ap, arith, length, sym, List, [], ◌∷◌, ◌++◌, map, reverse, take, get_or}
+use Rattle.std.proofs.Common.{◌≡◌, ◌-◌, ◌+◌, ◌<◌, ℕ, arith, length, sym, List, [], ◌∷◌, ◌++◌, map, reverse, take, get_or}
 use Rattle.std.proofs.lemmas.List.{append_assoc, get_or_append_left, get_or-reverse, length-reverse, map_more, take_all}
 use Rattle.staat_cells.specs.declared.incidence.Incidence.{Incidence}
 use Rattle.staat_cells.specs.Mirrors.{mirrored}

@@ -1,7 +1,7 @@
 use Rattle.std.proofs.Common.{◌∙◌, ap, arith, get_or, length, subst, sym}
 use Rattle.staat_vec.specs.Vectors.{origin}
 use Rattle.staat_model.specs.declared.tree.Kind.TheVariants.{Point}
-use Rattle.staat_cells.proofs.OppositePoints.{ArePointsAt, points_all, points_more}
+use Rattle.staat_cells.proofs.OppositeCells.{ArePointsAt, points_all, points_more}
 use Rattle.staat_cells.proofs.points.points_at.Goals as goal
 
 pub signs_after-requires-clause-long : goal.signs_after-requires-clause-long

@@ -1,5 +1,5 @@
 use Rattle.std.proofs.Common.{◌≡◌, length}
-use Rattle.staat_cells.proofs.OppositePoints.{ArePointsAt}
+use Rattle.staat_cells.proofs.OppositeCells.{ArePointsAt}
 use Rattle.staat_cells.proofs.points.points_at.Given as goal
 
 abbrev pub invariant-loop-k : goal.invariant-loop-k

@@ -4,7 +4,7 @@ use Rattle.staat_vec.specs.Vectors.{origin}
 use Rattle.staat_model.specs.Cells.{signs_of}
 use Rattle.staat_cells.specs.declared.cell.Cell.{Cell}
 use Rattle.staat_cells.specs.Stages.{flipped}
-use Rattle.staat_cells.proofs.OppositePoints.{opposite_is}
+use Rattle.staat_cells.proofs.OppositeCells.{opposite_is}
 use Rattle.staat_cells.proofs.points.signs_after.Goals as goal
 
 pub returns-then-is_same : goal.returns-then-is_same
