@@ -1,7 +1,6 @@
 -- Steps of the loops that join lists of signs and cells.
 use Rattle.std.proofs.Common.{◌≡◌, ℕ, zero, suc, ◌+◌, ◌<◌, ◌≤◌, ap, arith, sym, ◌∙◌, refl, add-one, append_assoc, List, [], ◌∷◌, ◌++◌}
-use Rattle.std.proofs.Common.{drop, length, get_or, map, take, Bool, false, true, if◌then◌else◌}
-use Rattle.std.proofs.Common.{◌&&◌, eq-eqb, eqb-true}
+use Rattle.std.proofs.Common.{◌&&◌, eq-eqb, eqb-true, drop, length, get_or, map, take, Bool, false, true, if◌then◌else◌}
 use Rattle.std.proofs.lemmas.Nat.{le_or_l, le_or_r}
 use Rattle.std.proofs.lemmas.Nat.Bits.{bit_at-lt, bit_at-zero, bit_at_xor, same_from_bits}
 use Rattle.std.specs.Int.{bit_at}

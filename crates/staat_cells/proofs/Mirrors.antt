@@ -75,18 +75,16 @@ module _ (sum : Incidence) (P : Incidence → Type 0) where
     lesser_is : (y : Incidence) → P y → IsLow (lesser sum y) × ((lesser sum y ≡ y) ⊎ (lesser sum y ≡ mirrored sum y))
     lesser_is y p = by_order (incidence_cmp y (mirrored sum y)) refl
       where
-        found : (x : Incidence) → x ≡ lesser sum y → IsLow x → (x ≡ y) ⊎ (x ≡ mirrored sum y)
-            → IsLow (lesser sum y) × ((lesser sum y ≡ y) ⊎ (lesser sum y ≡ mirrored sum y))
-        found x is low which = subst (λ z. IsLow z × ((z ≡ y) ⊎ (z ≡ mirrored sum y))) is (low, which)
+        IsFound : Incidence → Type 0
+        IsFound z = IsLow z × ((z ≡ y) ⊎ (z ≡ mirrored sum y))
 
-        by_order : (o : Ordering) → incidence_cmp y (mirrored sum y) ≡ o
-            → IsLow (lesser sum y) × ((lesser sum y ≡ y) ⊎ (lesser sum y ≡ mirrored sum y))
-        by_order Less e = found y (rw e refl) (record { has = p; before = e }) (inl refl)
+        by_order : (o : Ordering) → incidence_cmp y (mirrored sum y) ≡ o → IsFound (lesser sum y)
+        by_order Less e = subst IsFound (let is : y ≡ lesser sum y = rw e refl in is) (record { has = p; before = e }, inl refl)
         by_order Equal e = absurd ((mirrors y p).other (incidence_exact y (mirrored sum y) e))
         by_order Greater e =
             let m = mirrors y p in
             let before = ap (incidence_cmp (mirrored sum y)) m.back ∙ turned_back y (mirrored sum y) e in
-            found (mirrored sum y) (rw e refl) (record { has = m.image; before = before }) (inr refl)
+            subst IsFound (let is : mirrored sum y ≡ lesser sum y = rw e refl in is) (record { has = m.image; before = before }, inr refl)
 
     -- what is low comes before all mirror images of what is
     below_images : (x z : Incidence) → IsLow x → IsLow z → incidence_cmp x (mirrored sum z) ≡ Less
