@@ -30,9 +30,8 @@ fn push_both(own: Incidence, k: usize, incidences: &mut Vec<Incidence>) -> Resul
     Ok(())
 }
 
-/// Both incidences of each edge, in their order, from those with the signs of the edges: those of the first half are
-/// found, and the others are their opposites. They take the place of what was listed: there is room for them where the
-/// ends of the edges were.
+/// Both incidences of each edge, in their order, from those with the signs of the first half of the edges. They take
+/// the place of what was listed: there is room for them where the ends of the edges were.
 pub(crate) fn open_incidences(
     alloc: Global,
     planes: &[Normal],
@@ -44,7 +43,8 @@ pub(crate) fn open_incidences(
     requires few { length planes.now ≤ 256 }
     requires edges { AreCellsOf planes.now Edge (map entry_of edges.now) }
     requires own { HaveSigns (map entry_of edges.now) own.now }
-    ensures { IfOk result (λ found. Lists incidence_cmp (IsIncidence planes.now Open (map entry_of edges.now)) found.items) }
+    ensures { IfOk result (λ found. Lists incidence_cmp (IsIncidence planes.now Open (map entry_of edges.now))
+        found.items) }
 {
     let sum = mirror_sum(alloc, planes, edges.len())?;
     incidences.clear();

@@ -1,6 +1,6 @@
-// Incidences in order. A cell and the cell of the opposite directions stand at one place of their list, the one from the
-// beginning and the other from the end: so one incidence of each two opposite ones is sorted, and the other follows from
-// it, since the numbers of both have the same sum.
+// Incidences in order. A cell and the cell of the opposite directions stand at one place of their list, the one from
+// the beginning and the other from the end: so one incidence of each two opposite ones is sorted, and the other
+// follows from it, since the numbers of both have the same sum.
 ghost use Rattle.std.specs.Prelude.{◌≡◌, ◌++◌, Contains, IfOk, OnOk, map, reverse};
 ghost use Rattle.staat_vec.specs.declared.vector.Sign.TheVariants.{Pos};
 ghost use Rattle.staat_vec.specs.Lists.{Lists};
