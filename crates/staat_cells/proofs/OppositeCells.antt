@@ -173,10 +173,9 @@ module _ (planes : List V3) (are : AreTablePlanes planes) where
     half_long : (h : ℕ) → h ≡ length cells / 2 → length cells ≡ 2 * h
     half_long h is = elim (same_or (length cells) (2 * h + 1)) [
       | inl odd ↦
-          let lt : h < length cells = omega (arith, odd) in
           let here : length cells - 1 - h ≡ h = omega (arith, odd) in
-          absurd (never_same (cell_at cells h).signs (entry_at planes kind cells listed h lt).cell
-          (sym (opposite_at h lt) ∙ ap (λ m. (cell_at cells m).signs) here))
+          absurd (never_same (cell_at cells h).signs (entry_at planes kind cells listed h (omega (arith, odd))).cell
+          (sym (opposite_at h (omega (arith, odd))) ∙ ap (λ m. (cell_at cells m).signs) here))
       | inr other ↦ omega (arith, is, other)
     ]
 
@@ -208,10 +207,9 @@ module _ (planes : List V3) (are : AreTablePlanes planes) where
       turns : (x y : Incidence) → P x → P y → incidence_cmp (image x) (image y) ≡ incidence_cmp y x
       turns x y s t =
           let same = long x s ∙ sym (long y t) in
-          let s_long = length-map s.signs flipped in
           (λ i. incidence_cmp (image_is x s i) (image_is y t i))
           ∙ incidence_order (turned s.signs) (turned t.signs) (length cells - 1 - x.of) (length cells - 1 - y.of)
-          (s_long ∙ same ∙ sym (length-map t.signs flipped)) (omega (arith, s_long, long x s, few))
+          (length-map s.signs flipped ∙ same ∙ sym (length-map t.signs flipped)) (omega (arith, length-map s.signs flipped, long x s, few))
           ∙ (λ i. ordering_then (turned_order s.signs t.signs same i)
           (nat_mirror (length cells - 1) x.of y.of (omega (arith, s.under.listed)) (omega (arith, t.under.listed)) i))
           ∙ sym (incidence_order t.signs s.signs y.of x.of (sym same) (omega (arith, long y t, few)))

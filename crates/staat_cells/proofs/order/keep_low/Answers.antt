@@ -6,7 +6,6 @@ use Rattle.staat_cells.proofs.order.keep_low.Goals as goal
 
 pub loop-i-preserved : goal.loop-i-preserved
 loop-i-preserved c =
-    let items = c.loop-i.incidences.items in
-    ap (slice_set items c.loop-i.i) c.lesser.ensures
-    ∙ map_over_more (lesser c.args.sum) c.args.incidences.now.items items c.loop-i.i c.index.result.now (omega arith)
-    c.loop-i.invariant c.index.ensures
+    ap (slice_set c.loop-i.incidences.items c.loop-i.i) c.lesser.ensures
+    ∙ map_over_more (lesser c.args.sum) c.args.incidences.now.items c.loop-i.incidences.items c.loop-i.i c.index.result.now
+    (omega arith) c.loop-i.invariant c.index.ensures
