@@ -140,8 +140,9 @@ impl PairCounts {
     {
         let mut told = false;
         for q in qs {
-            let full = self.gain(*q);
-            told = told | full;
+            if self.gain(*q) {
+                told = true;
+            }
         }
         told
     }
@@ -157,8 +158,9 @@ impl PairCounts {
     {
         let mut told = false;
         for q in qs {
-            let full = self.lose(*q);
-            told = told | full;
+            if self.lose(*q) {
+                told = true;
+            }
         }
         told
     }
