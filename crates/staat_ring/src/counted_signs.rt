@@ -156,6 +156,9 @@ impl CountedSigns {
 
     /// Gives the plane `k` a sign. Where it has that sign, nothing is done. Tells whether some pair may have positive
     /// facets alone only before, or only now.
+    ///
+    /// It is put into its callers, since most of them know the sign that is there or the one that is given.
+    #[inline(always)]
     pub fn set(&mut self, k: u32, sign: Sign) -> bool
         requires { k < length self.old.states }
         ensures signs { self.new ≡ with_plane_sign k sign self.old }

@@ -11,7 +11,9 @@ use crate::walk::stop_sign;
 use staat_planes::PlaneTable;
 use staat_vec::Course;
 
-// gives the planes through a vertex their signs, those there or those just after it
+// Gives the planes through a vertex their signs, those there or those just after it. Each call has a loop of its own,
+// in which most of what a change of sign asks is known.
+#[inline(always)]
 fn sign_entries(signs: &mut CountedSigns, entries: &[Entry], leaves: bool) -> bool
     requires { All (λ e. e.plane < length signs.old.states) entries.now }
     ensures signs { signs.new ≡ with_stop_signs leaves entries.now signs.old }
