@@ -4,9 +4,8 @@ use Rattle.staat_vec.specs.declared.vector.V3.{V3}
 use Rattle.staat_vec.specs.Vectors.{origin, plus}
 use Rattle.staat_model.specs.Meeting.{MeetsAt, mix}
 
--- p and q have a point in common, be it inside or on the border: a weighted mean of the points of p, with weights
--- of at
--- least 0, is one of those of q
+-- p and q have a point in common, be it inside or on the border: a weighted mean of the points of p, with weights of
+-- at least 0, is one of those of q
 pub record Contact (p q : List V3) : Type 0 where
   pub a : List ℕ
   pub b : List ℕ
