@@ -28,7 +28,7 @@ use Rattle.staat_planning.specs.Drills.{IsDrilled, drill_line, drill_too_long, d
 use Rattle.staat_input.specs.Counting.{all_parts}
 use Rattle.staat_input.specs.declared.answer.Answer.{Answer}
 use Rattle.staat_input.proofs.InputLemmas.{follows_fault}
-use Rattle.staat_planning.specs.Planning.{IsWritten, certificate, text_too_long}
+use Rattle.staat_planning.specs.Planning.{IsPrinted, certificate, text_too_long}
 use Rattle.staat_planning.specs.Drills.{SaysDrilled}
 
 pub product_is_assembly : (product : DrillProduct) → IsNamedProduct product → IsAssembly (parts_of_product product)
@@ -64,14 +64,14 @@ says_drilled product f c v is sound valid outcome certified judged =
 same_fault : (g x : Fault) → ◌≡◌ {A = Result (List ℕ) Fault} (Err g) (Err x) → g ≡ x
 same_fault g x e = cc
 
-not_written : (product : DrillProduct) (parts : List Part) (f : Finding) (g : Fault) → IsOutcome false parts (all_parts parts) f → IsWritten parts f (Some 2) (Err g) → IsDrilled product parts (Err g)
+not_written : (product : DrillProduct) (parts : List Part) (f : Finding) (g : Fault) → IsOutcome false parts (all_parts parts) f → IsPrinted parts f (Some 2) (Err g) → IsDrilled product parts (Err g)
 not_written product parts f g outcome (certificate c is short e) = absurd cc
 not_written product parts f g outcome (text_too_long c is many e) = drill_too_long f c outcome is many (ap Err (same_fault g _ e))
 
-pub drill_failed : (product : DrillProduct) (parts : List Part) (f : Finding) (e : Fault) (r : Result Answer Fault) → IsOutcome false parts (all_parts parts) f → Follows (IsWritten parts f (Some 2)) (Err e) → IsErrAnd r (λ x. x ≡ e) → Follows (IsDrilled product parts) r
+pub drill_failed : (product : DrillProduct) (parts : List Part) (f : Finding) (e : Fault) (r : Result Answer Fault) → IsOutcome false parts (all_parts parts) f → Follows (IsPrinted parts f (Some 2)) (Err e) → IsErrAnd r (λ x. x ≡ e) → Follows (IsDrilled product parts) r
 drill_failed product parts f e (Ok a) outcome h fails = absurd fails
 drill_failed product parts f e (Err x) outcome h fails = subst (λ g. Follows (IsDrilled product parts) (Err g)) (sym fails)
-    (follows_fault (IsWritten parts f (Some 2)) (IsDrilled product parts) e (λ g at. not_written product parts f g outcome at) h)
+    (follows_fault (IsPrinted parts f (Some 2)) (IsDrilled product parts) e (λ g at. not_written product parts f g outcome at) h)
 
 -- what is read in the text that was written, unless there is no memory
 pub read_is : (c : Certificate) (text : List ℕ) (r : Result Certificate CertRefusal) → IsTextAnswer c (Ok text) → IsReadAnswer text r → (r ≡ Err NoMemory → ⊥) → r ≡ Ok c

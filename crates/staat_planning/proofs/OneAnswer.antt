@@ -23,7 +23,7 @@ use Rattle.staat_model.specs.declared.verdict.Verdict.{Verdict}
 use Rattle.staat_model.specs.Certify.{IsCertificateOf}
 use Rattle.staat_model.specs.Reasons.{IsVerdict}
 use Rattle.staat_planning.specs.Drills.{IsDrilled, drill_line, drill_too_long, drilled, parts_of_product, DrillWork}
-use Rattle.staat_planning.specs.Planning.{IsPlanned, IsWritten, certificate, outcome_answer, steps, text_too_long}
+use Rattle.staat_planning.specs.Planning.{IsPlanned, IsPrinted, certificate, outcome_answer, steps, text_too_long}
 use Rattle.staat_planning.specs.Planning.{PlanWork}
 use Rattle.staat_model.proofs.OneReason.{IsVerdict-unique}
 use Rattle.staat_model.specs.Plans.{Plan as Tree}
@@ -38,10 +38,10 @@ use Rattle.staat_input.proofs.OneFinding.{FindsOne, then_one, known_one, given_o
 use Rattle.staat_input.proofs.OneInput.{listing_one, tested_one, sound_one, counted_one}
 use Rattle.staat_words.specs.declared.request.PlanRequest.{PlanRequest}
 
-written_one : (files : Files) (parts : List Part) (finding : Finding) (version : Option ℕ) → FindsOne files (IsWritten parts finding version)
+written_one : (files : Files) (parts : List Part) (finding : Finding) (version : Option ℕ) → FindsOne files (IsPrinted parts finding version)
 written_one files parts finding version = record { one = λ f g a b sf sg. one version f g a b; held = λ name f at lacks step settled. no_read version name at }
   where
-    one : (version : Option ℕ) (f g : Found (List ℕ)) → IsWritten parts finding version f → IsWritten parts finding version g → f ≡ g
+    one : (version : Option ℕ) (f g : Found (List ℕ)) → IsPrinted parts finding version f → IsPrinted parts finding version g → f ≡ g
     one None f g (steps e) (steps d) = e ∙ sym d
     one (Some v) f g (certificate c is short e) (certificate d also fits h) =
         e ∙ ap (λ (x : Certificate). Ok (text_of x)) (IsCertificateOf-unique parts v finding c d is also) ∙ sym h
@@ -52,7 +52,7 @@ written_one files parts finding version = record { one = λ f g a b sf sg. one v
     one (Some v) f g (text_too_long c is many e) (text_too_long d also much h) =
         e ∙ ap (λ (x : Certificate). Err (TextTooLong (length (text_of x)))) (IsCertificateOf-unique parts v finding c d is also) ∙ sym h
 
-    no_read : (version : Option ℕ) (name : List ℕ) → IsWritten parts finding version (Err (ReadFault name)) → ⊥
+    no_read : (version : Option ℕ) (name : List ℕ) → IsPrinted parts finding version (Err (ReadFault name)) → ⊥
     no_read None name (steps e) = absurd cc
     no_read (Some v) name (certificate c is short e) = absurd cc
     no_read (Some v) name (text_too_long c is many e) = absurd cc
@@ -63,12 +63,12 @@ planned_one files parts robust version = record {
   held = λ name f at lacks step settled. (writes step.finding).held name f (written_as (Err (ReadFault name)) at step.finding step.outcome) lacks step.written settled;
 }
   where
-    writes : (finding : Finding) → FindsOne files (Then (IsWritten parts finding version) (λ text found. found ≡ Ok (outcome_answer finding text)))
-    writes finding = then_one files (IsWritten parts finding version) _ (written_one files parts finding version) (λ text. known_one files (outcome_answer finding text))
+    writes : (finding : Finding) → FindsOne files (Then (IsPrinted parts finding version) (λ text found. found ≡ Ok (outcome_answer finding text)))
+    writes finding = then_one files (IsPrinted parts finding version) _ (written_one files parts finding version) (λ text. known_one files (outcome_answer finding text))
 
-    written_as : (f : Found Answer) (p : IsPlanned parts robust version f) (finding : Finding) → IsOutcome robust parts (all_parts parts) finding → Then (IsWritten parts finding version) (λ text found. found ≡ Ok (outcome_answer finding text)) f
+    written_as : (f : Found Answer) (p : IsPlanned parts robust version f) (finding : Finding) → IsOutcome robust parts (all_parts parts) finding → Then (IsPrinted parts finding version) (λ text found. found ≡ Ok (outcome_answer finding text)) f
     written_as f p finding outcome =
-        subst (λ (x : Finding). Then (IsWritten parts x version) (λ text found. found ≡ Ok (outcome_answer x text)) f) (IsOutcome-unique robust parts p.outcome outcome) p.written
+        subst (λ (x : Finding). Then (IsPrinted parts x version) (λ text found. found ≡ Ok (outcome_answer x text)) f) (IsOutcome-unique robust parts p.outcome outcome) p.written
 
 drilled_one : (files : Files) (product : DrillProduct) (parts : List Part) → FindsOne files (IsDrilled product parts)
 drilled_one files product parts = record { one = λ f g a b sf sg. one f g a b; held = λ name f at lacks step settled. no_read name at }

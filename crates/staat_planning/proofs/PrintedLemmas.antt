@@ -34,7 +34,7 @@ use Rattle.staat_plan.proofs.Right.{right_lemma}
 use Rattle.staat_words.specs.declared.request.PlanRequest.{PlanRequest}
 use Rattle.staat_words.specs.Requests.{IsPlanRequest}
 use Rattle.staat_input.specs.Counting.{AreCounted, all_parts, few, too_many}
-use Rattle.staat_planning.specs.Planning.{IsWritten, certificate, steps, text_too_long}
+use Rattle.staat_planning.specs.Planning.{IsPrinted, certificate, steps, text_too_long}
 use Rattle.staat_planning.proofs.TableLemmas.{table_planes}
 use Rattle.staat_planning.proofs.RightAnswers.{certified}
 
@@ -91,7 +91,7 @@ record WritesText (parts : List Part) (version : ℕ) (f : Finding) (text : List
   short : length (text_of c) ≤ TEXT_LIMIT
   is : text ≡ text_of c
 
-writes_text : (parts : List Part) (f : Finding) (version : ℕ) (o : Option ℕ) (text : List ℕ) → o ≡ Some version → IsWritten parts f o (Ok text) → WritesText parts version f text
+writes_text : (parts : List Part) (f : Finding) (version : ℕ) (o : Option ℕ) (text : List ℕ) → o ≡ Some version → IsPrinted parts f o (Ok text) → WritesText parts version f text
 writes_text parts f version None text asks (steps e) = absurd cc
 writes_text parts f version (Some v) text asks (certificate c is short e) =
     let same : v ≡ version = cc in
@@ -107,7 +107,7 @@ pub record SaysValidly (parts : List Part) (f : Finding) (text : List ℕ) : Typ
   pub valid : IsValidFor parts f c
 
 pub printed_validly : (request : PlanRequest) (version : ℕ) (parts : List Part) (planes : List V3) (f : Finding) (text : List ℕ) → IsPlanRequest request → request.certificate ≡ Some version → IsAssembly parts
-    → AreCounted parts request.planes (Ok planes) → IsOutcome request.robust parts (all_parts parts) f → IsWritten parts f request.certificate (Ok text) → SaysValidly parts f text
+    → AreCounted parts request.planes (Ok planes) → IsOutcome request.robust parts (all_parts parts) f → IsPrinted parts f request.certificate (Ok text) → SaysValidly parts f text
 printed_validly request version parts planes f text bounds asks is counted outcome written =
     let settled = right_lemma request.robust parts is (all_parts parts) f outcome in
     let can = can_be parts request.planes f is bounds.2 settled (sized request.robust parts is (all_parts parts) f outcome) (few_planes parts request.planes planes counted) in

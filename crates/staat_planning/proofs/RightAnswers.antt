@@ -26,7 +26,7 @@ use Rattle.staat_model.proofs.ValidCertificates.{plan_certificate_valid, refusal
 use Rattle.staat_certify.specs.Certifying.{IsValidFor}
 use Rattle.staat_plan.specs.Planning.{Settles}
 use Rattle.staat_words.specs.declared.request.PlanRequest.{PlanRequest}
-use Rattle.staat_planning.specs.Planning.{IsPlanned, IsWritten, certificate, outcome_answer, outcome_status, steps}
+use Rattle.staat_planning.specs.Planning.{IsPlanned, IsPrinted, certificate, outcome_answer, outcome_status, steps}
 use Rattle.staat_planning.specs.Planning.{text_too_long, SaysOutcome, SaysGoodPlan, SaysStuckSet, PlanWork}
 use Rattle.staat_model.specs.Reasons.{IsVerdict}
 use Rattle.staat_words.specs.declared.request.ExplodeRequest.{ExplodeRequest}
@@ -53,13 +53,13 @@ same_text : (a b : List ℕ) → ◌≡◌ {A = Found (List ℕ)} (Ok a) (Ok b) 
 same_text a b e = cc
 
 -- what is written says the outcome
-says_outcome : (parts : List Part) (f : Finding) (version : Option ℕ) (text : List ℕ) → IsAssembly parts → Settles parts (all_parts parts) f → IsWritten parts f version (Ok text) → SaysOutcome parts f version text
+says_outcome : (parts : List Part) (f : Finding) (version : Option ℕ) (text : List ℕ) → IsAssembly parts → Settles parts (all_parts parts) f → IsPrinted parts f version (Ok text) → SaysOutcome parts f version text
 says_outcome parts f None text assembly settled (steps e) = same_text text _ e
 says_outcome parts f (Some version) text assembly settled (certificate c is few e) = (c, same_text text _ e, is, certified parts version f c assembly settled is)
 says_outcome parts f (Some version) text assembly settled (text_too_long c is many e) = absurd cc
 
 -- the answer of a plan takes all parts apart
-plan_is_good : (files : Files) (request : PlanRequest) (parts : List Part) (f : Finding) (text : List ℕ) → AreSoundParts files request.asked parts → IsOutcome request.robust parts (all_parts parts) f → IsWritten parts f request.certificate (Ok text) → outcome_status f ≡ 0 → SaysGoodPlan files request text
+plan_is_good : (files : Files) (request : PlanRequest) (parts : List Part) (f : Finding) (text : List ℕ) → AreSoundParts files request.asked parts → IsOutcome request.robust parts (all_parts parts) f → IsPrinted parts f request.certificate (Ok text) → outcome_status f ≡ 0 → SaysGoodPlan files request text
 plan_is_good files request parts (planned tree marks) text are outcome written zero =
     let good = right_lemma request.robust parts are.assembly (all_parts parts) (planned tree marks) outcome in
     let hold : request.robust ≡ true → MarksHold parts tree marks = λ robust.
@@ -68,7 +68,7 @@ plan_is_good files request parts (planned tree marks) text are outcome written z
 plan_is_good files request parts (stuck w) text are outcome written zero = absurd (omega (arith, zero))
 
 -- the set that an answer names as stuck is stuck
-set_is_stuck : (files : Files) (request : PlanRequest) (parts : List Part) (f : Finding) (text : List ℕ) → AreSoundParts files request.asked parts → IsOutcome request.robust parts (all_parts parts) f → IsWritten parts f request.certificate (Ok text) → outcome_status f ≡ 1 → SaysStuckSet files request text
+set_is_stuck : (files : Files) (request : PlanRequest) (parts : List Part) (f : Finding) (text : List ℕ) → AreSoundParts files request.asked parts → IsOutcome request.robust parts (all_parts parts) f → IsPrinted parts f request.certificate (Ok text) → outcome_status f ≡ 1 → SaysStuckSet files request text
 set_is_stuck files request parts (planned tree marks) text are outcome written one = absurd (omega (arith, one))
 set_is_stuck files request parts (stuck w) text are outcome written one =
     let settled = right_lemma request.robust parts are.assembly (all_parts parts) (stuck w) outcome in

@@ -22,15 +22,15 @@ use Rattle.staat_input.specs.Assembling.{IsSoundOf, AreSoundParts}
 
 -- What the step finds that writes an outcome: its steps, or its certificate of the version that is asked for, which
 -- may be too long.
-pub data IsWritten (parts : List Part) (finding : Finding) : Option ℕ → Found (List ℕ) → Type 0 where
-  steps : {found : Found (List ℕ)} → found ≡ Ok (plan_text finding) → IsWritten parts finding None found
+pub data IsPrinted (parts : List Part) (finding : Finding) : Option ℕ → Found (List ℕ) → Type 0 where
+  steps : {found : Found (List ℕ)} → found ≡ Ok (plan_text finding) → IsPrinted parts finding None found
   certificate : {version : ℕ} {found : Found (List ℕ)} (c : Certificate) →
       IsCertificateOf parts version finding c →
-      length (text_of c) ≤ TEXT_LIMIT → found ≡ Ok (text_of c) → IsWritten parts finding (Some version) found
+      length (text_of c) ≤ TEXT_LIMIT → found ≡ Ok (text_of c) → IsPrinted parts finding (Some version) found
   text_too_long : {version : ℕ} {found : Found (List ℕ)} (c : Certificate) →
       IsCertificateOf parts version finding c →
       TEXT_LIMIT < length (text_of c) → found ≡ Err (TextTooLong (length (text_of c))) →
-      IsWritten parts finding (Some version) found
+      IsPrinted parts finding (Some version) found
 
 -- 0 for a plan and 1 for a set that is stuck
 abbrev pub outcome_status : Finding → ℕ
@@ -46,7 +46,7 @@ pub record IsPlanned (parts : List Part) (robust : Bool) (certificate : Option �
     : Type 0 where
   pub finding : Finding
   pub outcome : IsOutcome robust parts (all_parts parts) finding
-  pub written : Then (IsWritten parts finding certificate) (λ text found. found ≡ Ok (outcome_answer finding text))
+  pub written : Then (IsPrinted parts finding certificate) (λ text found. found ≡ Ok (outcome_answer finding text))
       found
 
 -- what it finds for sound parts: their planes are counted, and then they are planned

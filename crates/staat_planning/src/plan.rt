@@ -16,7 +16,7 @@ ghost use Rattle.staat_text.specs.PlanTexts.{CanBeShown};
 ghost use Rattle.staat_words.specs.Requests.{IsPlanRequest};
 ghost use Rattle.staat_input.specs.Work.{Follows, Then};
 ghost use Rattle.staat_input.specs.Counting.{AreCounted, all_parts};
-ghost use Rattle.staat_planning.specs.Planning.{IsCountedPlan, IsWritten, outcome_answer, PlanWork};
+ghost use Rattle.staat_planning.specs.Planning.{IsCountedPlan, IsPrinted, outcome_answer, PlanWork};
 ghost use Rattle.staat_input.specs.Causes.{HasCause, ShelfSide};
 ghost use Rattle.staat_input.specs.Taking.{DoesWork, IsWorkedOut};
 
@@ -79,7 +79,7 @@ pub(crate) fn certificate_text(
     requires version { IsVersion version }
     requires made { WasMadeFrom sound.now table.now }
     requires certified { CanBeCertified sound.now (finding_of outcome.now) }
-    ensures written { Follows (IsWritten sound.now (finding_of outcome.now) (Some version)) result }
+    ensures written { Follows (IsPrinted sound.now (finding_of outcome.now) (Some version)) result }
     ensures certificate { IfOk result (λ text. (c : CertificateValue)
         × IsCertificateOf sound.now version (finding_of outcome.now) c × IsTextAnswer c (Ok text)) }
     ensures cause { (shelf : ShelfSide) → IfErr result (HasCause shelf) }
@@ -105,7 +105,7 @@ fn text_of(
     requires made { WasMadeFrom sound.now table.now }
     requires shown { CanBeShown (finding_of outcome.now) }
     requires certified { CanBeCertified sound.now (finding_of outcome.now) }
-    ensures written { Follows (IsWritten sound.now (finding_of outcome.now) certificate) result }
+    ensures written { Follows (IsPrinted sound.now (finding_of outcome.now) certificate) result }
     ensures cause { (shelf : ShelfSide) → IfErr result (HasCause shelf) }
 {
     match certificate {
@@ -130,7 +130,7 @@ fn answer_of(
     requires shown { CanBeShown (finding_of outcome.now) }
     requires certified { CanBeCertified sound.now (finding_of outcome.now) }
     ensures status { IfOk result (λ a. a.status < 2) }
-    ensures written { Follows (Then (IsWritten sound.now (finding_of outcome.now) certificate)
+    ensures written { Follows (Then (IsPrinted sound.now (finding_of outcome.now) certificate)
         (λ text found. found ≡ Ok (outcome_answer (finding_of outcome.now) text))) result }
     ensures cause { (shelf : ShelfSide) → IfErr result (HasCause shelf) }
 {

@@ -24,7 +24,7 @@ use Rattle.staat_input.specs.Assembling.{sound}
 use Rattle.staat_judging.specs.Checking.{verdict_answer}
 use Rattle.staat_input.specs.declared.limits.TheConstants.Limits.{ASSEMBLY}
 use Rattle.staat_input.specs.Kept.{KeepsNamed}
-use Rattle.staat_planning.specs.Planning.{IsWritten, certificate, outcome_answer, outcome_status, steps}
+use Rattle.staat_planning.specs.Planning.{IsPrinted, certificate, outcome_answer, outcome_status, steps}
 use Rattle.staat_input.specs.Counting.{few}
 use Rattle.staat_text.specs.PlanTexts.{plan_text}
 use Rattle.staat_input.specs.Assembling.{AreSoundParts}
@@ -117,7 +117,7 @@ is_checked files others request version reply name bounds asks is lt keeps held 
     ]
 
 -- what is written of an outcome that was found
-written_of : (parts : List Part) (f : Finding) (o : Option ℕ) → ((version : ℕ) → o ≡ Some version → (c : Certificate) × IsCertificateOf parts version f c × (length (text_of c) ≤ TEXT_LIMIT)) → (text : List ℕ) × IsWritten parts f o (Ok text)
+written_of : (parts : List Part) (f : Finding) (o : Option ℕ) → ((version : ℕ) → o ≡ Some version → (c : Certificate) × IsCertificateOf parts version f c × (length (text_of c) ≤ TEXT_LIMIT)) → (text : List ℕ) × IsPrinted parts f o (Ok text)
 written_of parts f None short = (plan_text f, steps refl)
 written_of parts f (Some version) short = let c = short version refl in (text_of c.0, certificate c.0 c.1 c.2 refl)
 

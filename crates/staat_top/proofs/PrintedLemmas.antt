@@ -19,7 +19,7 @@ use Rattle.staat_words.specs.Requests.{IsPlanRequest}
 use Rattle.staat_input.specs.Work.{Files, taken, answer}
 use Rattle.staat_input.specs.Assembling.{IsSoundOf}
 use Rattle.staat_input.specs.Counting.{AreCounted, all_parts}
-use Rattle.staat_planning.specs.Planning.{IsWritten, outcome_status}
+use Rattle.staat_planning.specs.Planning.{IsPrinted, outcome_status}
 use Rattle.staat_judging.specs.Checking.{says_whole, verdict_answer}
 use Rattle.staat_input.specs.declared.limits.TheConstants.Limits.{ASSEMBLY}
 use Rattle.staat_input.specs.Kept.{KeepsNamed}
@@ -44,7 +44,7 @@ module _ (others : Files) (asked : Asked) (name text : List ℕ) (parts : List P
   calls_valid (stuck w) valid = replies ValidRefusal valid
 
 pub printed_is_valid : (files others : Files) (request : PlanRequest) (version : ℕ) (name : List ℕ) (parts : List Part) (planes : List V3) (f : Finding) (text : List ℕ) → IsPlanRequest request → request.certificate ≡ Some version → KeepsNamed ASSEMBLY files others request.asked.input → bytes_of name others ≡ Some text
-    → IsSoundOf files request.asked (Ok parts) → AreCounted parts request.planes (Ok planes) → IsOutcome request.robust parts (all_parts parts) f → IsWritten parts f request.certificate (Ok text)
+    → IsSoundOf files request.asked (Ok parts) → AreCounted parts request.planes (Ok planes) → IsOutcome request.robust parts (all_parts parts) f → IsPrinted parts f request.certificate (Ok text)
     → IsReply (Some (Check (record { asked = request.asked; certificate = name }))) others (answered (answer 0 (valid_line (outcome_status f))))
 printed_is_valid files others request version name parts planes f text bounds asks keeps held read counted outcome written =
     let is = (sound_parts files request.asked parts bounds.0 read).assembly in

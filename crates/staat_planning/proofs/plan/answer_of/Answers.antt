@@ -2,7 +2,7 @@ use Rattle.std.proofs.Common.{◌≡◌, Ok, ap, inr, sym}
 use Rattle.staat_model.specs.Outcomes.{finding_of}
 use Rattle.staat_input.specs.Causes.{HasCause}
 use Rattle.staat_input.proofs.InputLemmas.{failed_with, no_value, then_failed}
-use Rattle.staat_planning.specs.Planning.{IsWritten, outcome_answer}
+use Rattle.staat_planning.specs.Planning.{IsPrinted, outcome_answer}
 use Rattle.staat_planning.proofs.plan.answer_of.Goals as goal
 
 pub returns-in_err-text : goal.returns-in_err-text
@@ -13,7 +13,7 @@ returns-in_err-text c =
     let is = c.from_residual.ensures.1 in
     record {
       status = no_value _ _ found is;
-      written = then_failed (IsWritten c.args.sound.now finding c.args.certificate)
+      written = then_failed (IsPrinted c.args.sound.now finding c.args.certificate)
           (λ text found. found ≡ Ok (outcome_answer finding text)) fault found c.in_err-text.ensures.written is;
       cause = λ shelf. failed_with (HasCause shelf) fault found (c.in_err-text.ensures.cause shelf) is;
     }
